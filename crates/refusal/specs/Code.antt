@@ -1,0 +1,23 @@
+-- Paper 01, 'Refusal numbers': the number, place and rule that each refusal shows. All other numbers are 0.
+-- "A refusal carries its number and a place: the record for 3 and 4, the cycle and rule for 14, else 0."
+-- A new refusal (paper 02: 16 to 20) is one constructor of `Refusal` and one line here.
+use Rattle.refusal.specs.declared.Code.{Code}
+use Rattle.refusal.specs.declared.Refusal.{Refusal}
+use Rattle.refusal.specs.declared.Refusal.the-variants.{Width, Length, Field, Reserved, Room, Ratio, Bus, Size, Kind, Count, Align, Boundary, Index, Unclean, Setup}
+
+abbrev pub codeOf : Refusal → Code
+codeOf Width = (1, 0, 0)
+codeOf Length = (2, 0, 0)
+codeOf (Field k) = (3, k, 0)
+codeOf (Reserved k) = (4, k, 0)
+codeOf Room = (5, 0, 0)
+codeOf Ratio = (6, 0, 0)
+codeOf Bus = (7, 0, 0)
+codeOf Size = (8, 0, 0)
+codeOf Kind = (9, 0, 0)
+codeOf Count = (10, 0, 0)
+codeOf Align = (11, 0, 0)
+codeOf Boundary = (12, 0, 0)
+codeOf Index = (13, 0, 0)
+codeOf (Unclean k r) = (14, k, r)
+codeOf Setup = (15, 0, 0)
