@@ -2,3 +2,9 @@
 pub mod Items
 pub mod Packed
 pub mod Layout
+pub mod Checks
+pub mod Handshake
+pub mod Answers
+pub mod Legal
+pub mod Demand3
+pub mod Cases
