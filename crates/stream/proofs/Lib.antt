@@ -1,1 +1,5 @@
+-- Laws about the definitions of specs/, from lists of items up to octets.
 pub mod Cases
+pub mod Cut
+pub mod Pack
+pub mod Hold
