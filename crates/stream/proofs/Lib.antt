@@ -3,3 +3,7 @@ pub mod Cases
 pub mod Cut
 pub mod Pack
 pub mod Hold
+pub mod Each
+pub mod Records
+pub mod First
+pub mod Legal
