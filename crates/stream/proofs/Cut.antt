@@ -27,9 +27,9 @@ samePair-eq p q e =
     let tids = eqb (p .tid) (q .tid) in
     let tdests = eqb (p .tdest) (q .tdest) in
     λ i.
-    record
-    { tid = eqb-true (p .tid) (q .tid) (and-left tids tdests e) i
-    ; tdest = eqb-true (p .tdest) (q .tdest) (and-right tids tdests e) i
+    record {
+      tid = eqb-true (p .tid) (q .tid) (and-left tids tdests e) i;
+      tdest = eqb-true (p .tdest) (q .tdest) (and-right tids tdests e) i;
     }
 
 module _ {A : Type 0} where
@@ -105,7 +105,7 @@ module _ {A : Type 0} where
   cut-parted (i ∷ i' ∷ is) js e = go (cut-begins i' is) (cut-parted (i' ∷ is) js e)
     where
       go : Begins (itemPair i') (cut (i' ∷ is)) → cut ((i' ∷ is) ++ js) ≡ cut (i' ∷ is) ++ cut js
-        → attach i (cut ((i' ∷ is) ++ js)) ≡ attach i (cut (i' ∷ is)) ++ cut js
+          → attach i (cut ((i' ∷ is) ++ js)) ≡ attach i (cut (i' ∷ is)) ++ cut js
       go b ih = rw ih (rw (b .is) (attach-append i (b .first) (b .rest) (cut js)))
 
   -- ---- which divisions into stretches are cuts
@@ -129,7 +129,7 @@ module _ {A : Type 0} where
 
   -- whether a stretch stops does not depend on its bytes
   stops-by : (p : Pair) (bs cs : List A) (ended : Bool) (ss : List (Stretch A))
-    → stops (record { pair = p; bytes = bs; ended = ended }) ss ≡ true → stops (record { pair = p; bytes = cs; ended = ended }) ss ≡ true
+      → stops (record { pair = p; bytes = bs; ended = ended }) ss ≡ true → stops (record { pair = p; bytes = cs; ended = ended }) ss ≡ true
   stops-by p bs cs ended [] h = refl
   stops-by p bs cs ended (t ∷ ts) h = h
 
@@ -150,46 +150,46 @@ module _ {A : Type 0} where
 
   -- a run of bytes in front of a stretch of their pair is a part of it
   pub cut-run : (p : Pair) (bs cs : List A) (ended : Bool) (rest : List (Stretch A)) (is : List (Item A))
-    → cut is ≡ record { pair = p; bytes = cs; ended = ended } ∷ rest
-    → cut (map (byte p) bs ++ is) ≡ record { pair = p; bytes = bs ++ cs; ended = ended } ∷ rest
+      → cut is ≡ record { pair = p; bytes = cs; ended = ended } ∷ rest
+      → cut (map (byte p) bs ++ is) ≡ record { pair = p; bytes = bs ++ cs; ended = ended } ∷ rest
   cut-run p [] cs ended rest is e = e
   cut-run p (b ∷ bs) cs ended rest is e = rw (cut-run p bs cs ended rest is e) (rw (samePair-refl p) refl)
 
   -- bytes and the end of their pair
   pub cut-ended : (p : Pair) (bs : List A) (is : List (Item A))
-    → cut (map (byte p) bs ++ end p ∷ is) ≡ record { pair = p; bytes = bs; ended = true } ∷ cut is
+      → cut (map (byte p) bs ++ end p ∷ is) ≡ record { pair = p; bytes = bs; ended = true } ∷ cut is
   cut-ended p bs is = cut-run p bs [] true (cut is) (end p ∷ is) refl ∙ rw (append-nil bs) refl
 
   attach-stops : (p : Pair) (b : A) (bs : List A) (ss : List (Stretch A)) → stops (record { pair = p; bytes = bs; ended = false }) ss ≡ true
-    → attach (byte p b) ss ≡ record { pair = p; bytes = b ∷ []; ended = false } ∷ ss
+      → attach (byte p b) ss ≡ record { pair = p; bytes = b ∷ []; ended = false } ∷ ss
   attach-stops p b bs [] h = refl
   attach-stops p b bs (t ∷ ts) h = rw (not-true (samePair p (t .pair)) h) refl
 
   -- bytes before something that they do not go on into
   pub cut-open : (p : Pair) (b : A) (bs : List A) (is : List (Item A)) → stops (record { pair = p; bytes = b ∷ bs; ended = false }) (cut is) ≡ true
-    → cut (map (byte p) (b ∷ bs) ++ is) ≡ record { pair = p; bytes = b ∷ bs; ended = false } ∷ cut is
+      → cut (map (byte p) (b ∷ bs) ++ is) ≡ record { pair = p; bytes = b ∷ bs; ended = false } ∷ cut is
   cut-open p b [] is h = attach-stops p b (b ∷ []) (cut is) h
   cut-open p b (c ∷ bs) is h =
       rw (cut-open p c bs is (stops-by p (b ∷ c ∷ bs) (c ∷ bs) false (cut is) h)) (rw (samePair-refl p) refl)
 
   -- a proper stretch that stops is cut off
   pub cut-stretch : (p : Pair) (bs : List A) (ended : Bool) (is : List (Item A))
-    → proper (record { pair = p; bytes = bs; ended = ended }) ≡ true
-    → stops (record { pair = p; bytes = bs; ended = ended }) (cut is) ≡ true
-    → cut (itemsOf p bs ended ++ is) ≡ record { pair = p; bytes = bs; ended = ended } ∷ cut is
+      → proper (record { pair = p; bytes = bs; ended = ended }) ≡ true
+      → stops (record { pair = p; bytes = bs; ended = ended }) (cut is) ≡ true
+      → cut (itemsOf p bs ended ++ is) ≡ record { pair = p; bytes = bs; ended = ended } ∷ cut is
   cut-stretch p bs true is h k = rw (append-assoc (map (byte p) bs) (end p ∷ []) is) (cut-ended p bs is)
   cut-stretch p [] false is h k = let z : _≡_ {A = ℕ} 0 1 = cc in absurd (omega arith)
   cut-stretch p (b ∷ bs) false is h k = rw (append-nil (map (byte p) bs)) (cut-open p b bs is k)
 
   stretch-begins : (p : Pair) (bs : List A) (ended : Bool) (is : List (Item A))
-    → proper (record { pair = p; bytes = bs; ended = ended }) ≡ true → Begins p (cut (itemsOf p bs ended ++ is))
+      → proper (record { pair = p; bytes = bs; ended = ended }) ≡ true → Begins p (cut (itemsOf p bs ended ++ is))
   stretch-begins p (b ∷ bs) ended is h = cut-begins (byte p b) ((map (byte p) bs ++ cond ended (end p ∷ []) []) ++ is)
   stretch-begins p [] true is h = cut-begins (end p) is
   stretch-begins p [] false is h = let z : _≡_ {A = ℕ} 0 1 = cc in absurd (omega arith)
 
   -- a stretch stops before another proper one just where it stops before that one's items
   pub stops-before : (s t : Stretch A) (ss : List (Stretch A)) (is : List (Item A)) → proper t ≡ true → stops s (t ∷ ss) ≡ true
-    → stops s (cut (stretchItems t ++ is)) ≡ true
+      → stops s (cut (stretchItems t ++ is)) ≡ true
   stops-before s t ss is h k = go (stretch-begins (t .pair) (t .bytes) (t .ended) is h)
     where
       go : Begins (t .pair) (cut (stretchItems t ++ is)) → stops s (cut (stretchItems t ++ is)) ≡ true

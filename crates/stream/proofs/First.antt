@@ -51,12 +51,12 @@ module _ {X : Type 0} where
           record { before = []; at = c; after = cs; is = refl; found = h; gives = cc; earlier = refl }
       go ih false h =
           let r = ih (rw h at e) in
-          record
-          { before = c ∷ r .before
-          ; at = r .at
-          ; after = r .after
-          ; is = ap {B = List (Check X)} (λ l. c ∷ l) (r .is)
-          ; found = r .found
-          ; gives = r .gives
-          ; earlier = none-first c (r .before) h (r .earlier)
+          record {
+            before = c ∷ r .before;
+            at = r .at;
+            after = r .after;
+            is = ap {B = List (Check X)} (λ l. c ∷ l) (r .is);
+            found = r .found;
+            gives = r .gives;
+            earlier = none-first c (r .before) h (r .earlier);
           }

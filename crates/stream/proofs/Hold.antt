@@ -59,7 +59,7 @@ module _ {A : Type 0} where
       go false e = rw e (record { more = []; ended = false; rest = s ∷ ss; is = refl })
 
   spread-full : (v : ℕ) → 0 < v → (p : Pair) (xs : List A) (y : A) (ys : List A) (ended : Bool) → length xs ≡ v
-    → packStretch v (record { pair = p; bytes = xs ++ y ∷ ys; ended = ended })
+      → packStretch v (record { pair = p; bytes = xs ++ y ∷ ys; ended = ended })
       ≡ record { pair = p; lanes = map some xs; last = false } ∷ packStretch v (record { pair = p; bytes = y ∷ ys; ended = ended })
   spread-full v h p xs y ys ended e =
       rw (length-append xs (y ∷ ys), count-full v (length xs) (length ys) h e, map-append (λ (a : A). some a) xs (y ∷ ys))
@@ -67,12 +67,12 @@ module _ {A : Type 0} where
 
   -- v bytes with one of the same pair behind them are a full record
   pub pack-full : (v : ℕ) → 0 < v → (p : Pair) (xs : List A) (y : A) (ys : List A) (js : List (Item A)) → length xs ≡ v
-    → pack v (map (byte p) (xs ++ y ∷ ys) ++ js)
+      → pack v (map (byte p) (xs ++ y ∷ ys) ++ js)
       ≡ record { pair = p; lanes = map some xs; last = false } ∷ pack v (map (byte p) (y ∷ ys) ++ js)
   pack-full v h p xs y ys js e = go (attach-starts p y (cut (map (byte p) ys ++ js)))
     where
       go : Starts p y (cut (map (byte p) (y ∷ ys) ++ js)) → pack v (map (byte p) (xs ++ y ∷ ys) ++ js)
-        ≡ record { pair = p; lanes = map some xs; last = false } ∷ pack v (map (byte p) (y ∷ ys) ++ js)
+          ≡ record { pair = p; lanes = map some xs; last = false } ∷ pack v (map (byte p) (y ∷ ys) ++ js)
       go s =
           rw (map-append (λ (a : A). byte p a) xs (y ∷ ys), append-assoc (map (byte p) xs) (map (byte p) (y ∷ ys)) js)
           (rw (cut-run p xs (y ∷ s .more) (s .ended) (s .rest) (map (byte p) (y ∷ ys) ++ js) (s .is), s .is)
@@ -112,8 +112,8 @@ module _ {A : Type 0} where
   HoldsAs v is ts js = pack v (is ++ js) ≡ settled ts ++ pack v (items (held ts) ++ js)
 
   hold-full : (k v : ℕ) → 0 < v → (p : Pair) (xs : List A) (y : A) (ys : List A) (js : List (Item A)) → length xs ≡ v
-    → HoldsAs v (map (byte p) (y ∷ ys)) (spread k v p (map some (y ∷ ys)) false) js
-    → HoldsAs v (map (byte p) (xs ++ y ∷ ys)) (spread (suc k) v p (map some (xs ++ y ∷ ys)) false) js
+      → HoldsAs v (map (byte p) (y ∷ ys)) (spread k v p (map some (y ∷ ys)) false) js
+      → HoldsAs v (map (byte p) (xs ++ y ∷ ys)) (spread (suc k) v p (map some (xs ++ y ∷ ys)) false) js
   hold-full k v h p xs y ys js e ih =
       rw (map-append (λ (a : A). some a) xs (y ∷ ys))
       (rw (fitted-full v (map some xs) (map some (y ∷ ys)) (length-map xs some ∙ e), drop-at (map some xs) (map some (y ∷ ys)) v (length-map xs some ∙ e))
@@ -121,12 +121,12 @@ module _ {A : Type 0} where
       let ts : List (Transfer A) = spread k v p (map some (y ∷ ys)) false in
       pack-full v h p xs y ys js e ∙ ap {B = List (Transfer A)} (λ l. t ∷ l) ih
       ∙ sym
-        (ap₂ (λ (a b : List (Transfer A)). a ++ pack v (items b ++ js)) (settled-first t ts (spread-some k v p (map some (y ∷ ys)) false))
-        (held-first t ts (spread-some k v p (map some (y ∷ ys)) false)))))
+      (ap₂ (λ (a b : List (Transfer A)). a ++ pack v (items b ++ js)) (settled-first t ts (spread-some k v p (map some (y ∷ ys)) false))
+      (held-first t ts (spread-some k v p (map some (y ∷ ys)) false)))))
 
   -- of bytes laid out without an end the full records are settled, and the last one is held
   hold-run : (k v : ℕ) → 0 < v → (p : Pair) (bs : List A) (js : List (Item A)) → k * v < length bs → length bs ≤ suc k * v
-    → HoldsAs v (map (byte p) bs) (spread k v p (map some bs) false) js
+      → HoldsAs v (map (byte p) bs) (spread k v p (map some bs) false) js
   hold-run zero v h p bs js low high =
       ap (λ (cs : List A). pack v (map (byte p) cs ++ js)) (sym (kept-fitted v (map some bs) (rw (length-map bs some) (omega (arith, suc-mul 0 v, zero-mul v))) ∙ kept-some bs))
       ∙ simp append-nil
@@ -134,8 +134,8 @@ module _ {A : Type 0} where
       go (λ (cs : List A). hold-run k v h p cs js) (drop v bs) refl (length-drop v bs) (length-take v bs)
     where
       go : ((cs : List A) → k * v < length cs → length cs ≤ suc k * v → HoldsAs v (map (byte p) cs) (spread k v p (map some cs) false) js)
-        → (cs : List A) → drop v bs ≡ cs → length (drop v bs) ≡ length bs - v → length (take v bs) ≡ min v (length bs)
-        → HoldsAs v (map (byte p) bs) (spread (suc k) v p (map some bs) false) js
+          → (cs : List A) → drop v bs ≡ cs → length (drop v bs) ≡ length bs - v → length (take v bs) ≡ min v (length bs)
+          → HoldsAs v (map (byte p) bs) (spread (suc k) v p (map some bs) false) js
       go ih [] e d t = absurd (omega (arith, ap length e, suc-mul k v))
       go ih (y ∷ ys) e d t =
           let long : length (y ∷ ys) ≡ length bs - v = ap length (sym e) ∙ d in
@@ -161,12 +161,12 @@ module _ {A : Type 0} where
 
   -- a stretch in front that stops is packed by itself
   pack-stretch : (v : ℕ) (s : Stretch A) (is : List (Item A)) → proper s ≡ true → stops s (cut is) ≡ true
-    → pack v (stretchItems s ++ is) ≡ packStretch v s ++ pack v is
+      → pack v (stretchItems s ++ is) ≡ packStretch v s ++ pack v is
   pack-stretch v s is h k = ap (packStretches v) (cut-stretch (s .pair) (s .bytes) (s .ended) is h k)
 
   hold-stretch : (v : ℕ) → 0 < v → (p : Pair) (bs : List A) (ended : Bool) (js : List (Item A))
-    → proper (record { pair = p; bytes = bs; ended = ended }) ≡ true
-    → HoldsAs v (itemsOf p bs ended) (packStretch v (record { pair = p; bytes = bs; ended = ended })) js
+      → proper (record { pair = p; bytes = bs; ended = ended }) ≡ true
+      → HoldsAs v (itemsOf p bs ended) (packStretch v (record { pair = p; bytes = bs; ended = ended })) js
   hold-stretch v h p bs true js k =
       let n = (length bs - 1) / v in
       rw (settled-ended n v p (map some bs), held-ended n v p (map some bs))
@@ -187,12 +187,12 @@ module _ {A : Type 0} where
       let ts : List (Transfer A) = packStretches v (t ∷ ss) in
       ap (pack v) (append-assoc (stretchItems s) is js)
       ∙ pack-stretch v s (is ++ js) (l .0)
-        (rw (append-assoc (stretchItems t) (stretchesItems ss) js) (stops-before s t ss (stretchesItems ss ++ js) (l .2 .0) (l .1)))
+      (rw (append-assoc (stretchItems t) (stretchesItems ss) js) (stops-before s t ss (stretchesItems ss ++ js) (l .2 .0) (l .1)))
       ∙ ap (λ (us : List (Transfer A)). packStretch v s ++ us) (hold-stretches v h (t ∷ ss) (l .2) js)
       ∙ sym (append-assoc (packStretch v s) (settled ts) (pack v (items (held ts) ++ js)))
       ∙ sym
-        (ap₂ (λ (a b : List (Transfer A)). a ++ pack v (items b ++ js)) (settled-onto (packStretch v s) ts (stretches-some v t ss))
-        (held-onto (packStretch v s) ts (stretches-some v t ss)))
+      (ap₂ (λ (a b : List (Transfer A)). a ++ pack v (items b ++ js)) (settled-onto (packStretch v s) ts (stretches-some v t ss))
+      (held-onto (packStretch v s) ts (stretches-some v t ss)))
 
   -- "a full record is held until it is known whether its end follows"
   pub hold : (v : ℕ) → 0 < v → (is js : List (Item A)) → pack v (is ++ js) ≡ settled (pack v is) ++ pack v (items (held (pack v is)) ++ js)

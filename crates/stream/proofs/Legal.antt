@@ -58,7 +58,7 @@ octets-append (x ∷ xs) ys h k = (h .0, octets-append xs ys (h .1) k)
 
 -- ---- faults
 
-or-false-left : (a b : Bool) → (a || b) ≡ false → (a ≡ false) × (b ≡ false)
+pub or-false-left : (a b : Bool) → (a || b) ≡ false → (a ≡ false) × (b ≡ false)
 or-false-left true b e = let z : _≡_ {A = ℕ} 0 1 = cc in absurd (omega arith)
 or-false-left false b e = (refl, e)
 
@@ -92,7 +92,7 @@ tdest-fits s r e =
     ltb-false 15 (pairOf r .tdest) (b .1)
 
 lane-fits : (t : LaneType) (d : ℕ) (ls : List (Option Kept)) → d < 256 → EachLane PairFits ByteFits ls
-  → EachLane PairFits ByteFits (laneOf t d ∷ ls)
+    → EachLane PairFits ByteFits (laneOf t d ∷ ls)
 lane-fits dataLane d ls h k = (h, k)
 lane-fits positionLane d ls h k = (tt, k)
 lane-fits nullLane d ls h k = k
@@ -113,10 +113,11 @@ pieces-octets (suc n) z xs h = (octets-take z xs h, pieces-octets n z (drop z xs
 
 records-sound : (s : Shape) (rs : List (List ℕ)) → EachOctets rs → Faultless s rs → Sound (map (transferOf s) rs)
 records-sound s [] h f = tt
-records-sound s (r ∷ rs) h f =
-    ( record { tid = octet-at r 1 (h .0); tdest = tdest-fits s r (f .0) }
-    , lanes-fit (laneTypes s r) (dataOctets s r) (octets-take (s .width) (drop 7 r) (octets-drop 7 r (h .0)))
-    , records-sound s rs (h .1) (f .2) )
+records-sound s (r ∷ rs) h f = (
+  record { tid = octet-at r 1 (h .0); tdest = tdest-fits s r (f .0) },
+  lanes-fit (laneTypes s r) (dataOctets s r) (octets-take (s .width) (drop 7 r) (octets-drop 7 r (h .0))),
+  records-sound s rs (h .1) (f .2),
+)
 
 pub legal-sound : (s : Shape) (xs : List ℕ) → Legal s xs → Sound (transfers s xs)
 legal-sound s xs l =
@@ -134,7 +135,7 @@ lanesOf-length (t ∷ ts) (d ∷ ds) = ap suc (lanesOf-length ts ds)
 records-wide : (s : Shape) (rs : List (List ℕ)) → Wide (s .width) (map (transferOf s) rs)
 records-wide s [] = tt
 records-wide s (r ∷ rs) =
-    ( lanesOf-length (laneTypes s r) (dataOctets s r) ∙ typesOf-length (s .width) (tkeep r) (tstrb r), records-wide s rs )
+    (lanesOf-length (laneTypes s r) (dataOctets s r) ∙ typesOf-length (s .width) (tkeep r) (tstrb r), records-wide s rs)
 
 -- the transfers of a stream have its width
 pub wide-transfers : (s : Shape) (xs : List ℕ) → Wide (s .width) (transfers s xs)
@@ -165,11 +166,11 @@ data-octets (some position ∷ ls) h = (omega arith, data-octets ls (h .1))
 record-octets : (t : Transfer Kept) → length (t .lanes) ≤ 16 → PairFits (t .pair) → EachLane PairFits ByteFits (t .lanes) → Octets (octetsOf t)
 record-octets t h p k =
     let rest : Octets (maskOctets (map strbBit (t .lanes)) ++ map laneOctet (t .lanes)) =
-      octets-append (maskOctets (map strbBit (t .lanes))) (map laneOctet (t .lanes))
-      (mask-octets (map strbBit (t .lanes)) (rw (length-map (t .lanes) strbBit) h)) (data-octets (t .lanes) k) in
+    octets-append (maskOctets (map strbBit (t .lanes))) (map laneOctet (t .lanes))
+    (mask-octets (map strbBit (t .lanes)) (rw (length-map (t .lanes) strbBit) h)) (data-octets (t .lanes) k) in
     let masks : Octets (maskOctets (map keepBit (t .lanes)) ++ (maskOctets (map strbBit (t .lanes)) ++ map laneOctet (t .lanes))) =
-      octets-append (maskOctets (map keepBit (t .lanes))) (maskOctets (map strbBit (t .lanes)) ++ map laneOctet (t .lanes))
-      (mask-octets (map keepBit (t .lanes)) (rw (length-map (t .lanes) keepBit) h)) rest in
+    octets-append (maskOctets (map keepBit (t .lanes))) (maskOctets (map strbBit (t .lanes)) ++ map laneOctet (t .lanes))
+    (mask-octets (map keepBit (t .lanes)) (rw (length-map (t .lanes) keepBit) h)) rest in
     (bit-octet (t .last), (p .tid, (omega (arith, p .tdest), masks)))
 
 transfers-octets : (w : ℕ) (ts : List (Transfer Kept)) → w ≤ 16 → Wide w ts → Sound ts → Octets (octets ts)
@@ -201,11 +202,11 @@ bit-low false = refl
 record-fields : (s : Shape) (t : Transfer Kept) → length (t .lanes) ≡ s .width → PairFits (t .pair) → fieldFault transferFlags s (octetsOf t) ≡ false
 record-fields s t h p =
     rw (two-octets (maskOf (map keepBit (t .lanes))), two-octets (maskOf (map strbBit (t .lanes))), ← h)
-    (rw
-    ( bit-low (t .last)
-    , le-ltb 15 (t .pair .tdest) (p .tdest)
-    , lt-leb (2 ^ length (t .lanes)) (maskOf (map keepBit (t .lanes))) (rw length-map at (mask-fits (map keepBit (t .lanes))))
-    , lt-leb (2 ^ length (t .lanes)) (maskOf (map strbBit (t .lanes))) (rw length-map at (mask-fits (map strbBit (t .lanes))))
+    (rw (
+      bit-low (t .last),
+      le-ltb 15 (t .pair .tdest) (p .tdest),
+      lt-leb (2 ^ length (t .lanes)) (maskOf (map keepBit (t .lanes))) (rw length-map at (mask-fits (map keepBit (t .lanes)))),
+      lt-leb (2 ^ length (t .lanes)) (maskOf (map strbBit (t .lanes))) (rw length-map at (mask-fits (map strbBit (t .lanes)))),
     ) refl)
 
 transfers-faultless : (s : Shape) (ts : List (Transfer Kept)) → Wide (s .width) ts → Sound ts → Faultless s (map octetsOf ts)
@@ -216,13 +217,13 @@ transfers-faultless s (t ∷ ts) h k =
 -- transfers of one width from 1 to 16, with pairs and bytes that fit, make a legal stream
 pub transfers-legal : (s : Shape) (ts : List (Transfer Kept)) → 1 ≤ s .width → s .width ≤ 16 → Wide (s .width) ts → Sound ts → Legal s (octets ts)
 transfers-legal s ts low high h k =
-    record
-    { widthLow = low
-    ; widthHigh = high
-    ; octets = transfers-octets (s .width) ts high h k
-    ; whole = rw (length-octets s ts h) (mul-mod-left (length ts) (size s))
-    ; faultless =
-      rw (records-joined s (map octetsOf ts) (octets-sized s ts h)) (of-faultless s 0 (map octetsOf ts) (transfers-faultless s ts h k))
+    record {
+      widthLow = low;
+      widthHigh = high;
+      octets = transfers-octets (s .width) ts high h k;
+      whole = rw (length-octets s ts h) (mul-mod-left (length ts) (size s));
+      faultless =
+          rw (records-joined s (map octetsOf ts) (octets-sized s ts h)) (of-faultless s 0 (map octetsOf ts) (transfers-faultless s ts h k));
     }
 
 -- ---- the packed form and the slices of a legal stream are legal

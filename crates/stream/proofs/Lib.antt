@@ -7,3 +7,5 @@ pub mod Each
 pub mod Records
 pub mod First
 pub mod Legal
+pub mod Repack
+pub mod Demand3

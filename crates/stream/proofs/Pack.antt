@@ -79,7 +79,7 @@ module _ {A : Type 0} where
 
   -- Lanes that fit into so many transfers are all there, in order.
   pub items-spread : (k v : ℕ) (p : Pair) (ls : List (Option A)) (last : Bool) → length ls ≤ suc k * v
-    → items (spread k v p ls last) ≡ itemsOf p (kept ls) last
+      → items (spread k v p ls last) ≡ itemsOf p (kept ls) last
   items-spread zero v p ls last h =
       append-nil (itemsOf p (kept (fitted v ls)) last)
       ∙ ap (λ (bs : List A). itemsOf p bs last) (kept-fitted v ls (omega (arith, suc-mul 0 v, zero-mul v)))
@@ -95,9 +95,9 @@ module _ {A : Type 0} where
   items-packStretches v h (s ∷ ss) =
       items-append (packStretch v s) (packStretches v ss)
       ∙ ap (λ (is : List (Item A)). is ++ items (packStretches v ss))
-        (items-spread ((length (s .bytes) - 1) / v) v (s .pair) (map some (s .bytes)) (s .ended)
-        (rw (length-map (s .bytes) some) (room-for (length (s .bytes)) v h))
-        ∙ ap (λ (bs : List A). itemsOf (s .pair) bs (s .ended)) (kept-some (s .bytes)))
+      (items-spread ((length (s .bytes) - 1) / v) v (s .pair) (map some (s .bytes)) (s .ended)
+      (rw (length-map (s .bytes) some) (room-for (length (s .bytes)) v h))
+      ∙ ap (λ (bs : List A). itemsOf (s .pair) bs (s .ended)) (kept-some (s .bytes)))
       ∙ ap (λ (is : List (Item A)). stretchItems s ++ is) (items-packStretches v h ss)
 
   -- The packed form carries the items, all of them, in order, and no other.
@@ -150,7 +150,7 @@ module _ {A : Type 0} where
   items-slices w v h d k (t ∷ ts) e =
       items-append (sliceTransfer w v t) (slices w v ts)
       ∙ ap (λ (is : List (Item A)). is ++ items (slices w v ts))
-        (items-spread (w / v - 1) v (t .pair) (t .lanes) (t .last) (rw (e .0) (slices-hold w v h d k)))
+      (items-spread (w / v - 1) v (t .pair) (t .lanes) (t .last) (rw (e .0) (slices-hold w v h d k)))
       ∙ ap (λ (is : List (Item A)). transferItems t ++ is) (items-slices w v h d k ts (e .1))
 
   pub wide-slices : (w v : ℕ) (ts : List (Transfer A)) → Wide v (slices w v ts)

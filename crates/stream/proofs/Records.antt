@@ -103,7 +103,7 @@ lane-back (some (octet d)) = refl
 lane-back (some position) = refl
 
 lanes-back : (ls : List (Option Kept))
-  → lanesOf (typesOf (length ls) (maskOf (map keepBit ls)) (maskOf (map strbBit ls))) (map laneOctet ls) ≡ ls
+    → lanesOf (typesOf (length ls) (maskOf (map keepBit ls)) (maskOf (map strbBit ls))) (map laneOctet ls) ≡ ls
 lanes-back [] = refl
 lanes-back (l ∷ ls) =
     let k = maskOf (map keepBit ls) in

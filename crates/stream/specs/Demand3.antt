@@ -73,12 +73,14 @@ packedAt st (some v) = record { shape = atWidth (st .shape) v; octets = packed (
 
 -- "Start from any legal stream and make any list of repacking calls .. After every such list there stands the packed form
 -- of the first stream at the last accepted width, the same octets as from one accepted call straight there": any call to
--- that width on the first stream whose room is long enough is accepted and leaves the same stream standing.
+-- that width on the first stream whose room is long enough is accepted and leaves the same stream standing. What stands is
+-- a legal stream again.
 pub record CallsKeep (st : Standing) (cs : List Call) : Type 0 where
   pub stands : afterCalls st cs ≡ packedAt st (lastAccepted st cs)
   pub straight :
       (c : Call) → lastAccepted st cs ≡ some (c .width) → length (packed (st .shape) (c .width) (st .octets)) ≤ length (c .lent)
       → (acceptedAt st c ≡ some (length (packedTransfers (st .shape) (c .width) (st .octets)))) × (next st c ≡ afterCalls st cs)
+  pub legal : Legal (afterCalls st cs .shape) (afterCalls st cs .octets)
 
 abbrev pub Demand3·calls : Type 0
 Demand3·calls = (st : Standing) → Legal (st .shape) (st .octets) → (cs : List Call) → CallsKeep st cs
