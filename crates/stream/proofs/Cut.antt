@@ -14,11 +14,11 @@ use Rattle.stream.specs.Packed.{Stretch, attach, cut, apart, parted}
 pub samePair-refl : (p : Pair) → samePair p p ≡ true
 samePair-refl p = rw (eq-eqb (p .tid) (p .tid) refl, eq-eqb (p .tdest) (p .tdest) refl)
 
-and-left : (a b : Bool) → (a && b) ≡ true → a ≡ true
+pub and-left : (a b : Bool) → (a && b) ≡ true → a ≡ true
 and-left true b e = refl
 and-left false b e = e
 
-and-right : (a b : Bool) → (a && b) ≡ true → b ≡ true
+pub and-right : (a b : Bool) → (a && b) ≡ true → b ≡ true
 and-right true b e = e
 and-right false b e = let z : _≡_ {A = ℕ} 0 1 = cc in absurd (omega arith)
 

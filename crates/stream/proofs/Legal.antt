@@ -42,7 +42,7 @@ octets-take zero xs h = tt
 octets-take (suc n) [] h = tt
 octets-take (suc n) (x ∷ xs) h = (h .0, octets-take n xs (h .1))
 
-octets-drop : (n : ℕ) (xs : List ℕ) → Octets xs → Octets (drop n xs)
+pub octets-drop : (n : ℕ) (xs : List ℕ) → Octets xs → Octets (drop n xs)
 octets-drop zero xs h = h
 octets-drop (suc n) [] h = tt
 octets-drop (suc n) (x ∷ xs) h = octets-drop n xs (h .1)
@@ -103,11 +103,11 @@ lanes-fit [] ds h = tt
 lanes-fit (t ∷ ts) [] h = lane-fits t 0 (lanesOf ts []) (omega arith) (lanes-fit ts [] tt)
 lanes-fit (t ∷ ts) (d ∷ ds) h = lane-fits t d (lanesOf ts ds) (h .0) (lanes-fit ts ds (h .1))
 
-abbrev EachOctets : List (List ℕ) → Type 0
+abbrev pub EachOctets : List (List ℕ) → Type 0
 EachOctets [] = Unit {0}
 EachOctets (r ∷ rs) = Octets r × EachOctets rs
 
-pieces-octets : (n z : ℕ) (xs : List ℕ) → Octets xs → EachOctets (pieces n z xs)
+pub pieces-octets : (n z : ℕ) (xs : List ℕ) → Octets xs → EachOctets (pieces n z xs)
 pieces-octets zero z xs h = tt
 pieces-octets (suc n) z xs h = (octets-take z xs h, pieces-octets n z (drop z xs) (octets-drop z xs h))
 
@@ -153,7 +153,7 @@ mask-octets bs h =
     let small : maskOf bs < 2 ^ 16 = omega (arith, mask-fits bs, pow-mono h) in
     (omega arith, (omega arith, tt))
 
-bit-octet : (b : Bool) → bitOf b < 256
+pub bit-octet : (b : Bool) → bitOf b < 256
 bit-octet true = omega arith
 bit-octet false = omega arith
 
@@ -195,7 +195,7 @@ record-unreserved : (s : Shape) (t : Transfer Kept) → length (t .lanes) ≡ s 
 record-unreserved s t h =
     rw (two-octets (maskOf (map keepBit (t .lanes))), two-octets (maskOf (map strbBit (t .lanes))), ← h) (lanes-unreserved (t .lanes))
 
-bit-low : (b : Bool) → leb (2 ^ transferFlags) (bitOf b) ≡ false
+pub bit-low : (b : Bool) → leb (2 ^ transferFlags) (bitOf b) ≡ false
 bit-low true = refl
 bit-low false = refl
 

@@ -9,3 +9,7 @@ pub mod First
 pub mod Legal
 pub mod Repack
 pub mod Demand3
+pub mod Full
+pub mod Findings
+pub mod Harvest
+pub mod Promises

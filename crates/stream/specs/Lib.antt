@@ -6,5 +6,6 @@ pub mod Checks
 pub mod Handshake
 pub mod Answers
 pub mod Legal
+pub mod Promises
 pub mod Demand3
 pub mod Cases
