@@ -7,6 +7,7 @@ use mathlib.Core.Option.{Option, none, some}
 use Prim.Native.Nat.{ℕ}
 use native.Mathlib.Omega.{arith}
 use Rattle.stream.specs.Checks.{Check, first}
+use Rattle.stream.specs.Promises.{FoundAt}
 
 module _ {X : Type 0} where
   cond-none : (b : Bool) (x : X) (y : Option X) → cond b (some x) y ≡ none → (b ≡ false) × (y ≡ none)
@@ -32,20 +33,11 @@ module _ {X : Type 0} where
   none-append (c ∷ cs) ds h k = let e = first-none c cs h in none-first c (cs ++ ds) (e .0) (none-append cs ds (e .1) k)
 
   -- what is found stands in the list, and nothing before it finds anything
-  pub record FoundAt (cs : List (Check X)) (x : X) : Type 0 where
-    pub before : List (Check X)
-    pub at : Check X
-    pub after : List (Check X)
-    pub is : cs ≡ before ++ at ∷ after
-    pub found : at .found ≡ true
-    pub gives : at .gives ≡ x
-    pub earlier : first before ≡ none
-
-  pub first-some : (cs : List (Check X)) (x : X) → first cs ≡ some x → FoundAt cs x
+  pub first-some : (cs : List (Check X)) (x : X) → first cs ≡ some x → FoundAt X cs x
   first-some [] x e = let z : _≡_ {A = ℕ} 0 1 = cc in absurd (omega arith)
   first-some (c ∷ cs) x e = go (first-some cs x) (c .found) refl
     where
-      go : (first cs ≡ some x → FoundAt cs x) → (b : Bool) → c .found ≡ b → FoundAt (c ∷ cs) x
+      go : (first cs ≡ some x → FoundAt X cs x) → (b : Bool) → c .found ≡ b → FoundAt X (c ∷ cs) x
       go ih true h =
           let same : some (c .gives) ≡ some x = rw h at e in
           record { before = []; at = c; after = cs; is = refl; found = h; gives = cc; earlier = refl }
@@ -60,3 +52,10 @@ module _ {X : Type 0} where
             gives = r .gives;
             earlier = none-first c (r .before) h (r .earlier);
           }
+
+  pub some-first : (cs : List (Check X)) (x : X) → FoundAt X cs x → first cs ≡ some x
+  some-first cs x f = ap first (f .is) ∙ go (f .before) (f .earlier) ∙ ap {B = Option X} some (f .gives)
+    where
+      go : (ds : List (Check X)) → first ds ≡ none → first (ds ++ f .at ∷ f .after) ≡ some (f .at .gives)
+      go [] e = rw (f .found) refl
+      go (d ∷ ds) e = let h = first-none d ds e in rw (h .0) (go ds (h .1))

@@ -1,15 +1,25 @@
 -- Every statement of specs/Promises, proved: mostly by citing the law that carries it. Assumes nothing.
 use mathlib.Core.Path.{_≡_, refl, sym, ap, ap₂, _∙_}
+use mathlib.Core.Logic.{_⊎_, inl, inr, ⊎-elim}
+use mathlib.Core.Bool.{Bool, true, false, not, _||_, or-true}
 use mathlib.Core.List.{List, [], _∷_, map}
+use borrow.Author.Tests.{eqb-true, eqb-false, eq-eqb, ne-eqb, ltb-true, lt-ltb, leb-false, not-true}
+use lib.Dec.{eqb, ltb}
 use Prim.Native.Nat.{ℕ, zero, suc, _+_, _-_, _*_, _/_, _%_, _^_, _≤_, _<_}
-use native.Mathlib.Nat.{div-one, div-div-eq-div-mul, pow-suc, mul-comm, suc-mul, zero-mul, div-add-mod'}
+use native.Mathlib.Nat.{div-one, div-div-eq-div-mul, pow-suc, mul-comm, suc-mul, zero-mul, div-add-mod', mul-le-mul-right, div-mul-le-self}
 use native.Mathlib.Omega.{arith}
-use lib.ListN.{length, getD, length-map, length-append}
+use lib.ListN.{length, getD, take, drop, length-map, length-append, length-drop}
+use lib.Seq.{length-take-le}
+use mathlib.Core.Option.{none, some}
 use Rattle.stream.specs.declared.Shape.{Shape}
 use Rattle.stream.specs.Items.{Item, Transfer, items}
 use Rattle.stream.specs.Packed.{pack, spread, sliceTransfer, slices}
-use Rattle.stream.specs.Layout.{bit, odd, tkeep, tstrb, atWidth, nullLane, laneType, typesOf, Kept, records, transferOf, transfers, octets, streamItems, packed, slicedTransfers, sliced}
-use Rattle.stream.specs.Promises.{ByteTypes, RepackingKeeps, PackedLegal, PackedLength, PackedFull, Hold, Joins, Canonical, Keeps, LaneKeeping, Findings, HarvestLegal}
+use Rattle.stream.specs.Layout.{bit, odd, size, tkeep, tstrb, atWidth, nullLane, laneType, typesOf, Kept, dataOctets, recordCount, records, transferOf, transfers, octets, streamItems, packed, slicedTransfers, sliced}
+use Rattle.stream.specs.Checks.{widthCheck, lengthCheck, indexCheck}
+use Rattle.stream.specs.Answers.{dataRefusal, dataPart}
+use Rattle.stream.specs.Promises.{DataOctets, FirstInOrder, WidthExactly, LengthExactly, ByteTypes, RepackingKeeps, PackedLegal, PackedLength, PackedFull, Hold, Joins, Canonical, Keeps, LaneKeeping, Findings, HarvestLegal}
+use Rattle.stream.proofs.First.{first-some, some-first, first-none}
+use Rattle.stream.proofs.Repack.{WidthFits, width-fits}
 use Rattle.stream.proofs.Pack.{Wide, pack-parted, length-spread, items-slices, wide-slices}
 use Rattle.stream.proofs.Hold.{hold}
 use Rattle.stream.proofs.Records.{packed-items, length-packed, transfers-back}
@@ -17,6 +27,29 @@ use Rattle.stream.proofs.Legal.{packed-legal, sliced-legal, wide-transf
 use Rattle.stream.proofs.Full.{packedFull as packed-full}
 use Rattle.stream.proofs.Findings.{judges}
 use Rattle.stream.proofs.Harvest.{harvestLegal as harvest-legal}
+
+-- ---- refusals
+
+pub firstInOrder : FirstInOrder
+firstInOrder X cs x = (first-some cs x, some-first cs x)
+
+or-split : (a b : Bool) → (a || b) ≡ true → (a ≡ true) ⊎ (b ≡ true)
+or-split true b e = inl refl
+or-split false b e = inr e
+
+pub widthExactly : WidthExactly
+widthExactly w = (
+  (λ e. ⊎-elim (λ h. inl (eqb-true w 0 h)) (λ h. inr (ltb-true 16 w h)) (or-split (eqb w 0) (ltb 16 w) e)),
+  ⊎-elim (λ h. rw (eq-eqb w 0 h) refl) (λ h. rw (lt-ltb 16 w h) (or-true (eqb w 0))),
+)
+
+pub lengthExactly : LengthExactly
+lengthExactly s xs =
+    let over = ltb 65536 (length xs) in
+    let whole = eqb (length xs % size s) 0 in (
+      (λ e. ⊎-elim (λ h. inl (ltb-true 65536 (length xs) h)) (λ h. inr (eqb-false (length xs % size s) 0 (not-true whole h))) (or-split over (not whole) e)),
+      ⊎-elim (λ h. rw (lt-ltb 65536 (length xs) h) refl) (λ h. rw (ne-eqb (length xs % size s) 0 h) (or-true over)),
+    )
 
 -- ---- byte types
 
@@ -33,6 +66,30 @@ types-at (suc w) (suc x) k t h = types-at w x (k / 2) (t / 2) (omega arith) ∙ 
 
 pub byteTypes : ByteTypes
 byteTypes s r x h = types-at (s .width) x (tkeep r) (tstrb r) h
+
+-- ---- data octets of a record
+
+-- a record that is there lies whole in the take
+record-there : (s : Shape) (xs : List ℕ) (k : ℕ) → k < recordCount s xs → k * size s + size s ≤ length xs
+record-there s xs k h =
+    omega (arith, suc-mul k (size s), mul-le-mul-right (size s) h, div-mul-le-self (length xs) (size s))
+
+data-long : (s : Shape) (xs : List ℕ) (k : ℕ) → k < recordCount s xs → length (dataOctets s (drop (k * size s) xs)) ≡ s .width
+unfolding size
+data-long s xs k h =
+    length-take-le (s .width) (drop 7 (drop (k * size s) xs))
+    (omega (arith, length-drop 7 (drop (k * size s) xs), length-drop (k * size s) xs, record-there s xs k h))
+
+data-there : (s : Shape) (xs : List ℕ) (k : ℕ) → dataRefusal s xs k ≡ none → WidthFits (s .width) × (k < recordCount s xs)
+data-there s xs k e =
+    let w = first-none (widthCheck (s .width)) (lengthCheck s xs ∷ indexCheck s xs k ∷ []) e in
+    let l = first-none (lengthCheck s xs) (indexCheck s xs k ∷ []) (w .1) in
+    let i = first-none (indexCheck s xs k) [] (l .1) in
+    (width-fits (s .width) (w .0), leb-false (recordCount s xs) k (i .0))
+
+pub handsOut : DataOctets
+unfolding dataPart
+handsOut s xs k = record { present = λ e. let h = data-there s xs k e in rw e (data-long s xs k (h .1), h .0 .low); refused = λ r e. rw e refl }
 
 -- ---- repacking
 

@@ -136,7 +136,8 @@ workedCases =
     ∷ refuses (downsize (lanes 2) 4 (0 ∷ []) ee) 6 0 ee
     -- 2 before 13, 3 and 4: no whole number of records
     ∷ refuses (repack (lanes 1) 1 (one 0x02 0 0 0 1 0 ++ (0 ∷ [])) ee) 2 0 ee
-    ∷ refuses (dataOf (lanes 1) (0 ∷ []) 9) 2 0 []
+    ∷ refuses (dataOf (lanes 1) (aa ++ (0 ∷ [])) 9) 2 0 []
+    ∷ refuses (dataOf (lanes 1) (aa ++ (0 ∷ [])) 0) 2 0 []
     ∷ refuses (fillIn false (lanes 1) (one 0xFF 0 0 0 0 0 ++ (1 ∷ []))) 2 0 (one 0xFF 0 0 0 0 0 ++ (1 ∷ []))
     -- 13: no such record
     ∷ refuses (dataOf (lanes 1) aa 1) 13 0 []

@@ -128,14 +128,14 @@ lanesOf (t ∷ ts) (d ∷ ds) = laneOf t d ∷ lanesOf ts ds
 abbrev pub transferOf : Shape → List ℕ → Transfer Kept
 transferOf s r = record { pair = pairOf r; lanes = lanesOf (laneTypes s r) (dataOctets s r); last = tlast r }
 
-abbrev pub keepBit : Option Kept → Bool
-keepBit none = false
-keepBit (some k) = true
-
 abbrev pub strbBit : Option Kept → Bool
 strbBit none = false
 strbBit (some (octet d)) = true
 strbBit (some position) = false
+
+abbrev pub keepBit : Option Kept → Bool
+keepBit none = false
+keepBit (some k) = true
 
 -- "Null and position lanes carry data 00."
 abbrev pub laneOctet : Option Kept → ℕ

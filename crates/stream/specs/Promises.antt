@@ -5,26 +5,62 @@ use mathlib.Core.Bool.{Bool, true, false, not, _||_}
 use mathlib.Core.List.{List, [], _∷_, _++_, map}
 use mathlib.Core.Option.{Option, none, some}
 use Prim.Native.Nat.{ℕ, zero, suc, _+_, _-_, _*_, _/_, _%_, _≤_, _<_}
-use mathlib.Core.Logic.{_⊎_, _↔_}
+use mathlib.Core.Logic.{_⊎_, _↔_, _≢_}
 use lib.Dec.{eqb}
 use lib.ListN.{length, getD}
+use Rattle.refusal.specs.declared.Refusal.{Refusal}
 use Rattle.stream.specs.declared.Shape.{Shape}
 use Rattle.stream.specs.Items.{samePair, Transfer, Item, kept, items}
 use Rattle.stream.specs.Packed.{fitted, pack, settled, held, parted}
 use Rattle.stream.specs.Layout.{bit, tkeep, tstrb, size, atWidth, LaneType, nullLane, laneType, laneTypes, Kept, records, transfers, streamItems, packedTransfers, packed, slicedTransfers, sliced}
+use Rattle.stream.specs.Checks.{Check, first, widthCheck, lengthCheck}
 use Rattle.stream.specs.Handshake.{r1, r2, r3, r4, Finding, firstFinding, harvested}
-use Rattle.stream.specs.Answers.{harvestRefusal}
+use Rattle.stream.specs.Answers.{harvestRefusal, dataRefusal, dataPart}
 use Rattle.stream.specs.Legal.{Octets, Legal}
 
 -- a width that is not refused
 abbrev pub Width : ℕ → Type 0
 Width v = (1 ≤ v) × (v ≤ 16)
 
+-- ---- refusals
+
+-- what a list of checks gives, and its place in the list: nothing before it is found
+pub record FoundAt (X : Type 0) (cs : List (Check X)) (x : X) : Type 0 where
+  pub before : List (Check X)
+  pub at : Check X
+  pub after : List (Check X)
+  pub is : cs ≡ before ++ at ∷ after
+  pub found : at .found ≡ true
+  pub gives : at .gives ≡ x
+  pub earlier : first before ≡ none
+
+-- "given exactly when that fault is the first in the stated order"
+abbrev pub FirstInOrder : Type 1
+FirstInOrder = (X : Type 0) (cs : List (Check X)) (x : X) → (first cs ≡ some x) ↔ FoundAt X cs x
+
+-- 1: "a width is 0 or above 16"
+abbrev pub WidthExactly : Type 0
+WidthExactly = (w : ℕ) → (widthCheck w .found ≡ true) ↔ ((w ≡ 0) ⊎ (16 < w))
+
+-- 2: "input is over 65,536 octets or no whole number of records"
+abbrev pub LengthExactly : Type 0
+LengthExactly = (s : Shape) (xs : List ℕ) → (lengthCheck s xs .found ≡ true) ↔ ((65536 < length xs) ⊎ (length xs % size s ≢ 0))
+
 -- ---- byte types
 
 -- Table 2-2 bit by bit: the type of lane x is that of bit x of TKEEP and bit x of TSTRB.
 abbrev pub ByteTypes : Type 0
 ByteTypes = (s : Shape) (r : List ℕ) (x : ℕ) → x < s .width → getD (laneTypes s r) x nullLane ≡ laneType (bit x (tkeep r)) (bit x (tstrb r))
+
+-- ---- data octets of a record
+
+-- The part handed out has an octet for each lane, or is empty: it is empty exactly where the call is refused.
+pub record HandsOut (s : Shape) (xs : List ℕ) (k : ℕ) : Type 0 where
+  pub present : dataRefusal s xs k ≡ none → (length (dataPart s xs k) ≡ s .width) × (0 < s .width)
+  pub refused : (r : Refusal) → dataRefusal s xs k ≡ some r → dataPart s xs k ≡ []
+
+abbrev pub DataOctets : Type 0
+DataOctets = (s : Shape) (xs : List ℕ) (k : ℕ) → HandsOut s xs k
 
 -- ---- repacking
 
