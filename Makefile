@@ -1,0 +1,30 @@
+# The commands of the project. `make` alone lists them.
+.PHONY: help test run check fmt clean
+
+help:
+	@echo "make test    the whole gate: prove every crate, refuse every must-fail edit, run every test"
+	@echo "make run     print the refusal table through the library's own function"
+	@echo "make check   prove every crate and run its programs, without the must-fail edits"
+	@echo "make fmt     lay out every .rt and .antt file"
+	@echo "make clean   remove everything that was built"
+
+test: need-rt
+	@sh tests/gate
+
+run: need-rt
+	@rt check table > build/run.log 2>&1 || { tail -n 20 build/run.log; exit 1; }
+	@target/bin/table
+
+check: need-rt
+	rt check
+
+fmt: need-rt
+	rt fmt
+
+clean:
+	rm -rf target build
+
+.PHONY: need-rt
+need-rt:
+	@mkdir -p build
+	@command -v rt > /dev/null || { echo "rt is not on the PATH: install the Rattle kit and put its bin folder on the PATH"; exit 1; }
