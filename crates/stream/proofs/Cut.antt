@@ -8,19 +8,12 @@ use Prim.Native.Nat.{ℕ}
 use lib.Dec.{eqb, eqb-refl}
 use borrow.Author.Tests.{eqb-true, eq-eqb, not-true}
 use native.Mathlib.Omega.{arith}
+use Rattle.stream.proofs.Bools.{no-such, and-left, and-right}
 use Rattle.stream.specs.Items.{Pair, samePair, Item, byte, end, itemPair, itemsOf}
 use Rattle.stream.specs.Packed.{Stretch, attach, cut, apart, parted}
 
 pub samePair-refl : (p : Pair) → samePair p p ≡ true
 samePair-refl p = rw (eq-eqb (p .tid) (p .tid) refl, eq-eqb (p .tdest) (p .tdest) refl)
-
-pub and-left : (a b : Bool) → (a && b) ≡ true → a ≡ true
-and-left true b e = refl
-and-left false b e = e
-
-pub and-right : (a b : Bool) → (a && b) ≡ true → b ≡ true
-and-right true b e = e
-and-right false b e = let z : _≡_ {A = ℕ} 0 1 = cc in absurd (omega arith)
 
 pub samePair-eq : (p q : Pair) → samePair p q ≡ true → p ≡ q
 samePair-eq p q e =
@@ -178,14 +171,14 @@ module _ {A : Type 0} where
       → stops (record { pair = p; bytes = bs; ended = ended }) (cut is) ≡ true
       → cut (itemsOf p bs ended ++ is) ≡ record { pair = p; bytes = bs; ended = ended } ∷ cut is
   cut-stretch p bs true is h k = rw (append-assoc (map (byte p) bs) (end p ∷ []) is) (cut-ended p bs is)
-  cut-stretch p [] false is h k = let z : _≡_ {A = ℕ} 0 1 = cc in absurd (omega arith)
+  cut-stretch p [] false is h k = no-such refl h
   cut-stretch p (b ∷ bs) false is h k = rw (append-nil (map (byte p) bs)) (cut-open p b bs is k)
 
   stretch-begins : (p : Pair) (bs : List A) (ended : Bool) (is : List (Item A))
       → proper (record { pair = p; bytes = bs; ended = ended }) ≡ true → Begins p (cut (itemsOf p bs ended ++ is))
   stretch-begins p (b ∷ bs) ended is h = cut-begins (byte p b) ((map (byte p) bs ++ cond ended (end p ∷ []) []) ++ is)
   stretch-begins p [] true is h = cut-begins (end p) is
-  stretch-begins p [] false is h = let z : _≡_ {A = ℕ} 0 1 = cc in absurd (omega arith)
+  stretch-begins p [] false is h = no-such refl h
 
   -- a stretch stops before another proper one just where it stops before that one's items
   pub stops-before : (s t : Stretch A) (ss : List (Stretch A)) (is : List (Item A)) → proper t ≡ true → stops s (t ∷ ss) ≡ true

@@ -15,6 +15,7 @@ use Rattle.stream.specs.Layout.{records}
 use Rattle.stream.specs.Checks.{Check, check, first}
 use Rattle.stream.specs.Handshake.{r1, r2, r3, r4, Finding, finding, ruleChecks, findings, firstFinding}
 use Rattle.stream.specs.Promises.{rule, cycleBefore, breaks, IsEarliest, Judges, Findings}
+use Rattle.stream.proofs.Bools.{no-such}
 use Rattle.stream.proofs.First.{first-none}
 
 -- the cycle before cycle k of cycles that follow a cycle, or none
@@ -36,9 +37,6 @@ record Earliest (s : Shape) (b : Option (List ℕ)) (cs : List (List ℕ)) (i : 
   within : place < length cs
   breaks : broken s b cs place (f .rule) ≡ true
   others : (k n : ℕ) → k < length cs → broken s b cs k n ≡ true → (place < k) ⊎ ((place ≡ k) × (f .rule ≤ n))
-
-no-such : {A : Type 0} {b : Bool} → b ≡ false → b ≡ true → A
-no-such e h = let z : _≡_ {A = ℕ} 0 1 = cc in absurd (omega arith)
 
 -- a rule is the lowest broken one where no lower one is broken
 lowest : (s : Shape) (b : Option (List ℕ)) (c : List ℕ) (n : ℕ) → ((m : ℕ) → m < n → rule s b c m ≡ false)

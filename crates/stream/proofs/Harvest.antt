@@ -17,10 +17,10 @@ use Rattle.stream.specs.Handshake.{r4, Finding, findings, transferred, h
 use Rattle.stream.specs.Answers.{judgeChecks, uncleanCheck, harvestRefusal}
 use Rattle.stream.specs.Legal.{Octets, Legal}
 use Rattle.stream.specs.Promises.{rule, HarvestLegal}
-use Rattle.stream.proofs.Cut.{and-left}
+use Rattle.stream.proofs.Bools.{and-left, neither}
 use Rattle.stream.proofs.First.{first-none, none-first, append-none}
 use Rattle.stream.proofs.Records.{size-pos, Sized, length-pieces, length-joined, records-joined, records-sized}
-use Rattle.stream.proofs.Legal.{or-false-left, bit-octet, bit-low, octets-append, octets-drop, EachOctets, pieces-octets, Faultless, of-faultless}
+use Rattle.stream.proofs.Legal.{bit-octet, bit-low, octets-append, octets-drop, EachOctets, pieces-octets, Faultless, of-faultless}
 use Rattle.stream.proofs.Repack.{width-fits}
 use Rattle.stream.proofs.Findings.{none-here}
 
@@ -52,9 +52,9 @@ field-kept s (f ∷ r) e =
     let b = ltb 15 (pairOf (f ∷ r) .tdest) in
     let k = leb (2 ^ s .width) (tkeep (f ∷ r)) in
     let t = leb (2 ^ s .width) (tstrb (f ∷ r)) in
-    let h3 = or-false-left (a || b || k) t e in
-    let h2 = or-false-left (a || b) k (h3 .0) in
-    let h1 = or-false-left a b (h2 .0) in
+    let h3 = neither (a || b || k) t e in
+    let h2 = neither (a || b) k (h3 .0) in
+    let h1 = neither a b (h2 .0) in
     rw (bit-low (tlast (f ∷ r)), h1 .1, h2 .1, h3 .1) refl
 
 -- a transferred cycle has ARESETn and TVALID high, so R4 reads its lanes

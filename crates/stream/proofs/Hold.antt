@@ -160,7 +160,7 @@ module _ {A : Type 0} where
       ∙ held-ended k v p (drop v ls)
 
   -- a stretch in front that stops is packed by itself
-  pack-stretch : (v : ℕ) (s : Stretch A) (is : List (Item A)) → proper s ≡ true → stops s (cut is) ≡ true
+  pub pack-stretch : (v : ℕ) (s : Stretch A) (is : List (Item A)) → proper s ≡ true → stops s (cut is) ≡ true
       → pack v (stretchItems s ++ is) ≡ packStretch v s ++ pack v is
   pack-stretch v s is h k = ap (packStretches v) (cut-stretch (s .pair) (s .bytes) (s .ended) is h k)
 

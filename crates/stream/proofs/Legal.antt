@@ -17,6 +17,7 @@ use Rattle.stream.specs.Layout.{bitOf, maskOf, flags, pairOf, tkeep, tst
 use Rattle.refusal.specs.declared.Refusal.the-variants.{Field, Reserved}
 use Rattle.stream.specs.Checks.{Check, check, first, fieldFault, reservedFault, transferFlags, transferChecks}
 use Rattle.stream.specs.Legal.{Octets, Legal}
+use Rattle.stream.proofs.Bools.{neither}
 use Rattle.stream.proofs.Pack.{Wide, wide-pack, wide-slices}
 use Rattle.stream.proofs.Each.{EachByte, EachLane, EachTransfer, each-items, each-pack, each-slices}
 use Rattle.stream.proofs.First.{first-none, none-first}
@@ -58,10 +59,6 @@ octets-append (x ∷ xs) ys h k = (h .0, octets-append xs ys (h .1) k)
 
 -- ---- faults
 
-pub or-false-left : (a b : Bool) → (a || b) ≡ false → (a ≡ false) × (b ≡ false)
-or-false-left true b e = let z : _≡_ {A = ℕ} 0 1 = cc in absurd (omega arith)
-or-false-left false b e = (refl, e)
-
 -- none of the records has a fault
 abbrev pub Faultless : Shape → List (List ℕ) → Type 0
 Faultless s [] = Unit {0}
@@ -86,9 +83,9 @@ tdest-fits s r e =
     let destHigh = ltb 15 (pairOf r .tdest) in
     let keepHigh = leb (2 ^ s .width) (tkeep r) in
     let strbHigh = leb (2 ^ s .width) (tstrb r) in
-    let d = or-false-left (flagsHigh || destHigh || keepHigh) strbHigh e in
-    let c = or-false-left (flagsHigh || destHigh) keepHigh (d .0) in
-    let b = or-false-left flagsHigh destHigh (c .0) in
+    let d = neither (flagsHigh || destHigh || keepHigh) strbHigh e in
+    let c = neither (flagsHigh || destHigh) keepHigh (d .0) in
+    let b = neither flagsHigh destHigh (c .0) in
     ltb-false 15 (pairOf r .tdest) (b .1)
 
 lane-fits : (t : LaneType) (d : ℕ) (ls : List (Option Kept)) → d < 256 → EachLane PairFits ByteFits ls

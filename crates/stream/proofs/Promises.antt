@@ -17,14 +17,16 @@ use Rattle.stream.specs.Packed.{pack, spread, sliceTransfer, slices}
 use Rattle.stream.specs.Layout.{bit, odd, size, tkeep, tstrb, atWidth, nullLane, laneType, typesOf, Kept, dataOctets, recordCount, records, transferOf, transfers, octets, streamItems, packed, slicedTransfers, sliced}
 use Rattle.stream.specs.Checks.{widthCheck, lengthCheck, indexCheck}
 use Rattle.stream.specs.Answers.{dataRefusal, dataPart}
-use Rattle.stream.specs.Promises.{DataOctets, FirstInOrder, WidthExactly, LengthExactly, ByteTypes, RepackingKeeps, PackedLegal, PackedLength, PackedFull, Hold, Joins, Canonical, Keeps, LaneKeeping, Findings, HarvestLegal}
+use Rattle.stream.specs.Promises.{DataOctets, FirstInOrder, WidthExactly, LengthExactly, ByteTypes, RepackingKeeps, PackedLegal, PackedLength, PackedFull, PackedOnly, Hold, Joins, Canonical, Keeps, LaneKeeping, Findings, HarvestLegal}
+use Rattle.stream.proofs.Bools.{or-split}
 use Rattle.stream.proofs.First.{first-some, some-first, first-none}
 use Rattle.stream.proofs.Repack.{WidthFits, width-fits}
 use Rattle.stream.proofs.Pack.{Wide, pack-parted, length-spread, items-slices, wide-slices}
 use Rattle.stream.proofs.Hold.{hold}
 use Rattle.stream.proofs.Records.{packed-items, length-packed, transfers-back}
 use Rattle.stream.proofs.Legal.{packed-legal, sliced-legal, wide-transfers}
-use Rattle.stream.proofs.Full.{packedFull as packed-full}
+use Rattle.stream.proofs.Full.{packed-full}
+use Rattle.stream.proofs.Only.{packed-only}
 use Rattle.stream.proofs.Findings.{judges}
 use Rattle.stream.proofs.Harvest.{harvestLegal as harvest-legal}
 
@@ -32,10 +34,6 @@ use Rattle.stream.proofs.Harvest.{harvestLegal as harvest-legal}
 
 pub firstInOrder : FirstInOrder
 firstInOrder X cs x = (first-some cs x, some-first cs x)
-
-or-split : (a b : Bool) → (a || b) ≡ true → (a ≡ true) ⊎ (b ≡ true)
-or-split true b e = inl refl
-or-split false b e = inr e
 
 pub widthExactly : WidthExactly
 widthExactly w = (
@@ -104,6 +102,9 @@ packedLength = length-packed
 
 pub packedFull : PackedFull
 packedFull = packed-full
+
+pub packedOnly : PackedOnly
+packedOnly = packed-only
 
 pub holds : Hold
 holds v h is js = hold v h is js

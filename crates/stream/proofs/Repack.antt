@@ -19,7 +19,7 @@ use Rattle.stream.specs.Checks.{Check, check, first, widthCheck, shapeCh
 use Rattle.stream.specs.Answers.{written, lentAfter, repackRefusal, repackAnswer, repackAfter}
 use Rattle.stream.specs.Demand3.{Call, answerTo, accepted, resultOf}
 use Rattle.stream.proofs.First.{first-none, none-first, append-none, none-append}
-use Rattle.stream.proofs.Legal.{or-false-left}
+use Rattle.stream.proofs.Bools.{neither}
 use Rattle.stream.proofs.Records.{length-packed}
 
 -- what the checks of a width and of a length let through
@@ -29,7 +29,7 @@ pub record WidthFits (w : ℕ) : Type 0 where
 
 pub width-fits : (w : ℕ) → widthCheck w .found ≡ false → WidthFits w
 width-fits w e =
-    let h = or-false-left (eqb w 0) (ltb 16 w) e in
+    let h = neither (eqb w 0) (ltb 16 w) e in
     let positive : w ≡ 0 → ⊥ = eqb-false w 0 (h .0) in
     record { low = omega arith; high = ltb-false 16 w (h .1) }
 
@@ -75,7 +75,7 @@ of-repacks s v xs room h =
 pub takes-whole : (s : Shape) (xs : List ℕ) → Takes s xs → length xs % size s ≡ 0
 takes-whole s xs h =
     eqb-true (length xs % size s) 0
-    (not-false (eqb (length xs % size s) 0) (or-false-left (ltb captureMost (length xs)) (not (eqb (length xs % size s) 0)) (h .length) .1))
+    (not-false (eqb (length xs % size s) 0) (neither (ltb captureMost (length xs)) (not (eqb (length xs % size s) 0)) (h .length) .1))
 
 -- ---- answers
 

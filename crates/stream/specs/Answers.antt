@@ -15,10 +15,10 @@ use Rattle.stream.specs.declared.Verdict.the-variants.{Clean, Broken, Re
 use Rattle.stream.specs.declared.Written.{Written}
 use Rattle.stream.specs.declared.Written.the-variants.{Records, Refused as NotWritten}
 use Rattle.stream.specs.declared.Lookup.{Lookup}
-use Rattle.stream.specs.declared.Lookup.the-variants.{Present, Refused as Absent}
+use Rattle.stream.specs.declared.Lookup.the-variants.{Present, Refused as NoPart}
 use Rattle.stream.specs.Layout.{size, records, recordCount, dataOctets, packedTransfers, packed, slicedTransfers, sliced}
 use Rattle.stream.specs.Checks.{Check, check, first, shapeChecks, ratioCheck, lengthCheck, indexCheck, transferChecks, cycleChecks, roomCheck}
-use Rattle.stream.specs.Handshake.{Finding, findings, firstFinding, transferCount, harvested, filledIn}
+use Rattle.stream.specs.Handshake.{Finding, findings, firstFinding, transferCount, harvested, filledIn, baseLevel}
 
 -- ---- how an answer is made of the first refusal, if there is one
 
@@ -38,7 +38,7 @@ lentAfter (some r) result lent = lent
 lentAfter none result lent = result ++ drop (length result) lent
 
 abbrev pub lookup : Option Refusal → Lookup
-lookup (some r) = Absent r
+lookup (some r) = NoPart r
 lookup none = Present
 
 -- "a part handed out is empty" where the call is refused
@@ -72,7 +72,7 @@ harvestAnswer s capture room = written (harvestRefusal s capture room) (transfer
 unfoldable pub harvestAfter : Shape → List ℕ → List ℕ → List ℕ
 harvestAfter s capture out = lentAfter (harvestRefusal s capture (length out)) (harvested s capture) out
 
--- ---- fill-in: 1, 2. The lent take is input and output; `level` is what TLAST becomes.
+-- ---- fill-in: 1, 2. The lent take is input and output; `level` is what TLAST becomes, in 01 always low.
 
 abbrev pub fillRefusal : Shape → List ℕ → Option Refusal
 fillRefusal s capture = first (shapeChecks s [] ++ lengthCheck s capture ∷ [])
@@ -82,6 +82,10 @@ fillAnswer s capture = written (fillRefusal s capture) (recordCount s capture)
 
 unfoldable pub fillAfter : Bool → Shape → List ℕ → List ℕ
 fillAfter level s capture = lentAfter (fillRefusal s capture) (filledIn level s capture) capture
+
+-- fill-in as 01 has it
+abbrev pub fillInAfter : Shape → List ℕ → List ℕ
+fillInAfter s capture = fillAfter baseLevel s capture
 
 -- ---- data octets of record k: 1, 2, 13
 
@@ -124,7 +128,7 @@ unfoldable pub downsizeAfter : Shape → ℕ → List ℕ → List ℕ → List 
 downsizeAfter s v input out = lentAfter (downsizeRefusal s v input (length out)) (sliced s v input) out
 
 -- ---- the paper's numbers for each answer: the refusal's number, its place (or the broken cycle), the rule, and the count
--- of transfers or records. "Its other numbers are 0."
+-- of transfers or records. "Its other numbers are 0." The contracts of the calls use these lists.
 
 pub record Values : Type 0 where
   pub refusal : ℕ
@@ -149,4 +153,4 @@ writtenValues (NotWritten r) = refusalValues r
 
 abbrev pub lookupValues : Lookup → Values
 lookupValues Present = values 0 0 0 0
-lookupValues (Absent r) = refusalValues r
+lookupValues (NoPart r) = refusalValues r

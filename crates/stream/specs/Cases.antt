@@ -1,4 +1,4 @@
--- Worked cases of the definitions: what is asked, and what is told, typed from paper 01 and never computed. The list
+-- Worked cases of the definitions: what is asked, and what is told, typed by hand and never computed. The list
 -- `benchCases` has the starred cases S1 to S5 of paper 01; `workedCases` pins what no starred case does. One statement
 -- covers each list (`bench` and `worked` of proofs/Cases).
 use mathlib.Core.Bool.{Bool, true, false}
@@ -54,7 +54,7 @@ refuses asked number place octets = record { asked = asked; told = tells (values
 abbrev breaks : Asked → ℕ → ℕ → Case
 breaks asked cycle rule = record { asked = asked; told = tells (values 0 cycle rule 0) [] }
 
--- n octets of lent memory that were not written
+-- four octets of lent memory that were not written, and eight
 abbrev ee : List ℕ
 ee = 0xEE ∷ 0xEE ∷ 0xEE ∷ 0xEE ∷ []
 
@@ -73,8 +73,8 @@ abbrev lastAlone : List ℕ
 lastAlone = 0x01 ∷ 0x00 ∷ 0x00 ∷ 0x00 ∷ 0x00 ∷ 0x00 ∷ 0x00 ∷ 0x00 ∷ []
 
 -- an all-null record of width 1 without TLAST, of the pair (tid, 0)
-abbrev idle : ℕ → List ℕ
-idle tid = 0x00 ∷ tid ∷ 0x00 ∷ 0x00 ∷ 0x00 ∷ 0x00 ∷ 0x00 ∷ 0x00 ∷ []
+abbrev nulls : ℕ → List ℕ
+nulls tid = 0x00 ∷ tid ∷ 0x00 ∷ 0x00 ∷ 0x00 ∷ 0x00 ∷ 0x00 ∷ 0x00 ∷ []
 
 -- a record of width 1 with this octet 0, TID, TDEST, TKEEP, TSTRB and data
 abbrev one : ℕ → ℕ → ℕ → ℕ → ℕ → ℕ → List ℕ
@@ -99,7 +99,7 @@ benchCases =
     (0x01 ∷ 0x00 ∷ 0x00 ∷ 0x00 ∷ 0x00 ∷ 0x00 ∷ 0x00 ∷ 0x00
     ∷ 0x01 ∷ 0x00 ∷ 0x00 ∷ 0x00 ∷ 0x00 ∷ 0x00 ∷ 0x00 ∷ 0x00 ∷ ee)
     -- S5: a record with no item vanishes
-    ∷ gives (repack (lanes 1) 1 (idle 0) ee) 0 ee
+    ∷ gives (repack (lanes 1) 1 (nulls 0) ee) 0 ee
     ∷ []
 
 -- ---- what no starred case pins
@@ -111,15 +111,21 @@ workedCases =
     ∷ breaks (judge (lanes 1) (one 0x0A 0 0 1 1 7 ++ one 0x08 0 0 1 1 7)) 1 2
     ∷ breaks (judge (lanes 1) (one 0x0A 5 0 1 1 7 ++ one 0x0E 6 0 1 1 7)) 1 3
     ∷ breaks (judge (lanes 1) (one 0x08 0 0 0 0 0 ++ one 0x0A 0 0 0 1 0)) 1 4
-    -- R3 reads every octet from 1 on and TLAST, and neither TREADY nor a cycle that did not wait
+    -- R3 reads every octet from 1 on (TDEST, TKEEP, TSTRB, data of the last lane) and TLAST, and neither TREADY nor a
+    -- cycle that did not wait
     ∷ breaks (judge (lanes 1) (one 0x0A 5 2 1 1 7 ++ one 0x0E 5 3 1 1 7)) 1 3
     ∷ breaks (judge (lanes 1) (one 0x0A 5 2 1 0 7 ++ one 0x0E 5 2 1 0 8)) 1 3
     ∷ breaks (judge (lanes 1) (one 0x0A 5 2 1 1 7 ++ one 0x0F 5 2 1 1 7)) 1 3
+    ∷ breaks (judge (lanes 1) (one 0x0A 5 2 1 1 7 ++ one 0x0E 5 2 0 0 7)) 1 3
+    ∷ breaks (judge (lanes 1) (one 0x0A 5 2 1 1 7 ++ one 0x0E 5 2 1 0 7)) 1 3
+    ∷ breaks (judge (lanes 2) (0x0A ∷ 5 ∷ 2 ∷ 3 ∷ 0 ∷ 3 ∷ 0 ∷ 7 ∷ 8 ∷ 0x0E ∷ 5 ∷ 2 ∷ 3 ∷ 0 ∷ 3 ∷ 0 ∷ 7 ∷ 9 ∷ [])) 1 3
     ∷ gives (judge (lanes 1) (one 0x0A 5 2 1 1 7 ++ one 0x0E 5 2 1 1 7 ++ one 0x0E 6 3 0 0 0)) 2 []
     -- reset ends a wait: TVALID may fall with ARESETn, and what follows is a new transfer
     ∷ gives (judge (lanes 1) (one 0x0A 5 0 1 1 7 ++ one 0x00 0 0 0 0 0 ++ one 0x08 0 0 0 0 0 ++ one 0x0E 6 0 1 1 8)) 1 []
     -- the first record follows no waiting cycle; a cycle in reset or without TVALID carries nothing
     ∷ gives (judge (lanes 1) (one 0x0C 0 0 0 1 0 ++ one 0x04 0 0 0 1 0)) 0 []
+    -- R1 at the first record
+    ∷ breaks (judge (lanes 1) (one 0x02 0 0 0 0 0)) 0 1
     -- two rules in one cycle: the lowest; two cycles: the earliest
     ∷ breaks (judge (lanes 1) (one 0x0A 5 0 1 1 7 ++ one 0x0A 6 0 0 1 7)) 1 3
     ∷ breaks (judge (lanes 1) (one 0x0A 0 0 0 1 0 ++ one 0x02 0 0 0 0 0)) 0 4
@@ -131,6 +137,8 @@ workedCases =
     ∷ refuses (repack (lanes 1) 17 (0 ∷ []) ee) 1 0 ee
     ∷ gives (repack (lanes 1) 16 [] ee) 0 ee
     ∷ refuses (downsize (lanes 17) 3 (0 ∷ []) ee) 1 0 ee
+    ∷ refuses (downsize (lanes 4) 17 (0 ∷ []) ee) 1 0 ee
+    ∷ refuses (downsize (lanes 4) 0 (0 ∷ []) ee) 1 0 ee
     -- 6 before 2: v does not divide w
     ∷ refuses (downsize (lanes 4) 3 (0 ∷ []) ee) 6 0 ee
     ∷ refuses (downsize (lanes 2) 4 (0 ∷ []) ee) 6 0 ee
@@ -155,6 +163,7 @@ workedCases =
     ∷ refuses (downsize (lanes 1) 1 (aa ++ one 0x00 0 0 0 1 0) ee) 4 1 ee
     -- 3 of any cycle before any rule; judging never gives 4
     ∷ refuses (judge (lanes 1) (one 0x02 0 0 0 0 0 ++ one 0x10 0 0 0 0 0)) 3 1 []
+    ∷ refuses (harvest (lanes 1) (one 0x02 0 0 0 0 0 ++ one 0x10 0 0 0 0 0) []) 3 1 []
     -- 14 before 5: the cycle and rule of the finding
     ∷ record { asked = harvest (lanes 1) (one 0x0E 0 0 1 1 7 ++ one 0x0E 0 0 0 1 0) []; told = tells (values 14 1 4 0) [] }
     -- 5: one octet short, and the exact room
@@ -170,11 +179,28 @@ workedCases =
     ∷ gives (fillIn true (lanes 1) (one 0xFE 255 255 255 255 255 ++ one 0x0F 0 0 0 0 0)) 2
     (one 0xFF 255 255 255 255 255 ++ one 0x0F 0 0 0 0 0)
     -- an all-null record of another pair between two of one stretch cuts nothing
-    ∷ gives (repack (lanes 1) 2 (aa ++ idle 1 ++ one 0x00 0 0 1 1 0xBB) (eight ++ ee)) 1
+    ∷ gives (repack (lanes 1) 2 (aa ++ nulls 1 ++ one 0x00 0 0 1 1 0xBB) (eight ++ ee)) 1
     (0x00 ∷ 0x00 ∷ 0x00 ∷ 0x03 ∷ 0x00 ∷ 0x03 ∷ 0x00 ∷ 0xAA ∷ 0xBB ∷ 0xEE ∷ 0xEE ∷ 0xEE ∷ [])
-    -- S7: TIDs 1, 2, 1 are three stretches; another TDEST cuts too
-    ∷ gives (repack (lanes 1) 1 (one 0 1 0 1 1 7 ++ one 0 2 0 1 1 8 ++ one 0 1 0 1 1 9) (eight ++ eight ++ eight)) 3
-    (one 0 1 0 1 1 7 ++ one 0 2 0 1 1 8 ++ one 0 1 0 1 1 9)
+    -- S6: empty
+    ∷ gives (repack (lanes 4) 4 [] ee) 0 ee
+    -- P1's transfer at width 2: one stretch in two records
+    ∷ gives (repack (lanes 4) 2 p1 (eight ++ eight ++ ee)) 2
+    (0x00 ∷ 0x01 ∷ 0x02 ∷ 0x03 ∷ 0x00 ∷ 0x01 ∷ 0x00 ∷ 0x11 ∷ 0x00
+    ∷ 0x01 ∷ 0x01 ∷ 0x02 ∷ 0x01 ∷ 0x00 ∷ 0x01 ∷ 0x00 ∷ 0x44 ∷ 0x00 ∷ 0xEE ∷ 0xEE ∷ [])
+    -- S3 at a wider record: the end joins the full record before it there too
+    ∷ gives (repack (lanes 1) 2 (aa ++ aa ++ lastAlone) (eight ++ ee)) 1
+    (0x01 ∷ 0x00 ∷ 0x00 ∷ 0x03 ∷ 0x00 ∷ 0x03 ∷ 0x00 ∷ 0xAA ∷ 0xAA ∷ 0xEE ∷ 0xEE ∷ 0xEE ∷ [])
+    -- the high octets of TKEEP and TSTRB: lane 8 data, lane 15 position
+    ∷ gives
+    (repack (lanes 16) 1
+    (0 ∷ 1 ∷ 2 ∷ 0x00 ∷ 0x81 ∷ 0x00 ∷ 0x01 ∷ 0 ∷ 1 ∷ 2 ∷ 3 ∷ 4 ∷ 5 ∷ 6 ∷ 7 ∷ 8 ∷ 9 ∷ 10 ∷ 11 ∷ 12 ∷ 13 ∷ 14 ∷ 15 ∷ []) (eight ++ eight))
+    2 (one 0 1 2 1 1 8 ++ one 0 1 2 1 0 0)
+    -- slices of an all-null record stay
+    ∷ gives (downsize (lanes 2) 1 (1 ∷ 3 ∷ 4 ∷ 0 ∷ 0 ∷ 0 ∷ 0 ∷ 5 ∷ 6 ∷ []) (eight ++ eight)) 2 (one 0 3 4 0 0 0 ++ one 1 3 4 0 0 0)
+    -- S7: TIDs 1, 2, 1 are three stretches at a width that could hold them all; another TDEST cuts too
+    ∷ gives (repack (lanes 1) 4 (one 0 1 0 1 1 7 ++ one 0 2 0 1 1 8 ++ one 0 1 0 1 1 9) (eight ++ eight ++ eight ++ eight ++ (0xEE ∷ []))) 3
+    (0 ∷ 1 ∷ 0 ∷ 1 ∷ 0 ∷ 1 ∷ 0 ∷ 7 ∷ 0 ∷ 0 ∷ 0 ∷ 0 ∷ 2 ∷ 0 ∷ 1 ∷ 0 ∷ 1 ∷ 0 ∷ 8 ∷ 0 ∷ 0 ∷ 0
+    ∷ 0 ∷ 1 ∷ 0 ∷ 1 ∷ 0 ∷ 1 ∷ 0 ∷ 9 ∷ 0 ∷ 0 ∷ 0 ∷ [])
     ∷ gives (repack (lanes 1) 2 (one 0 1 0 1 1 7 ++ one 0 1 3 1 1 8) (eight ++ eight ++ ee)) 2
     (0 ∷ 1 ∷ 0 ∷ 1 ∷ 0 ∷ 1 ∷ 0 ∷ 7 ∷ 0 ∷ 0 ∷ 1 ∷ 3 ∷ 1 ∷ 0 ∷ 1 ∷ 0 ∷ 8 ∷ 0 ∷ 0xEE ∷ 0xEE ∷ [])
     -- an end of another pair than the item before it is a packet of its own

@@ -1,4 +1,4 @@
--- Demand 3's two statements (paper 01, "Demand 3's words"), over the answers of the repacking call as Answers has them.
+-- Demand 3's two statements (the demand's own words in quotes; paper 01 explains them), over the answers of the repacking call as Answers has them.
 -- Their proofs are `calls` and `parts` of proofs/Demand3.
 use mathlib.Core.Path.{_≡_}
 use mathlib.Core.Bool.{true}
@@ -56,12 +56,13 @@ abbrev pub afterCalls : Standing → List Call → Standing
 afterCalls st [] = st
 afterCalls st (c ∷ cs) = afterCalls (next st c) cs
 
--- the width of the last accepted call of a list, if one was accepted
+-- the later of two accepted calls' widths: the later call's, if that was accepted, else the earlier one's
 abbrev pub later : Option ℕ → Option ℕ → ℕ → Option ℕ
 later (some v) n w = some v
 later none none w = none
 later none (some n) w = some w
 
+-- the width of the last accepted call of a list, if one was accepted
 abbrev pub lastAccepted : Standing → List Call → Option ℕ
 lastAccepted st [] = none
 lastAccepted st (c ∷ cs) = later (lastAccepted (next st c) cs) (acceptedAt st c) (c .width)
@@ -127,7 +128,7 @@ pub record PartsJoin (s : Shape) (v : ℕ) (ps : List Part) (ns : List ℕ) : Ty
   pub count : sum ns ≡ length (packedTransfers s v (whole ps))
 
 -- "Divide a legal stream's records in order into any list of parts, empty ones included, and repack all parts to one
--- width. Whenever those calls are accepted, their results joined in order are the packed form of the whole", and "the
+-- width. Whenever those calls are accepted, their results joined in order are the packed form of the whole", and (01) "the
 -- numbers answered for the parts also add up to the number of records in the whole's packed form". An accepted part is a
 -- whole number of records, since no other length is accepted.
 abbrev pub Demand3·parts : Type 0

@@ -7,7 +7,7 @@ use Prim.Native.Nat.{ℕ, suc, _+_, _*_, _/_}
 use lib.Dec.{eqb}
 use lib.ListN.{length}
 use Rattle.stream.specs.declared.Shape.{Shape}
-use Rattle.stream.specs.Layout.{bitOf, tlast, tvalid, tready, aresetn, payload, laneTypes, anyReserved, records, joined}
+use Rattle.stream.specs.Layout.{bitOf, tlast, tvalid, tready, aresetn, body, laneTypes, anyReserved, records, joined}
 use Rattle.stream.specs.Checks.{Check, check, first}
 
 -- A cycle is a cycle record. The cycle before it is `none` at a take's first record, which "follows no waiting cycle".
@@ -29,9 +29,10 @@ sameOctets (x ∷ xs) (y ∷ ys) = eqb x y && sameOctets xs ys
 -- "some octet from 1 on, or TLAST, differs"
 abbrev pub differs : Option (List ℕ) → List ℕ → Bool
 differs none c = false
-differs (some b) c = not (sameOctets (payload b) (payload c) && Bool·beq (tlast b) (tlast c))
+differs (some b) c = not (sameOctets (body b) (body c) && Bool·beq (tlast b) (tlast c))
 
--- "R1: TVALID high while ARESETn is low." (2.7.2; until T-01 it permits TVALID in the first sample with ARESETn high)
+-- "R1: TVALID high while ARESETn is low." (2.7.2, which also forbids TVALID in the first sample with ARESETn high: there
+-- 01 knowingly says less)
 abbrev pub r1 : Option (List ℕ) → List ℕ → Bool
 r1 before c = tvalid c && not (aresetn c)
 
@@ -84,12 +85,13 @@ transferCount s xs = length (handshakes (records s xs))
 -- "Harvesting writes those counted cycles as transfer records, in order: octet 0 holds TLAST alone, all other octets are
 -- as sampled."
 abbrev pub asTransfer : List ℕ → List ℕ
-asTransfer c = bitOf (tlast c) ∷ payload c
+asTransfer c = bitOf (tlast c) ∷ body c
 
 abbrev pub harvested : Shape → List ℕ → List ℕ
 harvested s xs = joined (map asTransfer (handshakes (records s xs)))
 
--- "sets bit 0 of octet 0 of every record .. and touches nothing else", to the level of TLAST that is asked for
+-- "sets bit 0 of octet 0 of every record to 0 in the lent take and touches nothing else". Here the bit is set to a level,
+-- and `baseLevel` is 01's.
 abbrev pub withLast : Bool → List ℕ → List ℕ
 withLast level [] = []
 withLast level (f ∷ r) = (f / 2 * 2 + bitOf level) ∷ r
@@ -97,6 +99,6 @@ withLast level (f ∷ r) = (f / 2 * 2 + bitOf level) ∷ r
 abbrev pub filledIn : Bool → Shape → List ℕ → List ℕ
 filledIn level s xs = joined (map (withLast level) (records s xs))
 
--- the level that fill-in sets in the base (paper 02's T-03 makes it an argument)
+-- low, as 01 has it
 abbrev pub baseLevel : Bool
 baseLevel = false

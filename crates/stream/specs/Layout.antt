@@ -34,7 +34,7 @@ maskOf (b ∷ bs) = bitOf b + 2 * maskOf bs
 unfoldable pub size : Shape → ℕ
 size s = 7 + s .width
 
--- the same kind of record at another width
+-- the same kind of record at another width. (What else a shape will hold stays as it is in s; as yet it is only a width.)
 abbrev pub atWidth : Shape → ℕ → Shape
 atWidth s v = record { width = v }
 
@@ -70,14 +70,14 @@ tstrb r = getD r 5 0 + 256 * getD r 6 0
 abbrev pub dataOctets : Shape → List ℕ → List ℕ
 dataOctets s r = take (s .width) (drop 7 r)
 
--- everything from octet 1 on: what rule R3 compares beside TLAST
-abbrev pub payload : List ℕ → List ℕ
-payload r = drop 1 r
+-- everything from octet 1 on: TID, TDEST, TKEEP, TSTRB and data
+abbrev pub body : List ℕ → List ℕ
+body r = drop 1 r
 
 -- ---- byte lanes
 
--- "TKEEP and TSTRB high: data. TKEEP high, TSTRB low: position. Both low: null. TKEEP low, TSTRB high: reserved."
--- (IHI 0051A table 2-2)
+-- IHI 0051A table 2-2: "TKEEP and TSTRB high: a data item with its octet. TKEEP high, TSTRB low: a position item, its
+-- octet ignored. Both low: null, no item. TKEEP low, TSTRB high: reserved."
 pub data LaneType : Type 0 where
   dataLane positionLane nullLane reservedLane : LaneType
 

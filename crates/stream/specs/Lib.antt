@@ -1,4 +1,5 @@
--- What a stream means, in the words of paper 01. Read in this order.
+-- What a stream means. Words in quotes are paper 01's, or the three demands' where a comment says so; sections with a
+-- point in their number are those of Arm IHI 0051A. Read in this order.
 pub mod Items
 pub mod Packed
 pub mod Layout

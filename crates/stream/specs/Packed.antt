@@ -1,5 +1,5 @@
 -- The packed form at width v, and lane-keeping slices (paper 01, 'Packed form at width v', 'Lane-keeping downsizing';
--- Arm IHI 0051A 2.3.3), over any type A of what a kept byte lane carries. Octets are in Layout.
+-- Arm IHI 0051A 2.3.3, 2.4.1, 2.5.1), over any type A of what a kept byte lane carries. Octets are in Layout.
 use mathlib.Core.Bool.{Bool, true, false, not, cond}
 use mathlib.Core.List.{List, [], _∷_, _++_, map, head?, getLast?}
 use mathlib.Core.Option.{Option, none, some}
@@ -41,7 +41,7 @@ module _ {A : Type 0} where
 
   -- "Each stretch of n data and position items gives n/v records rounded up, filled from lane 0, all full but perhaps
   -- the last. An end sets TLAST on the last record of its stretch; a stretch with only an end gives one all-null TLAST
-  -- record." So there are (n - 1)/v records before the last one, and n = 0 gives the last one alone.
+  -- record." So there are (n - 1)/v records before the last one, and n = 0 (where 0 - 1 is 0) gives the last one alone.
   abbrev pub packStretch : ℕ → Stretch A → List (Transfer A)
   packStretch v s = spread ((length (s .bytes) - 1) / v) v (s .pair) (map some (s .bytes)) (s .ended)
 
@@ -73,8 +73,9 @@ module _ {A : Type 0} where
   held (t ∷ []) = cond (t .last) [] (t ∷ [])
   held (t ∷ u ∷ ts) = held (u ∷ ts)
 
-  -- Demand 3's condition on the last item before a division and the first item after it: "no item before it, or none
-  -- after it, or its last item before it is a packet end, or its first item after it has another TID or TDEST".
+  -- Demand 3: "if at each division the whole has no item before it, or none after it, or its last item before it is a
+  -- packet end, or its first item after it has another TID or TDEST than that last item". The last item before a division
+  -- and the first item after it, where there are such:
   abbrev pub apart : Option (Item A) → Option (Item A) → Bool
   apart none j = true
   apart (some i) none = true

@@ -1,7 +1,7 @@
--- What is proved of the definitions, a statement each, in the words of paper 01. Demand 3 has a page of its own. The
--- proofs are in proofs/Promises, under the same names in small letters.
+-- What is proved of the definitions, a statement each. Words in quotes are paper 01's or, where it is said, a demand's.
+-- Demand 3 has a page of its own. The proofs are in proofs/Promises.
 use mathlib.Core.Path.{_≡_}
-use mathlib.Core.Bool.{Bool, true, false, not, _||_}
+use mathlib.Core.Bool.{Bool, true, false, not, _&&_, _||_}
 use mathlib.Core.List.{List, [], _∷_, _++_, map}
 use mathlib.Core.Option.{Option, none, some}
 use Prim.Native.Nat.{ℕ, zero, suc, _+_, _-_, _*_, _/_, _%_, _≤_, _<_}
@@ -34,7 +34,7 @@ pub record FoundAt (X : Type 0) (cs : List (Check X)) (x : X) : Type 0 where
   pub gives : at .gives ≡ x
   pub earlier : first before ≡ none
 
--- "given exactly when that fault is the first in the stated order"
+-- Demand 1: "given exactly when that fault is the first in the stated order"
 abbrev pub FirstInOrder : Type 1
 FirstInOrder = (X : Type 0) (cs : List (Check X)) (x : X) → (first cs ≡ some x) ↔ FoundAt X cs x
 
@@ -64,7 +64,7 @@ DataOctets = (s : Shape) (xs : List ℕ) (k : ℕ) → HandsOut s xs k
 
 -- ---- repacking
 
--- "Repacking keeps every data byte with its value, every position byte, every packet end, each with its TID and TDEST, in
+-- Demand 2: "Repacking keeps every data byte with its value, every position byte, every packet end, each with its TID and TDEST, in
 -- order, and adds none."
 abbrev pub RepackingKeeps : Type 0
 RepackingKeeps = (s : Shape) (v : ℕ) (xs : List ℕ) → Width v → streamItems (atWidth s v) (packed s v xs) ≡ streamItems s xs
@@ -80,21 +80,30 @@ PackedLength = (s : Shape) (v : ℕ) (xs : List ℕ) → length (packed s v xs) 
 abbrev pub FromLaneZero : ℕ → Transfer Kept → Type 0
 FromLaneZero v t = t .lanes ≡ fitted v (map some (kept (t .lanes)))
 
--- "all full but perhaps the last" of a stretch: a transfer that another one follows is full, or has TLAST, or the one that
--- follows has another pair
+-- whether a transfer keeps a byte in each of v lanes, or in none
 abbrev pub full : ℕ → Transfer Kept → Bool
 full v t = eqb (length (kept (t .lanes))) v
 
+abbrev pub allNull : Transfer Kept → Bool
+allNull t = eqb (length (kept (t .lanes))) 0
+
+-- "all full but perhaps the last" of a stretch, and no needless TLAST-only transfer: a transfer that another one follows
+-- is full and the next one is not all-null, or it has TLAST, or the next one has another pair
 abbrev pub closes : ℕ → Transfer Kept → List (Transfer Kept) → Bool
 closes v t [] = true
-closes v t (u ∷ us) = full v t || t .last || not (samePair (t .pair) (u .pair))
+closes v t (u ∷ us) = (full v t && not (allNull u)) || t .last || not (samePair (t .pair) (u .pair))
 
+-- ".. gives one all-null TLAST record": an all-null transfer stands only for an end
 abbrev pub Packs : ℕ → List (Transfer Kept) → Type 0
 Packs v [] = Unit {0}
-Packs v (t ∷ ts) = FromLaneZero v t × (closes v t ts ≡ true) × Packs v ts
+Packs v (t ∷ ts) = FromLaneZero v t × ((t .last || not (allNull t)) ≡ true) × (closes v t ts ≡ true) × Packs v ts
 
 abbrev pub PackedFull : Type 0
 PackedFull = (v : ℕ) → 0 < v → (is : List (Item Kept)) → Packs v (pack v is)
+
+-- And these properties leave no choice: transfers that have them are the packed form of their items.
+abbrev pub PackedOnly : Type 0
+PackedOnly = (v : ℕ) → 0 < v → (ts : List (Transfer Kept)) → Packs v ts → ts ≡ pack v (items ts)
 
 -- The hold law: once more items follow, the settled transfers of the packed form are certain, and what is held is packed
 -- again with what follows.

@@ -1,0 +1,85 @@
+// The code that knows a record's octets: its size, its header's fields, the faults of a width, a length and a record.
+// Layout knowledge stands here and in stream's Layout only. Functions with a `requires` are for the crates above, which
+// make the test first; the calls of the library are there.
+use stream::Shape;
+ghost use mathlib.Core.Path.{_≡_};
+ghost use Prim.Native.Nat.{ℕ, _≤_, _<_, _^_};
+ghost use lib.ListN.{length};
+ghost use Rattle.stream.specs.Layout.{size, typesOf, anyReserved};
+ghost use Rattle.stream.specs.Checks.{widthCheck, lengthCheck};
+ghost use Rattle.record.specs.Header.{headerOf, headerFault, faultOf};
+
+// The fields of a record before its data.
+pub struct Header {
+    pub flags: u32,
+    pub tid: u8,
+    pub tdest: u8,
+    pub keep: u32,
+    pub strb: u32,
+}
+
+// What is wrong with a transfer record.
+pub enum Fault {
+    Sound,
+    Field,
+    Reserved,
+}
+
+fn wide(x: u8) -> u32
+    ensures { λ r. ⌜ r ≡ x ⌝ }
+{
+    x as u32
+}
+
+// Whether a width is refused.
+pub fn bad_width(w: usize) -> bool
+    ensures { λ r. ⌜ r ≡ widthCheck w .found ⌝ }
+{
+    w == 0 || 16 < w
+}
+
+// The octets of a record. The width has passed its test.
+pub fn record_size(s: Shape) -> usize
+    requires { ⌜ s .width ≤ 16 ⌝ }
+    ensures { λ r. ⌜ r ≡ size s ⌝ }
+{
+    7 + s.width
+}
+
+// Whether the length of an input is refused. The width has passed its test.
+pub fn bad_length(s: Shape, input: &[u8]) -> bool
+    requires { ⌜ s .width ≤ 16 ⌝ }
+    ensures { λ r. ⌜ r ≡ lengthCheck s (now (input .entry)) .found ⌝ }
+{
+    65536 < input.len() || input.len() % record_size(s) != 0
+}
+
+// The header of the record at the front of `rec`.
+pub fn read_header(rec: &[u8]) -> Header
+    requires { ⌜ 7 ≤ length (now rec) ⌝ }
+    ensures { λ r. ⌜ r ≡ headerOf (now (rec .entry)) ⌝ }
+{
+    Header {
+        flags: wide(rec[0]),
+        tid: rec[1],
+        tdest: rec[2],
+        keep: wide(rec[3]) + 256 * wide(rec[4]),
+        strb: wide(rec[5]) + 256 * wide(rec[6]),
+    }
+}
+
+// Whether a bit that must be zero is set, where `limit` is the least octet 0 with such a bit.
+pub fn field_fault(h: Header, used: u32, s: Shape) -> bool
+    requires { ⌜ (s .width ≤ 16) × (used ≤ 8) ⌝ }
+    ensures { λ r. ⌜ r ≡ headerFault used s h ⌝ }
+{
+    let lanes = 1u32 << s.width;
+    1u32 << used <= h.flags || 15 < h.tdest || lanes <= h.keep || lanes <= h.strb
+}
+
+// Whether a lane is reserved: TSTRB high where TKEEP is low.
+pub fn reserved(h: Header) -> bool
+    ensures { λ r. ⌜ ((w : ℕ) → h .strb < 2 ^ w → r ≡ anyReserved (typesOf w (h .keep) (h .strb))) ⌝ }
+{
+    h.strb & h.keep != h.strb
+}
