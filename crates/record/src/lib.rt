@@ -26,7 +26,7 @@ pub enum Fault {
 }
 
 fn wide(x: u8) -> u32
-    ensures { λ r. ⌜ r ≡ x ⌝ }
+    ensures { λ r. ⌜ (r ≡ x) × (r < 256) ⌝ }
 {
     x as u32
 }
@@ -35,7 +35,10 @@ fn wide(x: u8) -> u32
 pub fn bad_width(w: usize) -> bool
     ensures { λ r. ⌜ r ≡ widthCheck w .found ⌝ }
 {
-    w == 0 || 16 < w
+    if w == 0 {
+        return true;
+    }
+    16 < w
 }
 
 // The octets of a record. The width has passed its test.
@@ -51,7 +54,11 @@ pub fn bad_length(s: Shape, input: &[u8]) -> bool
     requires { ⌜ s .width ≤ 16 ⌝ }
     ensures { λ r. ⌜ r ≡ lengthCheck s (now (input .entry)) .found ⌝ }
 {
-    65536 < input.len() || input.len() % record_size(s) != 0
+    let n = input.len();
+    if 65536 < n {
+        return true;
+    }
+    n % record_size(s) != 0
 }
 
 // The header of the record at the front of `rec`.
@@ -68,13 +75,22 @@ pub fn read_header(rec: &[u8]) -> Header
     }
 }
 
-// Whether a bit that must be zero is set, where `limit` is the least octet 0 with such a bit.
+// Whether a bit that must be zero is set, or TDEST is above 15; `used` flags of octet 0 are in use.
 pub fn field_fault(h: Header, used: u32, s: Shape) -> bool
     requires { ⌜ (s .width ≤ 16) × (used ≤ 8) ⌝ }
     ensures { λ r. ⌜ r ≡ headerFault used s h ⌝ }
 {
-    let lanes = 1u32 << s.width;
-    1u32 << used <= h.flags || 15 < h.tdest || lanes <= h.keep || lanes <= h.strb
+    let limit = 1u32 << s.width;
+    if 1u32 << used <= h.flags {
+        return true;
+    }
+    if 15 < h.tdest {
+        return true;
+    }
+    if limit <= h.keep {
+        return true;
+    }
+    limit <= h.strb
 }
 
 // Whether a lane is reserved: TSTRB high where TKEEP is low.
