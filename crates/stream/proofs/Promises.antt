@@ -68,7 +68,7 @@ byteTypes s r x h = types-at (s .width) x (tkeep r) (tstrb r) h
 -- ---- data octets of a record
 
 -- a record that is there lies whole in the take
-record-there : (s : Shape) (xs : List ℕ) (k : ℕ) → k < recordCount s xs → k * size s + size s ≤ length xs
+pub record-there : (s : Shape) (xs : List ℕ) (k : ℕ) → k < recordCount s xs → k * size s + size s ≤ length xs
 record-there s xs k h =
     omega (arith, suc-mul k (size s), mul-le-mul-right (size s) h, div-mul-le-self (length xs) (size s))
 
@@ -78,7 +78,7 @@ data-long s xs k h =
     length-take-le (s .width) (drop 7 (drop (k * size s) xs))
     (omega (arith, length-drop 7 (drop (k * size s) xs), length-drop (k * size s) xs, record-there s xs k h))
 
-data-there : (s : Shape) (xs : List ℕ) (k : ℕ) → dataRefusal s xs k ≡ none → WidthFits (s .width) × (k < recordCount s xs)
+pub data-there : (s : Shape) (xs : List ℕ) (k : ℕ) → dataRefusal s xs k ≡ none → WidthFits (s .width) × (k < recordCount s xs)
 data-there s xs k e =
     let w = first-none (widthCheck (s .width)) (lengthCheck s xs ∷ indexCheck s xs k ∷ []) e in
     let l = first-none (lengthCheck s xs) (indexCheck s xs k ∷ []) (w .1) in

@@ -1,6 +1,7 @@
 -- What each stream call answers, over all its arguments, and every octet of lent memory afterwards (paper 01, 'Refusal
 -- numbers', 'How much each answer must say'). Order on streams: 1, 6, 2, 13, then records in order with 3 before 4 in
 -- each, then 14, 5. Each call has its list of checks in that order; the contracts of the calls cite these definitions.
+use mathlib.Core.Path.{_≡_}
 use mathlib.Core.Bool.{Bool}
 use mathlib.Core.List.{List, [], _∷_, _++_, map}
 use mathlib.Core.Option.{Option, none, some}
@@ -154,3 +155,34 @@ writtenValues (NotWritten r) = refusalValues r
 abbrev pub lookupValues : Lookup → Values
 lookupValues Present = values 0 0 0 0
 lookupValues (NoPart r) = refusalValues r
+
+-- ---- the contracts of the calls: the answer is the definition's, with 01's numbers for it, and so is every octet of lent
+-- memory afterwards
+
+pub record Judged (s : Shape) (capture : List ℕ) (r : Verdict) : Type 0 where
+  pub is : r ≡ judgeAnswer s capture
+  pub says : verdictValues r ≡ verdictValues (judgeAnswer s capture)
+
+pub record LookedUp (s : Shape) (capture : List ℕ) (k : ℕ) (r : Lookup) : Type 0 where
+  pub is : r ≡ dataAnswer s capture k
+  pub says : lookupValues r ≡ lookupValues (dataAnswer s capture k)
+
+pub record Harvested (s : Shape) (capture before after : List ℕ) (r : Written) : Type 0 where
+  pub is : r ≡ harvestAnswer s capture (length before)
+  pub says : writtenValues r ≡ writtenValues (harvestAnswer s capture (length before))
+  pub leaves : after ≡ harvestAfter s capture before
+
+pub record FilledIn (level : Bool) (s : Shape) (before after : List ℕ) (r : Written) : Type 0 where
+  pub is : r ≡ fillAnswer s before
+  pub says : writtenValues r ≡ writtenValues (fillAnswer s before)
+  pub leaves : after ≡ fillAfter level s before
+
+pub record Repacked (s : Shape) (v : ℕ) (input before after : List ℕ) (r : Written) : Type 0 where
+  pub is : r ≡ repackAnswer s v input (length before)
+  pub says : writtenValues r ≡ writtenValues (repackAnswer s v input (length before))
+  pub leaves : after ≡ repackAfter s v input before
+
+pub record Downsized (s : Shape) (v : ℕ) (input before after : List ℕ) (r : Written) : Type 0 where
+  pub is : r ≡ downsizeAnswer s v input (length before)
+  pub says : writtenValues r ≡ writtenValues (downsizeAnswer s v input (length before))
+  pub leaves : after ≡ downsizeAfter s v input before

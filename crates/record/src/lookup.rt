@@ -1,0 +1,38 @@
+// The data octets of record k of a take, handed out as that very part of the caller's slice, and the refusal where there
+// is no such part. Two calls of one definition, since no enum can hold a part.
+use crate::bad_length;
+use crate::bad_width;
+use crate::record_size;
+use refusal::Refusal;
+use stream::Lookup;
+use stream::Shape;
+ghost use mathlib.Core.Path.{_≡_};
+ghost use Rattle.stream.specs.Answers.{LookedUp, dataPart};
+
+// Whether the take has record k.
+pub fn find_data(s: Shape, capture: &[u8], k: usize) -> Lookup
+    ensures { λ r. ⌜ LookedUp s (now (capture .entry)) k r ⌝ }
+{
+    if bad_width(s.width) {
+        return Lookup::Refused(Refusal::Width);
+    }
+    if bad_length(s, capture) {
+        return Lookup::Refused(Refusal::Length);
+    }
+    if capture.len() / record_size(s) <= k {
+        return Lookup::Refused(Refusal::Index);
+    }
+    Lookup::Present
+}
+
+// The data octets of record k: a part of the take, or an empty part where find_data refuses.
+pub fn data_octets(s: Shape, capture: &[u8], k: usize) -> &[u8]
+    ensures { λ r. ⌜ now r ≡ dataPart s (now (capture .entry)) k ⌝ }
+{
+    let Lookup::Present = find_data(s, capture, k) else {
+        return &capture[0..0];
+    };
+    let start = k * record_size(s) + 7;
+    let end = start + s.width;
+    &capture[start..end]
+}
