@@ -1,0 +1,3 @@
+pub mod Differ
+pub mod Rules
+pub mod Steps

@@ -1,0 +1,144 @@
+// Judging a take of cycle records against the handshake rules. A record's octets are read by the crate record; what the
+// rules say is in stream's Handshake.
+use record::Header;
+use refusal::Refusal;
+use stream::Shape;
+use stream::Verdict;
+ghost use mathlib.Core.Path.{_≡_};
+ghost use mathlib.Core.List.{List};
+ghost use Prim.Native.Nat.{ℕ, _+_, _≤_, _<_, _^_, _%_};
+ghost use lib.ListN.{length};
+ghost use Rattle.record.specs.Header.{headerOf};
+ghost use mathlib.Core.Bool.{_&&_, not, true};
+ghost use mathlib.Core.Option.{some};
+ghost use Rattle.stream.specs.Layout.{size, records, bit, bitOf};
+ghost use Rattle.stream.specs.Handshake.{waited, transferred, waits, differs};
+ghost use Rattle.stream.specs.Answers.{Judged};
+ghost use Rattle.handshake.specs.Scan.{beforeOf, lowestRule, stepOf, verdictOf, scanned, start, CycleAt, StepAt};
+
+// What is known after some cycles: the transfers so far, the first finding (rule 0: none yet), whether the last waited.
+pub struct Scan {
+    pub count: usize,
+    pub cycle: usize,
+    pub rule: u32,
+    pub waited: bool,
+}
+
+// One cycle more, or a cycle with a bit that must be zero.
+pub enum Step {
+    Bad,
+    Next(Scan),
+}
+
+// Whether some octet from 1 on, or TLAST, differs between two records of one size.
+fn changed(prev: &[u8], rec: &[u8]) -> bool
+    requires { ⌜ (length (now prev) ≡ length (now rec)) × (0 < length (now rec)) ⌝ }
+    ensures { λ r. ⌜ r ≡ differs (some (now (prev .entry))) (now (rec .entry)) ⌝ }
+{
+    if prev[0] % 2 != rec[0] % 2 {
+        return true;
+    }
+    let mut i = 1;
+    while i < rec.len() {
+        if prev[i] != rec[i] {
+            return true;
+        }
+        i += 1;
+    }
+    false
+}
+
+// Whether a cycle with these flags waits.
+fn waiting(flags: u32) -> bool
+    ensures { λ r. ⌜ r ≡ (bit 3 flags && bit 1 flags && not (bit 2 flags)) ⌝ }
+{
+    if flags / 8 % 2 != 1 {
+        return false;
+    }
+    if flags / 2 % 2 != 1 {
+        return false;
+    }
+    flags / 4 % 2 != 1
+}
+
+// The transfers of a cycle with these flags: 1 where all three are high, else 0.
+fn transfers(flags: u32) -> usize
+    ensures { λ r. ⌜ r ≡ bitOf (bit 3 flags && bit 1 flags && bit 2 flags) ⌝ }
+{
+    if flags / 8 % 2 != 1 {
+        return 0;
+    }
+    if flags / 2 % 2 != 1 {
+        return 0;
+    }
+    if flags / 4 % 2 != 1 {
+        return 0;
+    }
+    1
+}
+
+// Whether the record before waited and this one differs from it.
+fn moved(waited: bool, prev: &[u8], rec: &[u8]) -> bool
+    requires { ⌜ (waited ≡ true → (length (now prev) ≡ length (now rec)) × (0 < length (now rec))) ⌝ }
+    ensures { λ r. ⌜ r ≡ (waited && differs (some (now (prev .entry))) (now (rec .entry))) ⌝ }
+{
+    if waited {
+        return changed(prev, rec);
+    }
+    false
+}
+
+// The lowest rule that the record breaks, or 0. `prev` is the record before it, and read only where that one waited.
+fn rule_of(s: Shape, h: Header, waited: bool, prev: &[u8], rec: &[u8], k: usize) -> u32
+    requires { ⌜ CycleAt s h waited (now prev) (now rec) k ⌝ }
+    ensures { λ r. ⌜ r ≡ lowestRule s (beforeOf k (now (prev .entry))) (now (rec .entry)) ⌝ }
+{
+    let flags = h.flags;
+    if flags / 8 % 2 != 1 {
+        if flags / 2 % 2 == 1 {
+            return 1;
+        }
+        return 0;
+    }
+    if flags / 2 % 2 != 1 {
+        if waited {
+            return 2;
+        }
+        return 0;
+    }
+    if moved(waited, prev, rec) {
+        return 3;
+    }
+    if record::reserved(h) {
+        return 4;
+    }
+    0
+}
+
+// One cycle: `rec` is its record, and `prev` the record before it.
+fn advance(s: Shape, st: Scan, prev: &[u8], rec: &[u8], k: usize) -> Step
+    requires { ⌜ StepAt s st (now prev) (now rec) k ⌝ }
+    ensures { λ r. ⌜ r ≡ stepOf s (beforeOf k (now (prev .entry))) k (now (rec .entry)) st ⌝ }
+{
+    let h = record::read_header(rec);
+    if record::field_fault(h, 4, s) {
+        return Step::Bad;
+    }
+    let count = st.count + transfers(h.flags);
+    let waited = waiting(h.flags);
+    if st.rule != 0 {
+        return Step::Next(Scan {
+            count,
+            cycle: st.cycle,
+            rule: st.rule,
+            waited,
+        });
+    }
+    let rule = rule_of(s, h, st.waited, prev, rec, k);
+    Step::Next(Scan {
+        count,
+        cycle: k,
+        rule,
+        waited,
+    })
+}
