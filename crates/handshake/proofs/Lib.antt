@@ -1,3 +1,4 @@
 pub mod Differ
 pub mod Rules
 pub mod Steps
+pub mod Turns

@@ -24,7 +24,7 @@ strb-low s r e =
     (neither (leb (2 ^ cycleFlags) (flags r) || ltb 15 (pairOf r .tdest) || leb (2 ^ s .width) (tkeep r)) (leb (2 ^ s .width) (tstrb r)) e .1)
 
 left-rules : (t d r : Bool)
-  → _≡_ {A = ℕ} (cond (t && true && not true) 2 (cond (t && true && true && d) 3 (cond (true && true && r) 4 0))) (cond (t && d) 3 (cond r 4 0))
+    → _≡_ {A = ℕ} (cond (t && true && not true) 2 (cond (t && true && true && d) 3 (cond (true && true && r) 4 0))) (cond (t && d) 3 (cond r 4 0))
 left-rules true d r = refl
 left-rules false d r = refl
 
@@ -62,7 +62,7 @@ module _ (s : Shape) (h : Header) (w : Bool) (prev rec : List ℕ) (k : ℕ) (c 
 
   -- with ARESETn and TVALID high, R3 and R4 are left
   both-high : h .flags / 8 % 2 ≡ 1 → h .flags / 2 % 2 ≡ 1
-    → lowestRule s (beforeOf k prev) rec ≡ cond (w && differs (some prev) rec) 3 (cond (anyReserved (laneTypes s rec)) 4 0)
+      → lowestRule s (beforeOf k prev) rec ≡ cond (w && differs (some prev) rec) 3 (cond (anyReserved (laneTypes s rec)) 4 0)
   both-high a v =
       rw (high 8 a, high 2 v, moved-is) (left-rules (waited (beforeOf k prev)) (differs (beforeOf k prev) rec) (anyReserved (laneTypes s rec)))
 
@@ -70,7 +70,7 @@ module _ (s : Shape) (h : Header) (w : Bool) (prev rec : List ℕ) (k : ℕ) (c 
   rule-3 a v m = sym (both-high a v ∙ ap (λ (t : Bool). cond t 3 (cond (anyReserved (laneTypes s rec)) 4 0)) m)
 
   pub rule-4 : h .flags / 8 % 2 ≡ 1 → h .flags / 2 % 2 ≡ 1 → (w && differs (some prev) rec) ≡ false → (r : Bool)
-    → anyReserved (laneTypes s rec) ≡ r → cond r 4 0 ≡ lowestRule s (beforeOf k prev) rec
+      → anyReserved (laneTypes s rec) ≡ r → cond r 4 0 ≡ lowestRule s (beforeOf k prev) rec
   rule-4 a v m r e = sym (both-high a v ∙ ap₂ (λ (t u : Bool). cond t 3 (cond u 4 0)) m e)
 
   -- the code's mask finds a reserved lane just where the record has one

@@ -38,9 +38,9 @@ module _ (s : Shape) (b : Option (List ℕ)) (k : ℕ) (c : List ℕ) (st : Scan
   step-bad e = rw e refl
 
   step-next : (n cy ru : ℕ) (w : Bool) → fieldFault cycleFlags s c ≡ false
-    → n ≡ bitOf (bit 3 (h .flags) && bit 1 (h .flags) && bit 2 (h .flags)) → w ≡ (bit 3 (h .flags) && bit 1 (h .flags) && not (bit 2 (h .flags)))
-    → cy ≡ cond (eqb (st .rule) 0) k (st .cycle) → ru ≡ cond (eqb (st .rule) 0) (lowestRule s b c) (st .rule)
-    → Next (record { count = st .count + n; cycle = cy; rule = ru; waited = w }) ≡ stepOf s b k c st
+      → n ≡ bitOf (bit 3 (h .flags) && bit 1 (h .flags) && bit 2 (h .flags)) → w ≡ (bit 3 (h .flags) && bit 1 (h .flags) && not (bit 2 (h .flags)))
+      → cy ≡ cond (eqb (st .rule) 0) k (st .cycle) → ru ≡ cond (eqb (st .rule) 0) (lowestRule s b c) (st .rule)
+      → Next (record { count = st .count + n; cycle = cy; rule = ru; waited = w }) ≡ stepOf s b k c st
   step-next n cy ru w f p q x y =
       rw f
       (let counted = p ∙ ap (λ (g : Header). bitOf (bit 3 (g .flags) && bit 1 (g .flags) && bit 2 (g .flags))) is in
@@ -49,12 +49,12 @@ module _ (s : Shape) (b : Option (List ℕ)) (k : ℕ) (c : List ℕ) (st : Scan
 
   -- with a finding already there
   pub step-found : (n : ℕ) (w : Bool) → fieldFault cycleFlags s c ≡ false
-    → n ≡ bitOf (bit 3 (h .flags) && bit 1 (h .flags) && bit 2 (h .flags)) → w ≡ (bit 3 (h .flags) && bit 1 (h .flags) && not (bit 2 (h .flags)))
-    → (st .rule ≡ 0 → ⊥) → Next (record { count = st .count + n; cycle = st .cycle; rule = st .rule; waited = w }) ≡ stepOf s b k c st
+      → n ≡ bitOf (bit 3 (h .flags) && bit 1 (h .flags) && bit 2 (h .flags)) → w ≡ (bit 3 (h .flags) && bit 1 (h .flags) && not (bit 2 (h .flags)))
+      → (st .rule ≡ 0 → ⊥) → Next (record { count = st .count + n; cycle = st .cycle; rule = st .rule; waited = w }) ≡ stepOf s b k c st
   step-found n w f p q r = let no = ne-eqb (st .rule) 0 r in step-next n (st .cycle) (st .rule) w f p q (rw no refl) (rw no refl)
 
   -- with none yet
   pub step-open : (n ru : ℕ) (w : Bool) → fieldFault cycleFlags s c ≡ false
-    → n ≡ bitOf (bit 3 (h .flags) && bit 1 (h .flags) && bit 2 (h .flags)) → w ≡ (bit 3 (h .flags) && bit 1 (h .flags) && not (bit 2 (h .flags)))
-    → st .rule ≡ 0 → ru ≡ lowestRule s b c → Next (record { count = st .count + n; cycle = k; rule = ru; waited = w }) ≡ stepOf s b k c st
+      → n ≡ bitOf (bit 3 (h .flags) && bit 1 (h .flags) && bit 2 (h .flags)) → w ≡ (bit 3 (h .flags) && bit 1 (h .flags) && not (bit 2 (h .flags)))
+      → st .rule ≡ 0 → ru ≡ lowestRule s b c → Next (record { count = st .count + n; cycle = k; rule = ru; waited = w }) ≡ stepOf s b k c st
   step-open n ru w f p q r l = let yes' = eq-eqb (st .rule) 0 r in step-next n k ru w f p q (rw yes' refl) (rw yes' l)

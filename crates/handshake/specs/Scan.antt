@@ -2,15 +2,15 @@
 use mathlib.Core.Bool.{Bool, true, false, cond}
 use mathlib.Core.List.{List, [], _∷_}
 use mathlib.Core.Option.{Option, none, some}
-use Prim.Native.Nat.{ℕ, zero, suc, _+_, _≤_}
+use Prim.Native.Nat.{ℕ, zero, suc, _+_, _-_, _%_, _≤_}
 use mathlib.Core.Path.{_≡_}
 use lib.Dec.{eqb}
-use lib.ListN.{length}
+use lib.ListN.{length, take, drop}
 use Rattle.refusal.specs.declared.Refusal.the-variants.{Field}
 use Rattle.stream.specs.declared.Shape.{Shape}
 use Rattle.stream.specs.declared.Verdict.{Verdict}
 use Rattle.stream.specs.declared.Verdict.the-variants.{Clean, Broken, Refused}
-use Rattle.stream.specs.Layout.{bitOf, size}
+use Rattle.stream.specs.Layout.{bitOf, size, records}
 use Rattle.stream.specs.Checks.{fieldFault, cycleFlags}
 use Rattle.stream.specs.Handshake.{waits, waited, r1, r2, r3, r4, transferred}
 use Rattle.record.specs.declared.Header.{Header}
@@ -69,3 +69,21 @@ pub record StepAt (s : Shape) (st : Scan) (prev rec : List ℕ) (k : ℕ) : Type
   pub waits : st .waited ≡ waited (beforeOf k prev)
   pub whole : length rec ≡ size s
   pub before : st .waited ≡ true → length prev ≡ length rec
+
+-- a take whose width and length have passed their tests
+pub record Passed (s : Shape) (xs : List ℕ) : Type 0 where
+  pub width : s .width ≤ 16
+  pub whole : length xs % size s ≡ 0
+  pub short : length xs ≤ 65536
+
+-- what is known at the start of each turn: at `at` begins the record of cycle k, the record before it begins at `from`,
+-- and the verdict on what is known and the cycles left is the verdict on all
+pub record Standing (s : Shape) (xs : List ℕ) (from at k : ℕ) (st : Scan) : Type 0 where
+  pub within : at ≤ length xs
+  pub whole : length (drop at xs) % size s ≡ 0
+  pub behind : from ≤ at
+  pub count : st .count ≤ k
+  pub few : k ≤ at
+  pub waits : st .waited ≡ waited (beforeOf k (take (at - from) (drop from xs)))
+  pub before : st .waited ≡ true → at - from ≡ size s
+  pub same : scanned s (beforeOf k (take (at - from) (drop from xs))) k (records s (drop at xs)) st ≡ scanned s none 0 (records s xs) start

@@ -10,11 +10,11 @@ ghost use Prim.Native.Nat.{ℕ, _+_, _≤_, _<_, _^_, _%_};
 ghost use lib.ListN.{length};
 ghost use Rattle.record.specs.Header.{headerOf};
 ghost use mathlib.Core.Bool.{_&&_, not, true};
-ghost use mathlib.Core.Option.{some};
+ghost use mathlib.Core.Option.{none, some};
 ghost use Rattle.stream.specs.Layout.{size, records, bit, bitOf};
 ghost use Rattle.stream.specs.Handshake.{waited, transferred, waits, differs};
 ghost use Rattle.stream.specs.Answers.{Judged};
-ghost use Rattle.handshake.specs.Scan.{beforeOf, lowestRule, stepOf, verdictOf, scanned, start, CycleAt, StepAt};
+ghost use Rattle.handshake.specs.Scan.{beforeOf, lowestRule, stepOf, verdictOf, scanned, start, CycleAt, StepAt, Passed};
 
 // What is known after some cycles: the transfers so far, the first finding (rule 0: none yet), whether the last waited.
 pub struct Scan {
@@ -141,4 +141,56 @@ fn advance(s: Shape, st: Scan, prev: &[u8], rec: &[u8], k: usize) -> Step
         rule,
         waited,
     })
+}
+
+// The verdict on what is known after the last cycle.
+fn conclude(st: Scan) -> Verdict
+    ensures { λ r. ⌜ r ≡ verdictOf st ⌝ }
+{
+    if st.rule == 0 {
+        return Verdict::Clean(st.count);
+    }
+    Verdict::Broken(st.cycle, st.rule)
+}
+
+// Judges the cycles of a take whose width and length have passed their tests.
+fn judge_cycles(s: Shape, capture: &[u8]) -> Verdict
+    requires { ⌜ Passed s (now capture) ⌝ }
+    ensures { λ r. ⌜ r ≡ scanned s none 0 (records s (now (capture .entry))) start ⌝ }
+{
+    let size = record::record_size(s);
+    let mut st = Scan {
+        count: 0,
+        cycle: 0,
+        rule: 0,
+        waited: false,
+    };
+    let mut from = 0;
+    let mut at = 0;
+    let mut k = 0;
+    while at < capture.len() {
+        let next = at + size;
+        let Step::Next(more) = advance(s, st, &capture[from..at], &capture[at..next], k) else {
+            return Verdict::Refused(Refusal::Field(k));
+        };
+        st = more;
+        from = at;
+        at = next;
+        k += 1;
+    }
+    conclude(st)
+}
+
+// Judges a take of cycle records: clean with the count of its transfers, or broken with the earliest cycle that breaks a
+// rule and the lowest rule it breaks, or refused.
+pub fn judge(s: Shape, capture: &[u8]) -> Verdict
+    ensures { λ r. ⌜ Judged s (now (capture .entry)) r ⌝ }
+{
+    if record::bad_width(s.width) {
+        return Verdict::Refused(Refusal::Width);
+    }
+    if record::bad_length(s, capture) {
+        return Verdict::Refused(Refusal::Length);
+    }
+    judge_cycles(s, capture)
 }

@@ -5,7 +5,9 @@ use mathlib.Core.Bool.{Bool, true, false}
 use mathlib.Core.List.{List, [], _∷_, _++_, map, append-assoc, append-nil}
 use mathlib.Core.Option.{Option, none, some}
 use Prim.Native.Nat.{ℕ, zero, suc, _+_, _-_, _*_, _/_, _%_, _≤_, _<_}
-use native.Mathlib.Nat.{zero-add, suc-add, div-mul-le-self, suc-mul, zero-mul, div-add-mod', div-add-mod, mul-div-cancel, zero-div, mul-add-div-right, mul-mod-left}
+use native.Mathlib.Numerals.{add-one}
+use native.Mathlib.Nat.{div-eq-sub-div, mod-eq-sub-mod, mod-eq-of-lt, zero-add, suc-add, div-mul-le-self, suc-mul, zero-mul, div-add-mod', div-add-mod, mul-div-cancel, zero-div, mul-add-div-right, mul-mod-left}
+use native.Mathlib.Decide.{decLe}
 use native.Mathlib.Omega.{arith}
 use lib.ListN.{length, take, drop, length-map, length-append, length-drop, take-append-drop}
 use borrow.Author.Tests.{eq-eqb, ne-eqb}
@@ -74,6 +76,26 @@ records-append s xs ys h =
     (ap (λ (n : ℕ). n / size s) (length-append xs ys ∙ ap (λ (n : ℕ). n + length ys) (whole-count s xs h))
     ∙ mul-add-div-right (size-pos s) (recordCount s xs) (length ys))
     ∙ pieces-append (size s) (recordCount s xs) (recordCount s ys) xs ys (whole-count s xs h)
+
+whole-fits : (n z : ℕ) → n % z ≡ 0 → 0 < n → z ≤ n
+whole-fits n z w h = elim (decLe z n) [ yes p ↦ p | no p ↦ let short : n < z = omega arith in absurd (omega (arith, mod-eq-of-lt short)) ]
+
+-- the first of the whole records, and the others
+pub record FirstRecord (s : Shape) (xs : List ℕ) : Type 0 where
+  pub fits : size s ≤ length xs
+  pub is : records s xs ≡ take (size s) xs ∷ records s (drop (size s) xs)
+  pub whole : length (drop (size s) xs) % size s ≡ 0
+
+pub first-record : (s : Shape) (xs : List ℕ) → length xs % size s ≡ 0 → 0 < length xs → FirstRecord s xs
+first-record s xs w h =
+    let fits : size s ≤ length xs = whole-fits (length xs) (size s) w h in
+    record {
+      fits = fits;
+      is =
+          ap (λ (n : ℕ). pieces n (size s) xs)
+          (div-eq-sub-div (size-pos s) fits ∙ add-one ((length xs - size s) / size s) ∙ ap (λ (n : ℕ). suc (n / size s)) (sym (length-drop (size s) xs)));
+      whole = rw (length-drop (size s) xs) (sym (mod-eq-sub-mod fits) ∙ w);
+    }
 
 -- whole records, joined again, are the stream
 pub joined-records : (s : Shape) (xs : List ℕ) → length xs % size s ≡ 0 → joined (records s xs) ≡ xs

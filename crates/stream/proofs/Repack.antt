@@ -71,11 +71,15 @@ of-repacks s v xs room h =
     (none-append (transferChecks s 0 (records s xs)) (roomCheck (packed s v xs) room ∷ []) (h .input .faultless)
     (none-first (roomCheck (packed s v xs) room) [] (le-ltb room (length (packed s v xs)) (h .fits)) refl))))
 
--- the input of an accepted call is a whole number of records, and no longer than a take
+-- what the check of a length lets through: a whole number of records, no longer than a take
+pub length-fits : (s : Shape) (xs : List ℕ) → lengthCheck s xs .found ≡ false → (length xs ≤ captureMost) × (length xs % size s ≡ 0)
+length-fits s xs e =
+    let h = neither (ltb captureMost (length xs)) (not (eqb (length xs % size s) 0)) e in
+    (ltb-false captureMost (length xs) (h .0), eqb-true (length xs % size s) 0 (not-false (eqb (length xs % size s) 0) (h .1)))
+
+-- the input of an accepted call is a whole number of records
 pub takes-whole : (s : Shape) (xs : List ℕ) → Takes s xs → length xs % size s ≡ 0
-takes-whole s xs h =
-    eqb-true (length xs % size s) 0
-    (not-false (eqb (length xs % size s) 0) (neither (ltb captureMost (length xs)) (not (eqb (length xs % size s) 0)) (h .length) .1))
+takes-whole s xs h = length-fits s xs (h .length) .1
 
 -- ---- answers
 

@@ -29,13 +29,13 @@ returns-2 : tie.Need-returns-2
 returns-2 c = step-found (c .before .before .before .before .before .before .before .before .before .before .args .s) (beforeOf (c .before .before .before .before .before .before .before .before .before .before .args .k) (c .before .before .before .before .before .before .before .before .before .before .args .prev .now)) (c .before .before .before .before .before .before .before .before .before .before .args .k) (c .before .before .before .before .before .before .before .before .before .before .args .rec .now) (c .before .before .before .before .before .before .before .before .before .before .args .st) (c .before .before .before .before .before .before .before .read-header .result) (c .before .before .before .before .before .before .before .read-header .ensures) (c .before .before .before .before .transfers .result) (c .before .before .waiting .result) (fault-is (c .before .before .before .before .before .before .before .before .before .before .args .s) (beforeOf (c .before .before .before .before .before .before .before .before .before .before .args .k) (c .before .before .before .before .before .before .before .before .before .before .args .prev .now)) (c .before .before .before .before .before .before .before .before .before .before .args .k) (c .before .before .before .before .before .before .before .before .before .before .args .rec .now) (c .before .before .before .before .before .before .before .before .before .before .args .st) (c .before .before .before .before .before .before .before .read-header .result) (c .before .before .before .before .before .before .before .read-header .ensures) (c .before .before .before .before .before .before .field-fault .result) false (c .before .before .before .before .before .before .field-fault .ensures) (c .before .before .before .before .before .if1 .left)) (c .before .before .before .before .transfers .ensures) (c .before .before .waiting .ensures) (c .if2 .taken)
 
 rule-of-requires : tie.Need-rule-of-requires
-rule-of-requires c κs = record
-    { header = c .before .before .before .before .before .before .before .read-header .ensures
-    ; sound = (fault-is (c .before .before .before .before .before .before .before .before .before .before .args .s) (beforeOf (c .before .before .before .before .before .before .before .before .before .before .args .k) (c .before .before .before .before .before .before .before .before .before .before .args .prev .now)) (c .before .before .before .before .before .before .before .before .before .before .args .k) (c .before .before .before .before .before .before .before .before .before .before .args .rec .now) (c .before .before .before .before .before .before .before .before .before .before .args .st) (c .before .before .before .before .before .before .before .read-header .result) (c .before .before .before .before .before .before .before .read-header .ensures) (c .before .before .before .before .before .before .field-fault .result) false (c .before .before .before .before .before .before .field-fault .ensures) (c .before .before .before .before .before .if1 .left))
-    ; waits = c .before .before .before .before .before .before .before .before .before .before .pre .waits
-    ; whole = c .before .before .before .before .before .before .before .before .before .before .pre .whole
-    ; before = c .before .before .before .before .before .before .before .before .before .before .pre .before
-    }
+rule-of-requires c κs = record {
+  header = c .before .before .before .before .before .before .before .read-header .ensures;
+  sound = (fault-is (c .before .before .before .before .before .before .before .before .before .before .args .s) (beforeOf (c .before .before .before .before .before .before .before .before .before .before .args .k) (c .before .before .before .before .before .before .before .before .before .before .args .prev .now)) (c .before .before .before .before .before .before .before .before .before .before .args .k) (c .before .before .before .before .before .before .before .before .before .before .args .rec .now) (c .before .before .before .before .before .before .before .before .before .before .args .st) (c .before .before .before .before .before .before .before .read-header .result) (c .before .before .before .before .before .before .before .read-header .ensures) (c .before .before .before .before .before .before .field-fault .result) false (c .before .before .before .before .before .before .field-fault .ensures) (c .before .before .before .before .before .if1 .left));
+  waits = c .before .before .before .before .before .before .before .before .before .before .pre .waits;
+  whole = c .before .before .before .before .before .before .before .before .before .before .pre .whole;
+  before = c .before .before .before .before .before .before .before .before .before .before .pre .before;
+}
 
 returns-3 : tie.Need-returns-3
 returns-3 c = step-open (c .before .before .before .before .before .before .before .before .before .before .before .args .s) (beforeOf (c .before .before .before .before .before .before .before .before .before .before .before .args .k) (c .before .before .before .before .before .before .before .before .before .before .before .args .prev .now)) (c .before .before .before .before .before .before .before .before .before .before .before .args .k) (c .before .before .before .before .before .before .before .before .before .before .before .args .rec .now) (c .before .before .before .before .before .before .before .before .before .before .before .args .st) (c .before .before .before .before .before .before .before .before .read-header .result) (c .before .before .before .before .before .before .before .before .read-header .ensures) (c .before .before .before .before .before .transfers .result) (c .rule-of .result) (c .before .before .before .waiting .result) (fault-is (c .before .before .before .before .before .before .before .before .before .before .before .args .s) (beforeOf (c .before .before .before .before .before .before .before .before .before .before .before .args .k) (c .before .before .before .before .before .before .before .before .before .before .before .args .prev .now)) (c .before .before .before .before .before .before .before .before .before .before .before .args .k) (c .before .before .before .before .before .before .before .before .before .before .before .args .rec .now) (c .before .before .before .before .before .before .before .before .before .before .before .args .st) (c .before .before .before .before .before .before .before .before .read-header .result) (c .before .before .before .before .before .before .before .before .read-header .ensures) (c .before .before .before .before .before .before .before .field-fault .result) false (c .before .before .before .before .before .before .before .field-fault .ensures) (c .before .before .before .before .before .before .if1 .left)) (c .before .before .before .before .before .transfers .ensures) (c .before .before .before .waiting .ensures) (c .before .if2 .left) (c .rule-of .ensures)
