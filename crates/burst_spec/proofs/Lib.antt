@@ -1,0 +1,2 @@
+-- The laws of the burst definitions. Read in this order.
+pub mod Cases
