@@ -8,7 +8,7 @@ use Rattle.refusal.specs.declared.Refusal.the-variants.{Bus, Size, Kind, Count,
 use Rattle.burst_spec.specs.declared.Burst.{Burst}
 use Rattle.burst_spec.specs.declared.Kind as kind
 use Rattle.burst_spec.specs.declared.Kind.the-variants.{Fixed, Incr, Wrap, Reserved}
-use Rattle.burst_spec.specs.Address.{beats, bytes, beatAddress, highestByte}
+use Rattle.burst_spec.specs.Address.{beats, bytes, addressBy, highestByte}
 
 -- A check: when it refuses, and with what.
 pub record Check : Type 0 where
@@ -79,8 +79,11 @@ outside s a = not (eqb (a / 4096) (s / 4096))
 abbrev pub beatOutside : ℕ → ℕ → ℕ → Bool
 beatOutside s b a = someBelow (highestByte a b - a + 1) (λ j. outside s (a + j))
 
-unfoldable pub crosses : Burst → Bool
-crosses x = someBelow (beats x) (λ k. beatOutside (x .start) (bytes x) (beatAddress x k))
+unfoldable pub crossesBy : kind.Kind → ℕ → ℕ → ℕ → Bool
+crossesBy m s b n = someBelow n (λ k. beatOutside s b (addressBy m s b n k))
+
+abbrev pub crosses : Burst → Bool
+crosses x = crossesBy (x .kind) (x .start) (bytes x) (beats x)
 
 -- "On bursts: 7 to 12 in order, then 13."
 abbrev pub checks : Burst → List Check
