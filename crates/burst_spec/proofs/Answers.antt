@@ -1,2 +1,98 @@
--- What the answers say: Assumes nothing.
-use mathlib.Core.Bool.{Bool, true, false, not, cond}
+-- When a burst is accepted, and that an answer shows the paper's numbers. Assumes nothing.
+use mathlib.Core.Bool.{Bool, true, false, not}
+use mathlib.Core.List.{List, [], _∷_, _++_}
+use mathlib.Core.Logic.{_↔_}
+use mathlib.Core.Path.{_≡_, refl, sym, ap, _∙_}
+use Prim.Native.Nat.{ℕ, zero, suc, _+_, _≤_, _<_}
+use native.Mathlib.Omega.{arith}
+use borrow.Author.Tests.{not-false}
+use Rattle.refusal.specs.declared.Refusal.{Refusal}
+use Rattle.burst_spec.specs.declared.Burst.{Burst}
+use Rattle.burst_spec.specs.declared.Kind.the-variants.{Reserved}
+use Rattle.burst_spec.specs.declared.Judgement.{Judgement}
+use Rattle.burst_spec.specs.declared.Judgement.the-variants as judged
+use Rattle.burst_spec.specs.declared.BeatAnswer.{BeatAnswer}
+use Rattle.burst_spec.specs.declared.BeatAnswer.the-variants as beat
+use Rattle.burst_spec.specs.declared.StepAnswer.{StepAnswer}
+use Rattle.burst_spec.specs.declared.StepAnswer.the-variants as step
+use Rattle.burst_spec.specs.Address.{beatOf, beatStep}
+use Rattle.burst_spec.specs.Checks.{Check, decided, firstOf, checks, checksOfBeat, checksOfStep}
+use Rattle.burst_spec.specs.Legal.{Legal, Accepted}
+use Rattle.burst_spec.specs.Answers.{kindOf, judgement, beatAnswer, stepAnswer, Row, refusalRow, acceptedRow, judgementShows, beatShows, stepShows, Judges, GivesBeat, GivesStep}
+
+-- what is read off an answer is read off each of its cases
+first-map : {A B : Type 0} (f : A → B) (g : Refusal → A) (cs : List Check) (ok : A)
+    → f (firstOf g cs ok) ≡ firstOf (λ r. f (g r)) cs (f ok)
+first-map f g [] ok = refl
+first-map {A} {B} f g (c ∷ cs) ok = go (c .refuses) (first-map f g cs ok)
+  where
+    go : (t : Bool) → f (firstOf g cs ok) ≡ firstOf (λ r. f (g r)) cs (f ok)
+      → f (decided t (g (c .because)) (firstOf g cs ok)) ≡ decided t (f (g (c .because))) (firstOf (λ r. f (g r)) cs (f ok))
+    go true e = refl
+    go false e = e
+
+-- an answer that is the defined one shows the paper's numbers
+pub judges : (x : Burst) (r : Judgement) → r ≡ judgement x → Judges x r
+judges x r e = record { is = e; shows = ap judgementShows e ∙ first-map judgementShows judged.Refused (checks x) judged.Accepted }
+
+pub gives-beat : (x : Burst) (k : ℕ) (r : BeatAnswer) → r ≡ beatAnswer x k → GivesBeat x k r
+gives-beat x k r e = record { is = e; shows = ap beatShows e ∙ first-map beatShows beat.Refused (checksOfBeat x k) (beat.At (beatOf x k)) }
+
+pub gives-step : (x : Burst) (k : ℕ) (r : StepAnswer) → r ≡ stepAnswer x k → GivesStep x k r
+gives-step x k r e = record { is = e; shows = ap stepShows e ∙ first-map stepShows step.Refused (checksOfStep x k) (step.By (beatStep x k)) }
+
+-- A burst that is judged refused is refused by every call that has its checks first, with the same refusal; and where it is
+-- accepted, the checks that follow decide.
+module _ {A : Type 0} (g : Refusal → A) (ok : A) (ds : List Check) where
+  pub carries-refusal : (cs : List Check) (r : Refusal) → firstOf judged.Refused cs judged.Accepted ≡ judged.Refused r
+    → firstOf g (cs ++ ds) ok ≡ g r
+  carries-refusal [] r e = cc
+  carries-refusal (c ∷ cs) r e = go (c .refuses) (carries-refusal cs r) e
+    where
+      go : (t : Bool) → (firstOf judged.Refused cs judged.Accepted ≡ judged.Refused r → firstOf g (cs ++ ds) ok ≡ g r)
+        → decided t (judged.Refused (c .because)) (firstOf judged.Refused cs judged.Accepted) ≡ judged.Refused r
+        → decided t (g (c .because)) (firstOf g (cs ++ ds) ok) ≡ g r
+      go true rest e = cc
+      go false rest e = rest e
+
+  pub carries-on : (cs : List Check) → firstOf judged.Refused cs judged.Accepted ≡ judged.Accepted
+    → firstOf g (cs ++ ds) ok ≡ firstOf g ds ok
+  carries-on [] e = refl
+  carries-on (c ∷ cs) e = go (c .refuses) (carries-on cs) e
+    where
+      go : (t : Bool) → (firstOf judged.Refused cs judged.Accepted ≡ judged.Accepted → firstOf g (cs ++ ds) ok ≡ firstOf g ds ok)
+        → decided t (judged.Refused (c .because)) (firstOf judged.Refused cs judged.Accepted) ≡ judged.Accepted
+        → decided t (g (c .because)) (firstOf g (cs ++ ds) ok) ≡ firstOf g ds ok
+      go true rest e = cc
+      go false rest e = rest e
+
+passed : (t : Bool) (r : Refusal) (y : Judgement) → decided t (judged.Refused r) y ≡ judged.Accepted → (t ≡ false) × (y ≡ judged.Accepted)
+passed true r y e = let z : _≡_ {A = ℕ} 0 1 = cc in absurd (omega arith)
+passed false r y e = (refl, e)
+
+-- accepted exactly if none of 7 to 12 holds
+pub accepted-exactly : (x : Burst) → (judgement x ≡ judged.Accepted) ↔ Accepted x
+accepted-exactly x = (there, back)
+  where
+    there : judgement x ≡ judged.Accepted → Accepted x
+    there e =
+      let p1 = passed _ _ _ e in
+      let p2 = passed _ _ _ (p1 .1) in
+      let p3 = passed _ _ _ (p2 .1) in
+      let p4 = passed _ _ _ (p3 .1) in
+      let p5 = passed _ _ _ (p4 .1) in
+      let p6 = passed _ _ _ (p5 .1) in
+      record {
+        legal = record { bus = not-false _ (p1 .0); size = p2 .0; kind = p3 .0; count = p4 .0; start = p5 .0 };
+        inside = p6 .0
+      }
+    back : Accepted x → judgement x ≡ judged.Accepted
+    back y =
+      rw (y .legal .bus, y .legal .size, y .legal .kind, y .legal .count, y .legal .start, y .inside)
+
+-- the numbers from 3 on are the reserved kind, and no others
+pub reserved-exactly : (n : ℕ) → (kindOf n ≡ Reserved) ↔ (3 ≤ n)
+reserved-exactly zero = (λ e. let z : _≡_ {A = ℕ} 0 1 = cc in absurd (omega arith), λ h. absurd (omega arith))
+reserved-exactly (suc zero) = (λ e. let z : _≡_ {A = ℕ} 0 1 = cc in absurd (omega arith), λ h. absurd (omega arith))
+reserved-exactly (suc (suc zero)) = (λ e. let z : _≡_ {A = ℕ} 0 1 = cc in absurd (omega arith), λ h. absurd (omega arith))
+reserved-exactly (suc (suc (suc n))) = (λ e. omega arith, λ h. refl)
