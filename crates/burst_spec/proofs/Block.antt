@@ -154,6 +154,10 @@ one-block x y k a l from to = bytes-inside (x .start) (x .size) small (x .kind) 
     small : x .size ≤ 12
     small = omega (arith, known x (y .legal) .narrow, known x (y .legal) .bus .small)
 
+pub address-block : (x : Burst) → Accepted x → (k : ℕ) → k < beats x → beatAddress x k / 4096 ≡ x .start / 4096
+address-block x y k l =
+    one-block x y k (beatAddress x k) l (omega arith) (omega (arith, round-near (beatAddress x k) (bytes x) (pow-pos (x .size)), pow-pos (x .size)))
+
 -- so nothing of it lies beyond the memory that its start lies in, of 2 ^ w bytes
 pub in-memory : (w s a : ℕ) → 12 ≤ w → s < 2 ^ w → a / 4096 ≡ s / 4096 → a < 2 ^ w
 in-memory w s a h l e =

@@ -4,6 +4,7 @@ use mathlib.Core.List.{List, [], _∷_}
 use mathlib.Core.Path.{_≡_, refl, sym, ap, _∙_}
 use Prim.Native.Nat.{ℕ, zero, suc, _+_, _-_, _*_, _/_, _%_, _^_, _≤_, _<_}
 use native.Mathlib.Decide.{decLt}
+use native.Mathlib.Nat.{mul-le-mul-right}
 use native.Mathlib.Omega.{arith}
 use lib.Dec.{leb, ltb, eqb, lit≤}
 use lib.Pow.{pow-pos, pow-lt, pow-mono, pow-add}
@@ -20,12 +21,11 @@ or-false true b e = let z : _≡_ {A = ℕ} 0 1 = cc in absurd (omega arith)
 or-false false b e = (refl, e)
 
 -- a property of every number of a list is one of whatever is among them
-Each : (ℕ → Type 0) → List ℕ → Type 0
+abbrev pub Each : (ℕ → Type 0) → List ℕ → Type 0
 Each P [] = Unit
 Each P (y ∷ ys) = P y × Each P ys
 
-among-each : (P : ℕ → Type 0) (x : ℕ) (ys : List ℕ) → Each P ys → among x ys ≡ true → P x
-unfolding Each
+pub among-each : (P : ℕ → Type 0) (x : ℕ) (ys : List ℕ) → Each P ys → among x ys ≡ true → P x
 among-each P x [] ps e = let z : _≡_ {A = ℕ} 0 1 = cc in absurd (omega arith)
 among-each P x (y ∷ ys) ps e = go (eqb x y) refl (among-each P x ys (ps .1))
   where
@@ -43,14 +43,14 @@ upTo : (n log : ℕ) → log ≤ n → UpTo n (2 ^ log)
 upTo n k h = record { log = k; is = refl; small = h }
 
 pub bus-power : (bus : ℕ) → busAllowed bus ≡ true → UpTo 7 bus
-unfolding busAllowed Each
+unfolding busAllowed
 bus-power bus =
     among-each (UpTo 7) bus (1 ∷ 2 ∷ 4 ∷ 8 ∷ 16 ∷ 32 ∷ 64 ∷ 128 ∷ [])
     (upTo 7 0 (omega arith), (upTo 7 1 (omega arith), (upTo 7 2 (omega arith), (upTo 7 3 (omega arith),
     (upTo 7 4 (omega arith), (upTo 7 5 (omega arith), (upTo 7 6 (omega arith), (upTo 7 7 (omega arith), tt))))))))
 
 pub wrap-power : (n : ℕ) → countAllowed Wrap n ≡ true → UpTo 4 n
-unfolding countAllowed Each
+unfolding countAllowed
 wrap-power n =
     among-each (UpTo 4) n (2 ∷ 4 ∷ 8 ∷ 16 ∷ [])
     (upTo 4 1 (omega arith), (upTo 4 2 (omega arith), (upTo 4 3 (omega arith), (upTo 4 4 (omega arith), tt))))
@@ -85,3 +85,17 @@ module _ (x : Burst) where
       go : UpTo 7 (x .bus) → (x .size ≤ 7) × (bytes x ≤ x .bus) → (x .len ≤ 255) × (countAllowed (x .kind) (beats x) ≡ true) → Known x
       go p s c =
         record { bus = p; narrow = log-le (x .size) (p .log) (rw (p .is) at (s .1)); few = c .0; count = c .1 }
+
+  pub size-small : Legal x → x .size ≤ 7
+  size-small l = size-known (l .size) .0
+
+  pub bytes-small : Legal x → bytes x ≤ 128
+  bytes-small l = pow-mono (size-small l)
+
+  -- so many beats have few bytes
+  pub span-small : Legal x → (k : ℕ) → k ≤ beats x → k * bytes x ≤ 32768
+  span-small l k h =
+    omega (arith, count-known (l .count) .0, bytes-small l, mul-le-mul-right (bytes x) h, mul-le-mul-right (bytes x) (le-beats l))
+    where
+      le-beats : Legal x → beats x ≤ 256
+      le-beats l = omega (arith, count-known (l .count) .0)

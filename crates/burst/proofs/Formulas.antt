@@ -1,0 +1,82 @@
+-- The formulas that the code works out are the definitions, and no number on the way is too large. Assumes nothing.
+use mathlib.Core.Bool.{Bool, true, false}
+use mathlib.Core.Path.{_≡_, refl, sym, ap, _∙_}
+use Prim.Native.Nat.{ℕ, zero, suc, _+_, _-_, _*_, _/_, _%_, _^_, _≤_, _<_}
+use native.Mathlib.Nat.{mod-add-mod, mod-lt, mul-comm, div-eq-of-lt, div-lt-iff-lt-mul}
+use native.Mathlib.Omega.{arith}
+use lib.Dec.{ltb}
+use lib.Pow.{pow-pos, pow-add, pow-mono}
+use Rattle.burst_spec.specs.declared.Burst.{Burst}
+use Rattle.burst_spec.specs.declared.Kind.{Kind}
+use Rattle.burst_spec.specs.declared.Kind.the-variants.{Fixed, Incr, Wrap, Reserved}
+use Rattle.burst_spec.specs.Address.{roundDown, highestByte, incrAddress, wrapAddress, wrapBoundary, addressBy, beats, bytes, beatAddress}
+use Rattle.burst_spec.specs.Checks.{crosses, crossesBy, countAllowed, misaligned}
+use Rattle.burst_spec.specs.Legal.{Power, Legal, Accepted}
+use Rattle.burst_spec.proofs.Known.{known, Known, UpTo, wrap-power, size-small, bytes-small, span-small}
+use Rattle.burst_spec.proofs.Rounding.{round-near, highest-quotient, coarser}
+use Rattle.burst_spec.proofs.Block.{incr-crosses, only-incr-crosses, address-block, in-memory}
+use Rattle.burst_spec.proofs.Wrap.{wrap-aligned, wrap-closed}
+
+pub power : (i : ℕ) → Power (2 ^ i)
+power i = record { log = i; is = refl }
+
+module _ (x : Burst) (l : Legal x) where
+  pub bus-is-power : Power (x .bus)
+  bus-is-power = record { log = known x l .bus .log; is = known x l .bus .is }
+
+  -- the 4KB test
+  pub other-kind-inside : (m : Kind) → x .kind ≡ m → (m ≡ Incr → ⊥) → false ≡ crosses x
+  other-kind-inside m e h =
+    sym (only-incr-crosses (x .start) (x .size) (beats x) (size-small x l) (x .kind) (λ f. h (sym e ∙ f)) (known x l .count) (l .start))
+
+  pub incr-test : x .kind ≡ Incr → (first b : ℕ) → first ≡ roundDown (x .start) b → b ≡ bytes x
+    → ltb 4096 (first % 4096 + beats x * b) ≡ crosses x
+  incr-test e first b f g =
+    rw (f, g)
+    (sym (ap (λ m. crossesBy m (x .start) (bytes x) (beats x)) e
+    ∙ incr-crosses (x .start) (x .size) (omega (arith, size-small x l)) (beats x) (omega arith)))
+
+  -- a wrapping burst's container is a power of two
+  pub container-power : x .kind ≡ Wrap → Power (bytes x * beats x)
+  container-power e = go (wrap-power (beats x) (ap (λ m. countAllowed m (beats x)) (sym e) ∙ known x l .count))
+    where
+      go : UpTo 4 (beats x) → Power (bytes x * beats x)
+      go p = record { log = x .size + p .log; is = ap (λ n. bytes x * n) (p .is) ∙ sym (pow-add 2 (x .size) (p .log)) }
+
+-- the addresses, by kind
+module _ (x : Burst) (k : ℕ) where
+  pub at-kind : (m : Kind) → x .kind ≡ m → addressBy m (x .start) (bytes x) (beats x) k ≡ beatAddress x k
+  at-kind m e = ap (λ n. addressBy n (x .start) (bytes x) (beats x) k) (sym e)
+
+  pub incr-first : x .kind ≡ Incr → k ≡ 0 → x .start ≡ beatAddress x k
+  unfolding addressBy incrAddress
+  incr-first e z = ap (λ j. incrAddress (x .start) (bytes x) j) (sym z) ∙ at-kind Incr e
+
+  pub incr-later : x .kind ≡ Incr → (k ≡ 0 → ⊥) → roundDown (x .start) (bytes x) + k * bytes x ≡ beatAddress x k
+  unfolding addressBy incrAddress
+  incr-later e z = go k z ∙ at-kind Incr e
+    where
+      go : (j : ℕ) → (j ≡ 0 → ⊥) → roundDown (x .start) (bytes x) + j * bytes x ≡ incrAddress (x .start) (bytes x) j
+      go zero h = absurd (h refl)
+      go (suc j) h = refl
+
+  pub wrap-formula : Legal x → x .kind ≡ Wrap
+    → roundDown (x .start) (bytes x * beats x) + (x .start % (bytes x * beats x) + k * bytes x) % (bytes x * beats x) ≡ beatAddress x k
+  unfolding addressBy
+  wrap-formula l e =
+    ap (λ o. roundDown (x .start) (bytes x * beats x) + o) (mod-add-mod (x .start) (bytes x * beats x) (k * bytes x))
+    ∙ sym (wrap-closed (x .start) (bytes x) (beats x) (pow-pos (x .size)) (omega arith) (wrap-aligned (x .start) (bytes x) start) k)
+    ∙ at-kind Wrap e
+    where
+      start : misaligned Wrap (x .start) (bytes x) ≡ false
+      start = ap (λ m. misaligned m (x .start) (bytes x)) (sym e) ∙ l .start
+
+  -- an address of the burst lies in the memory of 2 ^ w bytes that the start lies in, and so does the highest byte of a beat
+  pub address-fits : (w : ℕ) → 12 ≤ w → x .start < 2 ^ w → Accepted x → k < beats x → beatAddress x k < 2 ^ w
+  address-fits w h s y l = in-memory w (x .start) (beatAddress x k) h s (address-block x y k l)
+
+pub highest-fits : (w i a : ℕ) → i ≤ w → a < 2 ^ w → highestByte a (2 ^ i) < 2 ^ w
+highest-fits w i a h l =
+    let z : highestByte a (2 ^ i) / 2 ^ w ≡ 0 = coarser (highestByte a (2 ^ i)) a h (highest-quotient a (2 ^ i) (pow-pos i)) ∙ div-eq-of-lt l in
+    let q : highestByte a (2 ^ i) / 2 ^ w < 1 = omega arith in
+    omega (arith, div-lt-iff-lt-mul (pow-pos w) .0 q)
