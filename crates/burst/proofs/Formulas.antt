@@ -5,6 +5,10 @@ use Prim.Native.Nat.{ℕ, zero, suc, _+_, _-_, _*_, _/_, _%_, _^_, _≤_, _<_}
 use native.Mathlib.Nat.{mod-add-mod, mod-lt, mul-comm, div-eq-of-lt, div-lt-iff-lt-mul}
 use native.Mathlib.Omega.{arith}
 use lib.Dec.{ltb}
+use lib.IntN.{ℤ, pos, negsuc, subℕ, _-ℤ_}
+use mir.Facts.{toZ-pos}
+use mir.Syntax.{w32}
+use mir.Val.{toZ}
 use lib.Pow.{pow-pos, pow-add, pow-mono}
 use Rattle.burst_spec.specs.declared.Burst.{Burst}
 use Rattle.burst_spec.specs.declared.Kind.{Kind}
@@ -15,6 +19,7 @@ use Rattle.burst_spec.specs.Legal.{Power, Legal, Accepted}
 use Rattle.burst_spec.proofs.Known.{known, Known, UpTo, wrap-power, size-small, bytes-small, span-small}
 use Rattle.burst_spec.proofs.Rounding.{round-near, highest-quotient, coarser}
 use Rattle.burst_spec.proofs.Block.{incr-crosses, only-incr-crosses, address-block, in-memory}
+use Rattle.burst_spec.proofs.Step.{sub-shift, sub-down}
 use Rattle.burst_spec.proofs.Wrap.{wrap-aligned, wrap-closed}
 
 pub power : (i : ℕ) → Power (2 ^ i)
@@ -27,14 +32,14 @@ module _ (x : Burst) (l : Legal x) where
   -- the 4KB test
   pub other-kind-inside : (m : Kind) → x .kind ≡ m → (m ≡ Incr → ⊥) → false ≡ crosses x
   other-kind-inside m e h =
-    sym (only-incr-crosses (x .start) (x .size) (beats x) (size-small x l) (x .kind) (λ f. h (sym e ∙ f)) (known x l .count) (l .start))
+      sym (only-incr-crosses (x .start) (x .size) (beats x) (size-small x l) (x .kind) (λ f. h (sym e ∙ f)) (known x l .count) (l .start))
 
   pub incr-test : x .kind ≡ Incr → (first b : ℕ) → first ≡ roundDown (x .start) b → b ≡ bytes x
-    → ltb 4096 (first % 4096 + beats x * b) ≡ crosses x
+      → ltb 4096 (first % 4096 + beats x * b) ≡ crosses x
   incr-test e first b f g =
-    rw (f, g)
-    (sym (ap (λ m. crossesBy m (x .start) (bytes x) (beats x)) e
-    ∙ incr-crosses (x .start) (x .size) (omega (arith, size-small x l)) (beats x) (omega arith)))
+      rw (f, g)
+      (sym (ap (λ m. crossesBy m (x .start) (bytes x) (beats x)) e
+      ∙ incr-crosses (x .start) (x .size) (omega (arith, size-small x l)) (beats x) (omega arith)))
 
   -- a wrapping burst's container is a power of two
   pub container-power : x .kind ≡ Wrap → Power (bytes x * beats x)
@@ -61,12 +66,12 @@ module _ (x : Burst) (k : ℕ) where
       go (suc j) h = refl
 
   pub wrap-formula : Legal x → x .kind ≡ Wrap
-    → roundDown (x .start) (bytes x * beats x) + (x .start % (bytes x * beats x) + k * bytes x) % (bytes x * beats x) ≡ beatAddress x k
+      → roundDown (x .start) (bytes x * beats x) + (x .start % (bytes x * beats x) + k * bytes x) % (bytes x * beats x) ≡ beatAddress x k
   unfolding addressBy
   wrap-formula l e =
-    ap (λ o. roundDown (x .start) (bytes x * beats x) + o) (mod-add-mod (x .start) (bytes x * beats x) (k * bytes x))
-    ∙ sym (wrap-closed (x .start) (bytes x) (beats x) (pow-pos (x .size)) (omega arith) (wrap-aligned (x .start) (bytes x) start) k)
-    ∙ at-kind Wrap e
+      ap (λ o. roundDown (x .start) (bytes x * beats x) + o) (mod-add-mod (x .start) (bytes x * beats x) (k * bytes x))
+      ∙ sym (wrap-closed (x .start) (bytes x) (beats x) (pow-pos (x .size)) (omega arith) (wrap-aligned (x .start) (bytes x) start) k)
+      ∙ at-kind Wrap e
     where
       start : misaligned Wrap (x .start) (bytes x) ≡ false
       start = ap (λ m. misaligned m (x .start) (bytes x)) (sym e) ∙ l .start
@@ -80,3 +85,11 @@ highest-fits w i a h l =
     let z : highestByte a (2 ^ i) / 2 ^ w ≡ 0 = coarser (highestByte a (2 ^ i)) a h (highest-quotient a (2 ^ i) (pow-pos i)) ∙ div-eq-of-lt l in
     let q : highestByte a (2 ^ i) / 2 ^ w < 1 = omega arith in
     omega (arith, div-lt-iff-lt-mul (pow-pos w) .0 q)
+
+-- the signed value of what the code works out where the way goes down
+pub down-is : (from to : ℕ) → to < from → from - to < 2 ^ 31 → pos 0 -ℤ toZ w32 (from - to) ≡ negsuc (from - suc to)
+down-is from to l h = rw (toZ-pos w32 h) (negated (from - to) ∙ sub-shift 0 (from - to) to from (omega arith) ∙ sub-down to from l)
+  where
+    negated : (d : ℕ) → pos 0 -ℤ pos d ≡ subℕ 0 d
+    negated zero = refl
+    negated (suc n) = refl

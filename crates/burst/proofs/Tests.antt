@@ -34,6 +34,7 @@ none-among ks ys q x ps none other = go (among x ys) refl
     neither : T (hasKey ks x) ⊎ T (q x) → ⊥
     neither (inl h) = none (hit ks x h)
     neither (inr h) = rw other at h
+
     go : (t : Bool) → among x ys ≡ t → t ≡ false
     go true e = absurd (neither (or-yes (hasKey ks x) (q x) (among-each (λ y. T (hasKey ks y || q y)) x ys ps e)))
     go false e = refl
@@ -45,9 +46,9 @@ one-or-two ys x ps l h = go (eqb x 1) refl
     go : (t : Bool) → eqb x 1 ≡ t → among x ys ≡ true
     go true e = rw (eqb-true x 1 e) (ps .0)
     go false e =
-      let ne : x ≡ 1 → ⊥ = eqb-false x 1 e in
-      let two : x ≡ 2 = omega (arith, ne) in
-      rw two (ps .1 .0)
+        let ne : x ≡ 1 → ⊥ = eqb-false x 1 e in
+        let two : x ≡ 2 = omega (arith, ne) in
+        rw two (ps .1 .0)
 
 pub reserved : (n : ℕ) → (n ≡ 0 → ⊥) → (n ≡ 1 → ⊥) → (n ≡ 2 → ⊥) → Reserved ≡ kindOf n
 reserved n a b c = sym (reserved-exactly n .1 (omega (arith, a, b, c)))

@@ -1,12 +1,12 @@
 // Addresses and byte lanes of an accepted burst's beats. Nothing is refused here: each function requires that the checks
 // have passed.
+use crate::checks::bytes_of;
+use crate::rounding::low_part;
+use crate::rounding::round_down;
 use burst_spec::Address;
 use burst_spec::Beat;
 use burst_spec::Burst;
 use burst_spec::Kind;
-use crate::checks::bytes_of;
-use crate::rounding::low_part;
-use crate::rounding::round_down;
 ghost use mathlib.Core.Path.{_≡_};
 ghost use Prim.Native.Nat.{_+_, _<_, _/_};
 ghost use lib.IntN.{subℕ};

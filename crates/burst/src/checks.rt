@@ -1,10 +1,10 @@
 // The tests of paper 01's refusals 7 to 12, one function each: true where the burst is refused for it. Their order is in
 // `judge` of the crate's root. A test counts only on those before it.
+use crate::rounding::low_part;
+use crate::rounding::round_down;
 use burst_spec::Address;
 use burst_spec::Burst;
 use burst_spec::Kind;
-use crate::rounding::low_part;
-use crate::rounding::round_down;
 ghost use mathlib.Core.Bool.{not};
 ghost use mathlib.Core.Path.{_≡_};
 ghost use Prim.Native.Nat.{_≤_, _^_};

@@ -4,6 +4,7 @@
 mod beats;
 mod checks;
 mod rounding;
+
 use burst_spec::Address;
 use burst_spec::BeatAnswer;
 use burst_spec::Burst;

@@ -5,8 +5,10 @@ use mathlib.Core.Logic.{_↔_}
 use mathlib.Core.Path.{_≡_, refl, sym, ap, _∙_}
 use Prim.Native.Nat.{ℕ, zero, suc, _+_, _≤_, _<_}
 use native.Mathlib.Omega.{arith}
-use borrow.Author.Tests.{not-false}
+use lib.Dec.{leb}
+use borrow.Author.Tests.{not-false, le-leb, lt-leb}
 use Rattle.refusal.specs.declared.Refusal.{Refusal}
+use Rattle.refusal.specs.declared.Refusal.the-variants.{Index}
 use Rattle.burst_spec.specs.declared.Burst.{Burst}
 use Rattle.burst_spec.specs.declared.Kind.the-variants.{Reserved}
 use Rattle.burst_spec.specs.declared.Judgement.{Judgement}
@@ -15,7 +17,7 @@ use Rattle.burst_spec.specs.declared.BeatAnswer.{BeatAnswer}
 use Rattle.burst_spec.specs.declared.BeatAnswer.the-variants as beat
 use Rattle.burst_spec.specs.declared.StepAnswer.{StepAnswer}
 use Rattle.burst_spec.specs.declared.StepAnswer.the-variants as step
-use Rattle.burst_spec.specs.Address.{beatOf, beatStep}
+use Rattle.burst_spec.specs.Address.{beats, beatOf, beatStep}
 use Rattle.burst_spec.specs.Checks.{Check, decided, firstOf, checks, checksOfBeat, checksOfStep}
 use Rattle.burst_spec.specs.Legal.{Legal, Accepted}
 use Rattle.burst_spec.specs.Answers.{kindOf, judgement, beatAnswer, stepAnswer, Row, refusalRow, acceptedRow, judgementShows, beatShows, stepShows, Judges, GivesBeat, GivesStep}
@@ -27,7 +29,7 @@ first-map f g [] ok = refl
 first-map {A} {B} f g (c ∷ cs) ok = go (c .refuses) (first-map f g cs ok)
   where
     go : (t : Bool) → f (firstOf g cs ok) ≡ firstOf (λ r. f (g r)) cs (f ok)
-      → f (decided t (g (c .because)) (firstOf g cs ok)) ≡ decided t (f (g (c .because))) (firstOf (λ r. f (g r)) cs (f ok))
+        → f (decided t (g (c .because)) (firstOf g cs ok)) ≡ decided t (f (g (c .because))) (firstOf (λ r. f (g r)) cs (f ok))
     go true e = refl
     go false e = e
 
@@ -44,27 +46,41 @@ gives-step x k r e = record { is = e; shows = ap stepShows e ∙ first-map stepS
 -- A burst that is judged refused is refused by every call that has its checks first, with the same refusal; and where it is
 -- accepted, the checks that follow decide.
 module _ {A : Type 0} (g : Refusal → A) (ok : A) (ds : List Check) where
-  pub carries-refusal : (cs : List Check) (r : Refusal) → firstOf judged.Refused cs judged.Accepted ≡ judged.Refused r
-    → firstOf g (cs ++ ds) ok ≡ g r
+  carries-refusal : (cs : List Check) (r : Refusal) → firstOf judged.Refused cs judged.Accepted ≡ judged.Refused r
+      → firstOf g (cs ++ ds) ok ≡ g r
   carries-refusal [] r e = cc
   carries-refusal (c ∷ cs) r e = go (c .refuses) (carries-refusal cs r) e
     where
       go : (t : Bool) → (firstOf judged.Refused cs judged.Accepted ≡ judged.Refused r → firstOf g (cs ++ ds) ok ≡ g r)
-        → decided t (judged.Refused (c .because)) (firstOf judged.Refused cs judged.Accepted) ≡ judged.Refused r
-        → decided t (g (c .because)) (firstOf g (cs ++ ds) ok) ≡ g r
+          → decided t (judged.Refused (c .because)) (firstOf judged.Refused cs judged.Accepted) ≡ judged.Refused r
+          → decided t (g (c .because)) (firstOf g (cs ++ ds) ok) ≡ g r
       go true rest e = cc
       go false rest e = rest e
 
-  pub carries-on : (cs : List Check) → firstOf judged.Refused cs judged.Accepted ≡ judged.Accepted
-    → firstOf g (cs ++ ds) ok ≡ firstOf g ds ok
+  carries-on : (cs : List Check) → firstOf judged.Refused cs judged.Accepted ≡ judged.Accepted
+      → firstOf g (cs ++ ds) ok ≡ firstOf g ds ok
   carries-on [] e = refl
   carries-on (c ∷ cs) e = go (c .refuses) (carries-on cs) e
     where
       go : (t : Bool) → (firstOf judged.Refused cs judged.Accepted ≡ judged.Accepted → firstOf g (cs ++ ds) ok ≡ firstOf g ds ok)
-        → decided t (judged.Refused (c .because)) (firstOf judged.Refused cs judged.Accepted) ≡ judged.Accepted
-        → decided t (g (c .because)) (firstOf g (cs ++ ds) ok) ≡ firstOf g ds ok
+          → decided t (judged.Refused (c .because)) (firstOf judged.Refused cs judged.Accepted) ≡ judged.Accepted
+          → decided t (g (c .because)) (firstOf g (cs ++ ds) ok) ≡ firstOf g ds ok
       go true rest e = cc
       go false rest e = rest e
+
+-- beat k of a burst: a refused burst keeps its refusal, and of an accepted one 13 is given exactly if there is no beat k
+module _ {A : Type 0} (g : Refusal → A) (ok : A) (x : Burst) (k : ℕ) where
+  abbrev indexCheck : List Check
+  indexCheck = record { refuses = leb (beats x) k; because = Index } ∷ []
+
+  pub keeps-refusal : (r : Refusal) → judgement x ≡ judged.Refused r → firstOf g (checksOfBeat x k) ok ≡ g r
+  keeps-refusal r e = carries-refusal g ok indexCheck (checks x) r e
+
+  pub no-beat : judgement x ≡ judged.Accepted → beats x ≤ k → firstOf g (checksOfBeat x k) ok ≡ g Index
+  no-beat e h = carries-on g ok indexCheck (checks x) e ∙ ap (λ t. decided t (g Index) ok) (le-leb (beats x) k h)
+
+  pub has-beat : judgement x ≡ judged.Accepted → k < beats x → firstOf g (checksOfBeat x k) ok ≡ ok
+  has-beat e h = carries-on g ok indexCheck (checks x) e ∙ ap (λ t. decided t (g Index) ok) (lt-leb (beats x) k h)
 
 passed : (t : Bool) (r : Refusal) (y : Judgement) → decided t (judged.Refused r) y ≡ judged.Accepted → (t ≡ false) × (y ≡ judged.Accepted)
 passed true r y e = let z : _≡_ {A = ℕ} 0 1 = cc in absurd (omega arith)
@@ -76,19 +92,20 @@ accepted-exactly x = (there, back)
   where
     there : judgement x ≡ judged.Accepted → Accepted x
     there e =
-      let p1 = passed _ _ _ e in
-      let p2 = passed _ _ _ (p1 .1) in
-      let p3 = passed _ _ _ (p2 .1) in
-      let p4 = passed _ _ _ (p3 .1) in
-      let p5 = passed _ _ _ (p4 .1) in
-      let p6 = passed _ _ _ (p5 .1) in
-      record {
-        legal = record { bus = not-false _ (p1 .0); size = p2 .0; kind = p3 .0; count = p4 .0; start = p5 .0 };
-        inside = p6 .0
-      }
+        let p1 = passed _ _ _ e in
+        let p2 = passed _ _ _ (p1 .1) in
+        let p3 = passed _ _ _ (p2 .1) in
+        let p4 = passed _ _ _ (p3 .1) in
+        let p5 = passed _ _ _ (p4 .1) in
+        let p6 = passed _ _ _ (p5 .1) in
+        record {
+          legal = record { bus = not-false _ (p1 .0); size = p2 .0; kind = p3 .0; count = p4 .0; start = p5 .0 };
+          inside = p6 .0;
+        }
+
     back : Accepted x → judgement x ≡ judged.Accepted
     back y =
-      rw (y .legal .bus, y .legal .size, y .legal .kind, y .legal .count, y .legal .start, y .inside)
+        rw (y .legal .bus, y .legal .size, y .legal .kind, y .legal .count, y .legal .start, y .inside)
 
 -- the numbers from 3 on are the reserved kind, and no others
 pub reserved-exactly : (n : ℕ) → (kindOf n ≡ Reserved) ↔ (3 ≤ n)

@@ -47,13 +47,13 @@ module _ (s i : ℕ) (small : i ≤ 12) where
   -- a beat lies in one block, so its address decides
   beat-inside : (a : ℕ) → a / 4096 ≡ s / 4096 → beatOutside s (2 ^ i) a ≡ false
   beat-inside a e =
-    none-below (highestByte a (2 ^ i) - a + 1) (λ j. outside s (a + j))
-    (λ j l. inside s (a + j) (same-block (a + j) a (byte j l) ∙ e))
+      none-below (highestByte a (2 ^ i) - a + 1) (λ j. outside s (a + j))
+      (λ j l. inside s (a + j) (same-block (a + j) a (byte j l) ∙ e))
     where
       byte : (j : ℕ) → j < highestByte a (2 ^ i) - a + 1 → (a + j) / 2 ^ i ≡ a / 2 ^ i
       byte j l =
-        quotient-of a (2 ^ i) (a + j) (pow-pos i) (omega (arith, round-le a (2 ^ i)))
-        (omega (arith, pow-pos i, round-near a (2 ^ i) (pow-pos i)))
+          quotient-of a (2 ^ i) (a + j) (pow-pos i) (omega (arith, round-le a (2 ^ i)))
+          (omega (arith, pow-pos i, round-near a (2 ^ i) (pow-pos i)))
 
   -- no beat is outside if each beat's address is in the block
   all-inside : (m : Kind) (n : ℕ) → ((k : ℕ) → k < n → addressBy m s (2 ^ i) n k / 4096 ≡ s / 4096) → crossesBy m s (2 ^ i) n ≡ false
@@ -62,15 +62,15 @@ module _ (s i : ℕ) (small : i ≤ 12) where
 
   -- and if no beat is outside, every byte of every beat is in the block
   pub bytes-inside : (m : Kind) (n : ℕ) → crossesBy m s (2 ^ i) n ≡ false → (k a : ℕ) → k < n
-    → addressBy m s (2 ^ i) n k ≤ a → a ≤ highestByte (addressBy m s (2 ^ i) n k) (2 ^ i) → a / 4096 ≡ s / 4096
+      → addressBy m s (2 ^ i) n k ≤ a → a ≤ highestByte (addressBy m s (2 ^ i) n k) (2 ^ i) → a / 4096 ≡ s / 4096
   unfolding crossesBy
   bytes-inside m n e k a l from to =
-    let at : ℕ = addressBy m s (2 ^ i) n k in
-    let same : at + (a - at) ≡ a = omega arith in
-    rw same at
-    (not-outside s (at + (a - at))
-    (each-below (highestByte at (2 ^ i) - at + 1) (λ j. outside s (at + j))
-    (each-below n (λ j. beatOutside s (2 ^ i) (addressBy m s (2 ^ i) n j)) e k l) (a - at) (omega arith)))
+      let at : ℕ = addressBy m s (2 ^ i) n k in
+      let same : at + (a - at) ≡ a = omega arith in
+      rw same at
+      (not-outside s (at + (a - at))
+      (each-below (highestByte at (2 ^ i) - at + 1) (λ j. outside s (at + j))
+      (each-below n (λ j. beatOutside s (2 ^ i) (addressBy m s (2 ^ i) n j)) e k l) (a - at) (omega arith)))
 
 -- rounding what is rounded, some beats on
 pub round-beats : (s b k : ℕ) → 0 < b → roundDown (roundDown s b + k * b) b ≡ roundDown s b + k * b
@@ -87,29 +87,29 @@ incr-round s b (suc k) h = round-beats s b (suc k) h
 module _ (s i : ℕ) (small : i ≤ 12) where
   aligned-block : roundDown s (2 ^ i) / 4096 ≡ s / 4096
   aligned-block =
-    let e : roundDown s (2 ^ i) + 0 ≡ roundDown s (2 ^ i) = omega arith in
-    same-block s i small (roundDown s (2 ^ i)) s (rw e at (same-quotient s (2 ^ i) 0 (pow-pos i)))
+      let e : roundDown s (2 ^ i) + 0 ≡ roundDown s (2 ^ i) = omega arith in
+      same-block s i small (roundDown s (2 ^ i)) s (rw e at (same-quotient s (2 ^ i) 0 (pow-pos i)))
 
   incr-fits : (n : ℕ) → roundDown s (2 ^ i) % 4096 + n * 2 ^ i ≤ 4096 → (k : ℕ) → k < n → incrAddress s (2 ^ i) k / 4096 ≡ s / 4096
   unfolding incrAddress
   incr-fits n h zero l = refl
   incr-fits n h (suc k) l =
-    let p : suc (suc k) * 2 ^ i ≤ n * 2 ^ i = mul-le-mul-right (2 ^ i) l in
-    let e : (roundDown s (2 ^ i) + suc k * 2 ^ i) / 4096 ≡ roundDown s (2 ^ i) / 4096 = omega (arith, pow-pos i) in
-    e ∙ aligned-block
+      let p : suc (suc k) * 2 ^ i ≤ n * 2 ^ i = mul-le-mul-right (2 ^ i) l in
+      let e : (roundDown s (2 ^ i) + suc k * 2 ^ i) / 4096 ≡ roundDown s (2 ^ i) / 4096 = omega (arith, pow-pos i) in
+      e ∙ aligned-block
 
   -- the highest byte of the last beat is in the block, so the whole burst is
   fits-incr : (n : ℕ) → 0 < n → crossesBy Incr s (2 ^ i) n ≡ false → roundDown s (2 ^ i) % 4096 + n * 2 ^ i ≤ 4096
   unfolding addressBy
   fits-incr zero h e = absurd (omega arith)
   fits-incr (suc k) h e =
-    let near : incrAddress s (2 ^ i) k < roundDown (incrAddress s (2 ^ i) k) (2 ^ i) + 2 ^ i = round-near (incrAddress s (2 ^ i) k) (2 ^ i) (pow-pos i) in
-    let high : highestByte (incrAddress s (2 ^ i) k) (2 ^ i) / 4096 ≡ s / 4096 =
+      let near : incrAddress s (2 ^ i) k < roundDown (incrAddress s (2 ^ i) k) (2 ^ i) + 2 ^ i = round-near (incrAddress s (2 ^ i) k) (2 ^ i) (pow-pos i) in
+      let high : highestByte (incrAddress s (2 ^ i) k) (2 ^ i) / 4096 ≡ s / 4096 =
       bytes-inside s i small Incr (suc k) e k (highestByte (incrAddress s (2 ^ i) k) (2 ^ i)) (omega arith) (omega arith) (omega arith)
-    in
-    let r : roundDown (incrAddress s (2 ^ i) k) (2 ^ i) ≡ roundDown s (2 ^ i) + k * 2 ^ i = incr-round s (2 ^ i) k (pow-pos i) in
-    let h2 : (roundDown s (2 ^ i) + k * 2 ^ i + (2 ^ i - 1)) / 4096 ≡ roundDown s (2 ^ i) / 4096 = rw r at high ∙ sym aligned-block in
-    omega (arith, pow-pos i)
+      in
+      let r : roundDown (incrAddress s (2 ^ i) k) (2 ^ i) ≡ roundDown s (2 ^ i) + k * 2 ^ i = incr-round s (2 ^ i) k (pow-pos i) in
+      let h2 : (roundDown s (2 ^ i) + k * 2 ^ i + (2 ^ i - 1)) / 4096 ≡ roundDown s (2 ^ i) / 4096 = rw r at high ∙ sym aligned-block in
+      omega (arith, pow-pos i)
 
   -- what the code tests is exactly the paper's rule
   pub incr-crosses : (n : ℕ) → 0 < n → crossesBy Incr s (2 ^ i) n ≡ ltb 4096 (roundDown s (2 ^ i) % 4096 + n * 2 ^ i)
@@ -134,10 +134,10 @@ module _ (s i n : ℕ) (small : i ≤ 7) where
     where
       go : UpTo 4 n → (k : ℕ) → wrapAddress s (2 ^ i) n k / 4096 ≡ s / 4096
       go p k =
-        let t : 2 ^ i * n ≡ 2 ^ (i + p .log) = rw (p .is) (sym (pow-add 2 i (p .log))) in
-        let some : 0 < n = rw (p .is) (pow-pos (p .log)) in
-        let small : i + p .log ≤ 12 = omega (arith, p .small) in
-        coarser (wrapAddress s (2 ^ i) n k) s small (rw t at (wrap-container s (2 ^ i) n (pow-pos i) some (wrap-aligned s (2 ^ i) e) k))
+          let t : 2 ^ i * n ≡ 2 ^ (i + p .log) = rw (p .is) (sym (pow-add 2 i (p .log))) in
+          let some : 0 < n = rw (p .is) (pow-pos (p .log)) in
+          let small : i + p .log ≤ 12 = omega (arith, p .small) in
+          coarser (wrapAddress s (2 ^ i) n k) s small (rw t at (wrap-container s (2 ^ i) n (pow-pos i) some (wrap-aligned s (2 ^ i) e) k))
 
   pub only-incr-crosses : (m : Kind) → (m ≡ Incr → ⊥) → countAllowed m n ≡ true → misaligned m s (2 ^ i) ≡ false → crossesBy m s (2 ^ i) n ≡ false
   unfolding countAllowed

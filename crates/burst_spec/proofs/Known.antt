@@ -45,9 +45,19 @@ upTo n k h = record { log = k; is = refl; small = h }
 pub bus-power : (bus : ℕ) → busAllowed bus ≡ true → UpTo 7 bus
 unfolding busAllowed
 bus-power bus =
-    among-each (UpTo 7) bus (1 ∷ 2 ∷ 4 ∷ 8 ∷ 16 ∷ 32 ∷ 64 ∷ 128 ∷ [])
-    (upTo 7 0 (omega arith), (upTo 7 1 (omega arith), (upTo 7 2 (omega arith), (upTo 7 3 (omega arith),
-    (upTo 7 4 (omega arith), (upTo 7 5 (omega arith), (upTo 7 6 (omega arith), (upTo 7 7 (omega arith), tt))))))))
+    among-each (UpTo 7) bus (1 ∷ 2 ∷ 4 ∷ 8 ∷ 16 ∷ 32 ∷ 64 ∷ 128 ∷ []) (
+      upTo 7 0 (omega arith),
+      (
+        upTo 7 1 (omega arith),
+        (
+          upTo 7 2 (omega arith),
+          (
+            upTo 7 3 (omega arith),
+            (upTo 7 4 (omega arith), (upTo 7 5 (omega arith), (upTo 7 6 (omega arith), (upTo 7 7 (omega arith), tt)))),
+          ),
+        ),
+      ),
+    )
 
 pub wrap-power : (n : ℕ) → countAllowed Wrap n ≡ true → UpTo 4 n
 unfolding countAllowed
@@ -69,22 +79,22 @@ pub record Known (x : Burst) : Type 0 where
   pub count : countAllowed (x .kind) (beats x) ≡ true
 
 module _ (x : Burst) where
-  size-known : tooWide x ≡ false → (x .size ≤ 7) × (bytes x ≤ x .bus)
+  pub size-known : tooWide x ≡ false → (x .size ≤ 7) × (bytes x ≤ x .bus)
   size-known e =
-    let h : (ltb 7 (x .size) ≡ false) × (ltb (x .bus) (bytes x) ≡ false) = or-false _ _ e in
-    (ltb-false 7 (x .size) (h .0), ltb-false (x .bus) (bytes x) (h .1))
+      let h : (ltb 7 (x .size) ≡ false) × (ltb (x .bus) (bytes x) ≡ false) = or-false _ _ e in
+      (ltb-false 7 (x .size) (h .0), ltb-false (x .bus) (bytes x) (h .1))
 
   count-known : countRefused x ≡ false → (x .len ≤ 255) × (countAllowed (x .kind) (beats x) ≡ true)
   count-known e =
-    let h : (ltb 255 (x .len) ≡ false) × (not (countAllowed (x .kind) (beats x)) ≡ false) = or-false _ _ e in
-    (ltb-false 255 (x .len) (h .0), not-false _ (h .1))
+      let h : (ltb 255 (x .len) ≡ false) × (not (countAllowed (x .kind) (beats x)) ≡ false) = or-false _ _ e in
+      (ltb-false 255 (x .len) (h .0), not-false _ (h .1))
 
   pub known : Legal x → Known x
   known l = go (bus-power (x .bus) (l .bus)) (size-known (l .size)) (count-known (l .count))
     where
       go : UpTo 7 (x .bus) → (x .size ≤ 7) × (bytes x ≤ x .bus) → (x .len ≤ 255) × (countAllowed (x .kind) (beats x) ≡ true) → Known x
       go p s c =
-        record { bus = p; narrow = log-le (x .size) (p .log) (rw (p .is) at (s .1)); few = c .0; count = c .1 }
+          record { bus = p; narrow = log-le (x .size) (p .log) (rw (p .is) at (s .1)); few = c .0; count = c .1 }
 
   pub size-small : Legal x → x .size ≤ 7
   size-small l = size-known (l .size) .0
@@ -95,7 +105,7 @@ module _ (x : Burst) where
   -- so many beats have few bytes
   pub span-small : Legal x → (k : ℕ) → k ≤ beats x → k * bytes x ≤ 32768
   span-small l k h =
-    omega (arith, count-known (l .count) .0, bytes-small l, mul-le-mul-right (bytes x) h, mul-le-mul-right (bytes x) (le-beats l))
+      omega (arith, count-known (l .count) .0, bytes-small l, mul-le-mul-right (bytes x) h, mul-le-mul-right (bytes x) (le-beats l))
     where
       le-beats : Legal x → beats x ≤ 256
       le-beats l = omega (arith, count-known (l .count) .0)

@@ -22,13 +22,13 @@ lanes a i j h =
     let same : highestByte a (2 ^ i) / 2 ^ j ≡ a / 2 ^ j = coarser (highestByte a (2 ^ i)) a h (highest-quotient a (2 ^ i) (pow-pos i)) in
     let l : a % 2 ^ j + a / 2 ^ j * 2 ^ j ≡ a = omega (arith, div-add-mod' a (2 ^ j)) in
     let u : highestByte a (2 ^ i) % 2 ^ j + a / 2 ^ j * 2 ^ j ≡ highestByte a (2 ^ i) =
-      omega (arith, rw same at (div-add-mod' (highestByte a (2 ^ i)) (2 ^ j)))
+    omega (arith, rw same at (div-add-mod' (highestByte a (2 ^ i)) (2 ^ j)))
     in
     record {
       lower = l;
       upper = u;
       order = omega (arith, round-near a (2 ^ i) (pow-pos i));
-      inside = mod-lt (highestByte a (2 ^ i)) (pow-pos j)
+      inside = mod-lt (highestByte a (2 ^ i)) (pow-pos j);
     }
 
 -- "lower ≤ upper < bus", for any address

@@ -3,6 +3,7 @@ use mathlib.Core.Bool.{Bool, true, false, cond}
 use mathlib.Core.Path.{_≡_, refl, sym, ap, _∙_}
 use Prim.Native.Nat.{ℕ, zero, suc, _+_, _-_, _*_, _/_, _%_, _^_, _≤_, _<_}
 use native.Mathlib.Nat.{mul-le-mul-right, mul-le-mul-left}
+use native.Mathlib.Numerals.{add-one}
 use native.Mathlib.Omega.{arith}
 use lib.Dec.{T, ltb, leb, eqb, le→leb}
 use lib.IntN.{ℤ, pos, negsuc, subℕ}
@@ -26,18 +27,18 @@ pub sub-down : (a b : ℕ) → a < b → subℕ a b ≡ negsuc (b - suc a)
 sub-down a b h = rw (lt-ltb a b h)
 
 -- it depends on their distance only
-sub-shift : (a b c d : ℕ) → a + d ≡ c + b → subℕ a b ≡ subℕ c d
+pub sub-shift : (a b c d : ℕ) → a + d ≡ c + b → subℕ a b ≡ subℕ c d
 sub-shift a b c d e = go (ltb a b) refl
   where
     go : (t : Bool) → ltb a b ≡ t → subℕ a b ≡ subℕ c d
     go true h =
-      let l : a < b = ltb-true a b h in
-      let m : c < d = omega arith in
-      sub-down a b l ∙ ap negsuc (omega arith) ∙ sym (sub-down c d m)
+        let l : a < b = ltb-true a b h in
+        let m : c < d = omega arith in
+        sub-down a b l ∙ ap negsuc (omega arith) ∙ sym (sub-down c d m)
     go false h =
-      let l : b ≤ a = ltb-false a b h in
-      let m : d ≤ c = omega arith in
-      sub-up a b l ∙ ap pos (omega arith) ∙ sym (sub-up c d m)
+        let l : b ≤ a = ltb-false a b h in
+        let m : d ≤ c = omega arith in
+        sub-up a b l ∙ ap pos (omega arith) ∙ sym (sub-up c d m)
 
 sub-beat : (a b : ℕ) → pos b ≡ subℕ (a + b) a
 sub-beat a b = sym (sub-up (a + b) a (omega arith) ∙ ap pos (omega arith))
@@ -54,10 +55,10 @@ unfolding wrapStep wrapAddress
 wrap-difference s b n k = go (wraps s b n (wrapAddress s b n k + b)) refl
   where
     go : (t : Bool) → wraps s b n (wrapAddress s b n k + b) ≡ t
-      → cond t (subℕ b (b * n)) (pos b) ≡ subℕ (cond t (wrapBoundary s b n) (wrapAddress s b n k + b)) (wrapAddress s b n k)
+        → cond t (subℕ b (b * n)) (pos b) ≡ subℕ (cond t (wrapBoundary s b n) (wrapAddress s b n k + b)) (wrapAddress s b n k)
     go true e =
-      let at : wrapAddress s b n k + b ≡ wrapBoundary s b n + b * n = eqb-true (wrapAddress s b n k + b) (wrapBoundary s b n + b * n) e in
-      sub-shift b (b * n) (wrapBoundary s b n) (wrapAddress s b n k) (omega arith)
+        let at : wrapAddress s b n k + b ≡ wrapBoundary s b n + b * n = eqb-true (wrapAddress s b n k + b) (wrapBoundary s b n + b * n) e in
+        sub-shift b (b * n) (wrapBoundary s b n) (wrapAddress s b n k) (omega arith)
     go false e = sub-beat (wrapAddress s b n k) b
 
 difference-by : (m : Kind) (s b n k : ℕ) → stepBy m s b n k ≡ subℕ (addressBy m s b n (suc k)) (addressBy m s b n k)
@@ -68,8 +69,8 @@ difference-by Wrap s b n k = wrap-difference s b n k
 difference-by Reserved s b n k = sym (sub-up s s (omega arith) ∙ ap pos (omega arith))
 
 -- the step of paper 01's words is the difference of the two addresses, in the integers
-pub step-difference : (x : Burst) (k : ℕ) → beatStep x k ≡ subℕ (beatAddress x (suc k)) (beatAddress x k)
-step-difference x k = difference-by (x .kind) (x .start) (bytes x) (beats x) k
+pub step-difference : (x : Burst) (k : ℕ) → beatStep x k ≡ subℕ (beatAddress x (k + 1)) (beatAddress x k)
+step-difference x k = rw (add-one k) (difference-by (x .kind) (x .start) (bytes x) (beats x) k)
 
 -- from -1,920 to 128
 abbrev InRange : ℤ → Type 0
@@ -104,8 +105,8 @@ module _ (s b n : ℕ) (narrow : b ≤ 128) where
     where
       go : (t : Bool) → InRange (cond t (subℕ b (b * n)) (pos b))
       go true =
-        let e : suc (n - 1) ≡ n = omega arith in
-        sub-in-range b (b * n) narrow (rw e at (container-in-range b (n - 1) narrow (omega arith)))
+          let e : suc (n - 1) ≡ n = omega arith in
+          sub-in-range b (b * n) narrow (rw e at (container-in-range b (n - 1) narrow (omega arith)))
       go false = up-in-range b narrow
 
 range-by : (m : Kind) (s i n : ℕ) → i ≤ 7 → countAllowed m n ≡ true → (k : ℕ) → InRange (stepBy m s (2 ^ i) n k)

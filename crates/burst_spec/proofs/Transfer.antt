@@ -73,19 +73,19 @@ wrap-loop s b n (suc k) hb hn e =
 module _ (s i n : ℕ) where
   wrap-runs : 0 < n → s % 2 ^ i ≡ 0 → (k : ℕ) → Runs s (2 ^ i) (wrapAddress s (2 ^ i) n k) (loopAt Wrap s (2 ^ i) n k)
   wrap-runs hn e k =
-    rw (wrap-loop s (2 ^ i) n k (pow-pos i) hn e)
-    (running s (2 ^ i) (wrapAddress s (2 ^ i) n k)
-    (round-multiple (wrapAddress s (2 ^ i) n k) (2 ^ i) (wrap-multiple s (2 ^ i) n (pow-pos i) hn e k)))
+      rw (wrap-loop s (2 ^ i) n k (pow-pos i) hn e)
+      (running s (2 ^ i) (wrapAddress s (2 ^ i) n k)
+      (round-multiple (wrapAddress s (2 ^ i) n k) (2 ^ i) (wrap-multiple s (2 ^ i) n (pow-pos i) hn e k)))
 
   runs : (m : Kind) → countAllowed m n ≡ true → misaligned m s (2 ^ i) ≡ false → (k : ℕ)
-    → Runs s (2 ^ i) (addressBy m s (2 ^ i) n k) (loopAt m s (2 ^ i) n k)
+      → Runs s (2 ^ i) (addressBy m s (2 ^ i) n k) (loopAt m s (2 ^ i) n k)
   unfolding addressBy incrAddress loopAt countAllowed
   runs Fixed c e k = rw (fixed-loop s (2 ^ i) n k) (entered s (2 ^ i))
   runs Incr c e zero = entered s (2 ^ i)
   runs Incr c e (suc k) =
-    rw (incr-loop s (2 ^ i) n k) (running s (2 ^ i) (roundDown s (2 ^ i) + suc k * 2 ^ i) (round-beats s (2 ^ i) (suc k) (pow-pos i)))
+      rw (incr-loop s (2 ^ i) n k) (running s (2 ^ i) (roundDown s (2 ^ i) + suc k * 2 ^ i) (round-beats s (2 ^ i) (suc k) (pow-pos i)))
   runs Wrap c e k =
-    wrap-runs (rw (wrap-power n c .is) (pow-pos (wrap-power n c .log))) (wrap-aligned s (2 ^ i) e) k
+      wrap-runs (rw (wrap-power n c .is) (pow-pos (wrap-power n c .log))) (wrap-aligned s (2 ^ i) e) k
   runs Reserved c e k = let z : _≡_ {A = ℕ} 0 1 = cc in absurd (omega arith)
 
 -- the lanes that the pseudo code works out are ours
@@ -99,11 +99,11 @@ module _ (s b bus a : ℕ) (l : Loop) (pos : 0 < b) (r : Runs s b a l) (y : InRo
     where
       go : (t : Bool) → l .aligned ≡ t → cond t (low-byte bus l + b - 1) (s / b * b + b - 1 - l .addr / bus * bus) ≡ upperLane a b bus
       go true e =
-        let m : a / b * b ≡ a = rw (r .addr) at (r .multiple e) in
-        rw (r .addr) (omega (arith, y .lower, y .upper))
+          let m : a / b * b ≡ a = rw (r .addr) at (r .multiple e) in
+          rw (r .addr) (omega (arith, y .lower, y .upper))
       go false e =
-        let same : s ≡ a = sym (r .first e) ∙ r .addr in
-        rw (r .addr, same) (omega (arith, y .upper))
+          let same : s ≡ a = sym (r .first e) ∙ r .addr in
+          rw (r .addr, same) (omega (arith, y .upper))
 
 -- A3.4.2 and paper 01 give the same beats
 pub transfer-is : (x : Burst) → Legal x → (k : ℕ) → transfer x k ≡ beatOf x k
@@ -113,8 +113,8 @@ transfer-is x l k =
   where
     go : (v : Loop) → Runs (x .start) (bytes x) (beatAddress x k) v → InRow (beatAddress x k) (bytes x) (x .bus) → transferAt x v ≡ beatOf x k
     go v r y =
-      λ i. record {
-        address = r .addr i;
-        lower = low-run (x .start) (bytes x) (x .bus) (beatAddress x k) v (pow-pos (x .size)) r y i;
-        upper = high-run (x .start) (bytes x) (x .bus) (beatAddress x k) v (pow-pos (x .size)) r y i
-      }
+        λ i. record {
+          address = r .addr i;
+          lower = low-run (x .start) (bytes x) (x .bus) (beatAddress x k) v (pow-pos (x .size)) r y i;
+          upper = high-run (x .start) (bytes x) (x .bus) (beatAddress x k) v (pow-pos (x .size)) r y i;
+        }

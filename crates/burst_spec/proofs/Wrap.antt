@@ -29,12 +29,12 @@ further low t o b pos h = go (eqb (low + o + b) (low + t)) refl
   where
     go : (w : Bool) → eqb (low + o + b) (low + t) ≡ w → cond w low (low + o + b) ≡ low + (o + b) % t
     go true e =
-      let f : o + b ≡ t = omega (arith, eqb-true (low + o + b) (low + t) e) in
-      rw (f, mod-self t) (sym (add-zero low))
+        let f : o + b ≡ t = omega (arith, eqb-true (low + o + b) (low + t) e) in
+        rw (f, mod-self t) (sym (add-zero low))
     go false e =
-      let ne : o + b ≡ t → ⊥ = λ f. eqb-false (low + o + b) (low + t) e (omega arith) in
-      let l : o + b < t = omega (arith, ne) in
-      rw (mod-eq-of-lt l) (omega arith)
+        let ne : o + b ≡ t → ⊥ = λ f. eqb-false (low + o + b) (low + t) e (omega arith) in
+        let l : o + b < t = omega (arith, ne) in
+        rw (mod-eq-of-lt l) (omega arith)
 
 boundary-multiple : (s b n : ℕ) → wrapBoundary s b n % b ≡ 0
 unfolding roundDown
@@ -53,9 +53,9 @@ module _ (s b n : ℕ) (hb : 0 < b) (hn : 0 < n) (start : s % b ≡ 0) where
   unfolding wrapAddress
   wrap-closed zero = rw (zero-mul b, add-zero s) (sym (round-low s (b * n)))
   wrap-closed (suc k) =
-    let e : s + suc k * b ≡ s + k * b + b = omega arith in
-    rw (wrap-closed k, e, ← mod-add-mod (s + k * b) (b * n) b)
-    (further (wrapBoundary s b n) (b * n) ((s + k * b) % (b * n)) b positive (room-for-one (s + k * b) b n hb hn (beat-aligned k)))
+      let e : s + suc k * b ≡ s + k * b + b = omega arith in
+      rw (wrap-closed k, e, ← mod-add-mod (s + k * b) (b * n) b)
+      (further (wrapBoundary s b n) (b * n) ((s + k * b) % (b * n)) b positive (room-for-one (s + k * b) b n hb hn (beat-aligned k)))
 
   -- every beat is in the container that the start is in
   pub wrap-container : (k : ℕ) → wrapAddress s b n k / (b * n) ≡ s / (b * n)

@@ -88,9 +88,9 @@ pub record Judges (x : Burst) (r : Judgement) : Type 0 where
 pub record GivesBeat (x : Burst) (k : ℕ) (r : BeatAnswer) : Type 0 where
   pub is : r ≡ beatAnswer x k
   pub shows :
-    beatShows r
-    ≡ firstOf refusalRow (checksOfBeat x k)
-    (beatRow (beatAddress x k) (lowerLane (beatAddress x k) (x .bus)) (upperLane (beatAddress x k) (bytes x) (x .bus)))
+      beatShows r
+      ≡ firstOf refusalRow (checksOfBeat x k)
+      (beatRow (beatAddress x k) (lowerLane (beatAddress x k) (x .bus)) (upperLane (beatAddress x k) (bytes x) (x .bus)))
 
 pub record GivesStep (x : Burst) (k : ℕ) (r : StepAnswer) : Type 0 where
   pub is : r ≡ stepAnswer x k

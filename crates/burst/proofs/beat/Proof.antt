@@ -1,42 +1,51 @@
+-- `burst::beat` meets its contract: a refused burst keeps its refusal, and beat k of an accepted one is worked out. Assumes nothing.
 use borrow.Author.Needs.{needs}
+use mathlib.Core.Path.{_≡_, refl, sym, ap, _∙_}
+use native.Mathlib.Omega.{arith}
+use Rattle.refusal.specs.declared.Refusal.the-variants.{Index}
+use Rattle.burst_spec.specs.declared.Judgement.the-variants.{Accepted}
+use Rattle.burst_spec.specs.declared.BeatAnswer.the-variants as beat
+use Rattle.burst_spec.specs.Address.{beatAt, beatOf}
+use Rattle.burst_spec.specs.Answers.{judgement}
+use Rattle.burst_spec.specs.Legal as legal
+use Rattle.burst_spec.proofs.Answers.{gives-beat, keeps-refusal, accepted-exactly, no-beat, has-beat}
 use Rattle.burst.proofs.beat.Statement.{statement}
 use Rattle.burst.proofs.beat.Tie as tie
-use Rattle.burst.proofs.beat.Reads as reads
-use Rattle.burst.proofs.beat.Lts as lts
-use Rattle.burst.proofs.beats.address_of.Reads as address-of-reads
-use Rattle.burst.proofs.beats.beat_at.Reads as beat-at-reads
-use Rattle.burst.proofs.judge.Reads as judge-reads
 
--- src/lib.rt:79:9
 judge-requires : tie.Need-judge-requires
 judge-requires c κs = search needs
 
--- src/lib.rt:80:31
 enum-known-judgement : tie.Need-enum-known-judgement
 enum-known-judgement c = search needs
 
--- src/lib.rt:81:9
 returns : tie.Need-returns
-returns c = ?h1
+returns c = gives-beat (c .before .before .before .before .args .b) (c .before .before .before .before .args .k) (beat.Refused (c .before .judgement .given .0 .0))
+    (sym (keeps-refusal beat.Refused (beat.At (beatOf (c .before .before .before .before .args .b) (c .before .before .before .before .args .k))) (c .before .before .before .before .args .b) (c .before .before .before .before .args .k) (c .before .judgement .given .0 .0)
+    (sym (c .before .before .before .judge .ensures .is) ∙ c .before .judgement .given .1)))
 
 enum-told : tie.Need-enum-told
 enum-told c = search needs
 
--- src/lib.rt:84:9
+judged : (c : tie.After-struct-known) → judgement (c .before .before .before .before .args .b) ≡ Accepted
+judged c = sym (c .before .before .before .judge .ensures .is) ∙ c .before .enum-told .given .1
+
+accepted : (c : tie.After-struct-known) → legal.Accepted (c .before .before .before .before .args .b)
+accepted c = accepted-exactly (c .before .before .before .before .args .b) .0 (judged c)
+
 returns-2 : tie.Need-returns-2
-returns-2 c = ?h2
+returns-2 c = gives-beat (c .before .before .before .before .before .args .b) (c .before .before .before .before .before .args .k) (beat.Refused Index)
+    (sym (no-beat beat.Refused (beat.At (beatOf (c .before .before .before .before .before .args .b) (c .before .before .before .before .before .args .k))) (c .before .before .before .before .before .args .b) (c .before .before .before .before .before .args .k) (judged (c .before)) (omega arith)))
 
--- src/lib.rt:86:38
 address-of-requires : tie.Need-address-of-requires
-address-of-requires c κs = ?h3
+address-of-requires c κs = (accepted (c .before), omega arith)
 
--- src/lib.rt:86:20
 beat-at-requires : tie.Need-beat-at-requires
-beat-at-requires c κs = ?h4
+beat-at-requires c κs = accepted (c .before .before) .legal
 
--- src/lib.rt:76:1
 returns-3 : tie.Need-returns-3
-returns-3 c = ?h5
+returns-3 c = gives-beat (c .before .before .before .before .before .before .before .args .b) (c .before .before .before .before .before .before .before .args .k) (beat.At (c .beat-at .result))
+    (ap beat.At (c .beat-at .ensures ∙ ap (beatAt (c .before .before .before .before .before .before .before .args .b)) (c .before .address-of .ensures))
+    ∙ sym (has-beat beat.Refused (beat.At (beatOf (c .before .before .before .before .before .before .before .args .b) (c .before .before .before .before .before .before .before .args .k))) (c .before .before .before .before .before .before .before .args .b) (c .before .before .before .before .before .before .before .args .k) (judged (c .before .before .before)) (omega (arith, c .before .before .if1 .left))))
 
 pub beat-spec : {M : Type 1} → statement M
 beat-spec =

@@ -1,66 +1,82 @@
+-- `burst::judge` meets its contract: each answer is the first check of the list that refuses, the checks before it having passed.
+-- Assumes nothing.
 use borrow.Author.Needs.{needs}
+use borrow.Author.Tests.{not-false}
+use mathlib.Core.Bool.{not, false}
+use mathlib.Core.Path.{_≡_, refl, sym, _∙_}
+use Rattle.refusal.specs.declared.Refusal.the-variants.{Bus, Size, Kind, Count, Align, Boundary}
+use Rattle.burst_spec.specs.declared.Judgement.the-variants.{Accepted, Refused}
+use Rattle.burst_spec.specs.Address.{bytes}
+use Rattle.burst_spec.specs.Checks.{busAllowed, tooWide, isReserved, countRefused, misaligned, crosses}
+use Rattle.burst_spec.specs.Legal.{Legal}
+use Rattle.burst_spec.proofs.Answers.{judges}
+use Rattle.burst_spec.proofs.Known.{size-known}
 use Rattle.burst.proofs.judge.Statement.{statement}
 use Rattle.burst.proofs.judge.Tie as tie
-use Rattle.burst.proofs.judge.Reads as reads
-use Rattle.burst.proofs.judge.Lts as lts
-use Rattle.burst.proofs.checks.bus_refused.Reads as bus-refused-reads
-use Rattle.burst.proofs.checks.count_refused.Reads as count-refused-reads
-use Rattle.burst.proofs.checks.is_reserved.Reads as is-reserved-reads
-use Rattle.burst.proofs.checks.leaves_block.Reads as leaves-block-reads
-use Rattle.burst.proofs.checks.start_refused.Reads as start-refused-reads
-use Rattle.burst.proofs.checks.too_wide.Reads as too-wide-reads
 
--- src/lib.rt:46:8
 bus-refused-requires : tie.Need-bus-refused-requires
 bus-refused-requires c κs = search needs
 
--- src/lib.rt:47:9
 returns : tie.Need-returns
-returns c = ?h1
+returns c = judges (c .before .before .args .b) (Refused Bus) (rw (sym (c .before .bus-refused .ensures) ∙ c .if1 .taken))
 
--- src/lib.rt:49:8
+bus-passed : (c : tie.Else1) → not (busAllowed (c .before .before .args .b .bus)) ≡ false
+bus-passed c = sym (c .before .bus-refused .ensures) ∙ c .if1 .left
+
 too-wide-requires : tie.Need-too-wide-requires
 too-wide-requires c κs = search needs
 
--- src/lib.rt:50:9
 returns-2 : tie.Need-returns-2
-returns-2 c = ?h2
+returns-2 c = judges (c .before .before .before .before .args .b) (Refused Size) (rw (bus-passed (c .before .before), sym (c .before .too-wide .ensures) ∙ c .if2 .taken))
 
--- src/lib.rt:53:8
+size-passed : (c : tie.Else2) → tooWide (c .before .before .before .before .args .b) ≡ false
+size-passed c = sym (c .before .too-wide .ensures) ∙ c .if2 .left
+
 is-reserved-requires : tie.Need-is-reserved-requires
 is-reserved-requires c κs = search needs
 
--- src/lib.rt:54:9
 returns-3 : tie.Need-returns-3
-returns-3 c = ?h3
+returns-3 c = judges (c .before .before .before .before .before .before .args .b) (Refused Kind) (rw (bus-passed (c .before .before .before .before), size-passed (c .before .before), sym (c .before .is-reserved .ensures) ∙ c .if3 .taken))
 
--- src/lib.rt:56:8
+kind-passed : (c : tie.Else3) → isReserved (c .before .before .before .before .before .before .args .b .kind) ≡ false
+kind-passed c = sym (c .before .is-reserved .ensures) ∙ c .if3 .left
+
 count-refused-requires : tie.Need-count-refused-requires
 count-refused-requires c κs = search needs
 
--- src/lib.rt:57:9
 returns-4 : tie.Need-returns-4
-returns-4 c = ?h4
+returns-4 c = judges (c .before .before .before .before .before .before .before .before .args .b) (Refused Count) (rw (bus-passed (c .before .before .before .before .before .before), size-passed (c .before .before .before .before), kind-passed (c .before .before), sym (c .before .count-refused .ensures) ∙ c .if4 .taken))
 
--- src/lib.rt:59:8
+count-passed : (c : tie.Else4) → countRefused (c .before .before .before .before .before .before .before .before .args .b) ≡ false
+count-passed c = sym (c .before .count-refused .ensures) ∙ c .if4 .left
+
 start-refused-requires : tie.Need-start-refused-requires
-start-refused-requires c κs = ?h5
+start-refused-requires c κs = size-known (c .before .before .before .before .before .before .before .before .args .b) (size-passed (c .before .before .before .before)) .0
 
--- src/lib.rt:60:9
 returns-5 : tie.Need-returns-5
-returns-5 c = ?h6
+returns-5 c = judges (c .before .before .before .before .before .before .before .before .before .before .args .b) (Refused Align) (rw (bus-passed (c .before .before .before .before .before .before .before .before), size-passed (c .before .before .before .before .before .before), kind-passed (c .before .before .before .before), count-passed (c .before .before), sym (c .before .start-refused .ensures) ∙ c .if5 .taken))
 
--- src/lib.rt:62:8
+start-passed : (c : tie.Else5) → misaligned (c .before .before .before .before .before .before .before .before .before .before .args .b .kind) (c .before .before .before .before .before .before .before .before .before .before .args .b .start) (bytes (c .before .before .before .before .before .before .before .before .before .before .args .b)) ≡ false
+start-passed c = sym (c .before .start-refused .ensures) ∙ c .if5 .left
+
 leaves-block-requires : tie.Need-leaves-block-requires
-leaves-block-requires c κs = ?h7
+leaves-block-requires c κs =
+    record {
+      bus = not-false (busAllowed (c .before .before .before .before .before .before .before .before .before .before .args .b .bus)) (bus-passed (c .before .before .before .before .before .before .before .before));
+      size = size-passed (c .before .before .before .before .before .before);
+      kind = kind-passed (c .before .before .before .before);
+      count = count-passed (c .before .before);
+      start = start-passed c;
+    }
 
--- src/lib.rt:63:9
 returns-6 : tie.Need-returns-6
-returns-6 c = ?h8
+returns-6 c = judges (c .before .before .before .before .before .before .before .before .before .before .before .before .args .b) (Refused Boundary) (rw (bus-passed (c .before .before .before .before .before .before .before .before .before .before), size-passed (c .before .before .before .before .before .before .before .before), kind-passed (c .before .before .before .before .before .before), count-passed (c .before .before .before .before), start-passed (c .before .before), sym (c .before .leaves-block .ensures) ∙ c .if6 .taken))
 
--- src/lib.rt:43:1
+block-passed : (c : tie.Else6) → crosses (c .before .before .before .before .before .before .before .before .before .before .before .before .args .b) ≡ false
+block-passed c = sym (c .before .leaves-block .ensures) ∙ c .if6 .left
+
 returns-7 : tie.Need-returns-7
-returns-7 c = ?h9
+returns-7 c = judges (c .before .before .before .before .before .before .before .before .before .before .before .before .args .b) Accepted (rw (bus-passed (c .before .before .before .before .before .before .before .before .before .before), size-passed (c .before .before .before .before .before .before .before .before), kind-passed (c .before .before .before .before .before .before), count-passed (c .before .before .before .before), start-passed (c .before .before), block-passed c))
 
 pub judge-spec : {M : Type 1} → statement M
 judge-spec =

@@ -1,39 +1,34 @@
+-- `burst::beats::beat_at` meets its contract: a beat's highest byte lies in the memory that its address lies in. Assumes nothing.
 use borrow.Author.Needs.{needs}
+use mathlib.Core.Path.{_≡_, refl, sym, ap, _∙_}
+use Prim.Native.Nat.{_+_, _*_, _%_, _<_, _≤_, _^_}
+use native.Mathlib.Omega.{arith}
+use lib.Pow.{pow-pos}
+use Rattle.burst_spec.proofs.Known.{size-small}
+use Rattle.burst.proofs.Formulas.{bus-is-power, highest-fits}
 use Rattle.burst.proofs.beats.beat_at.Statement.{statement}
 use Rattle.burst.proofs.beats.beat_at.Tie as tie
-use Rattle.burst.proofs.beats.beat_at.Reads as reads
-use Rattle.burst.proofs.beats.beat_at.Lts as lts
-use Rattle.burst.proofs.checks.bytes_of.Reads as bytes-of-reads
-use Rattle.burst.proofs.rounding.low_part.Reads as low-part-reads
-use Rattle.burst.proofs.rounding.round_down.Reads as round-down-reads
 
--- src/beats.rt:60:9
 bytes-of-requires : tie.Need-bytes-of-requires
-bytes-of-requires c κs = ?h1
+bytes-of-requires c κs = size-small (c .args .b) (c .pre)
 
--- src/beats.rt:62:19
 round-down-requires : tie.Need-round-down-requires
 round-down-requires c κs = search needs
 
--- src/beats.rt:62:49
 sub-highest : tie.Need-sub-highest
-sub-highest c = ?h2
+sub-highest c = rw (c .before .bytes-of .ensures) (pow-pos (c .before .before .args .b .size))
 
--- src/beats.rt:62:19
 add-highest : tie.Need-add-highest
-add-highest c = ?h3
+add-highest c = rw (c .round-down .ensures, c .before .bytes-of .ensures) (record { fits = highest-fits 32 (c .before .before .args .b .size) (c .before .before .args .address) (omega (arith, size-small (c .before .before .args .b) (c .before .before .pre))) (c .before .before .fits .address .fits) })
 
--- src/beats.rt:65:16
 low-part-requires : tie.Need-low-part-requires
-low-part-requires c κs = ?h4
+low-part-requires c κs = bus-is-power (c .before .before .args .b) (c .before .before .pre)
 
--- src/beats.rt:66:16
 low-part-requires-2 : tie.Need-low-part-requires-2
-low-part-requires-2 c κs = ?h5
+low-part-requires-2 c κs = bus-is-power (c .before .before .before .args .b) (c .before .before .before .pre)
 
--- src/beats.rt:56:1
 returns : tie.Need-returns
-returns c = ?h6
+returns c = rw (c .before .low-part .ensures, c .low-part2 .ensures, c .before .before .round-down .ensures, c .before .before .before .bytes-of .ensures)
 
 pub beat-at-spec : {M : Type 1} → statement M
 beat-at-spec =

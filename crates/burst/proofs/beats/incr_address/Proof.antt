@@ -1,34 +1,36 @@
+-- `burst::beats::incr_address` meets its contract: the formula of A3.4.1, whose result lies in the block that the start lies in. Assumes nothing.
 use borrow.Author.Needs.{needs}
+use mathlib.Core.Path.{_≡_, refl, sym, ap, _∙_}
+use Prim.Native.Nat.{_+_, _*_, _%_, _<_, _≤_, _^_}
+use native.Mathlib.Omega.{arith}
+use Rattle.burst_spec.specs.Address.{beatAddress}
+use Rattle.burst_spec.proofs.Known.{size-small, span-small}
+use Rattle.burst.proofs.Formulas.{incr-first, incr-later, address-fits}
 use Rattle.burst.proofs.beats.incr_address.Statement.{statement}
 use Rattle.burst.proofs.beats.incr_address.Tie as tie
-use Rattle.burst.proofs.beats.incr_address.Reads as reads
-use Rattle.burst.proofs.beats.incr_address.Lts as lts
-use Rattle.burst.proofs.checks.bytes_of.Reads as bytes-of-reads
-use Rattle.burst.proofs.rounding.round_down.Reads as round-down-reads
 
--- src/beats.rt:23:9
 returns : tie.Need-returns
-returns c = ?h1
+returns c = incr-first (c .before .args .b) (c .before .args .k) (c .before .pre .1) (c .if1 .taken)
 
--- src/beats.rt:25:9
 bytes-of-requires : tie.Need-bytes-of-requires
-bytes-of-requires c κs = ?h2
+bytes-of-requires c κs = size-small (c .before .args .b) (c .before .pre .0 .legal)
 
--- src/beats.rt:26:5
 round-down-requires : tie.Need-round-down-requires
 round-down-requires c κs = search needs
 
--- src/beats.rt:26:34
+sum-is : (c : tie.After-round-down) → c .round-down .result + c .before .before .before .args .k * c .before .bytes-of .result ≡ beatAddress (c .before .before .before .args .b) (c .before .before .before .args .k)
+sum-is c =
+    rw (c .round-down .ensures, c .before .bytes-of .ensures)
+    (incr-later (c .before .before .before .args .b) (c .before .before .before .args .k) (c .before .before .before .pre .1) (c .before .before .if1 .left))
+
 mul-result : tie.Need-mul-result
-mul-result c = ?h3
+mul-result c = rw (c .before .bytes-of .ensures) (omega (arith, span-small (c .before .before .before .args .b) (c .before .before .before .pre .0 .legal) (c .before .before .before .args .k) (omega (arith, c .before .before .before .pre .2))))
 
--- src/beats.rt:26:5
 add-result : tie.Need-add-result
-add-result c = ?h4
+add-result c = record { fits = rw (sum-is c) (address-fits (c .before .before .before .args .b) (c .before .before .before .args .k) 32 (omega arith) (omega (arith, c .before .before .before .good)) (c .before .before .before .pre .0) (c .before .before .before .pre .2)) }
 
--- src/beats.rt:18:1
 returns-2 : tie.Need-returns-2
-returns-2 c = ?h5
+returns-2 c = sum-is c
 
 pub incr-address-spec : {M : Type 1} → statement M
 incr-address-spec =

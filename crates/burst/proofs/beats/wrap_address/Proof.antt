@@ -1,50 +1,56 @@
+-- `burst::beats::wrap_address` meets its contract: the offset goes round in a container that is a power of two. Assumes nothing.
+use mathlib.Core.Path.{_≡_, refl, sym, ap, _∙_}
+use Prim.Native.Nat.{_+_, _*_, _%_, _<_, _≤_, _^_}
+use native.Mathlib.Nat.{mod-lt}
+use native.Mathlib.Omega.{arith}
+use Rattle.burst_spec.specs.Address.{beatAddress}
+use Rattle.burst_spec.proofs.Known.{known, size-small, span-small}
+use Rattle.burst_spec.proofs.Rounding.{power-positive}
+use Rattle.burst.proofs.Formulas.{container-power, wrap-formula, address-fits}
 use Rattle.burst.proofs.beats.wrap_address.Statement.{statement}
 use Rattle.burst.proofs.beats.wrap_address.Tie as tie
-use Rattle.burst.proofs.beats.wrap_address.Reads as reads
-use Rattle.burst.proofs.beats.wrap_address.Lts as lts
-use Rattle.burst.proofs.checks.bytes_of.Reads as bytes-of-reads
-use Rattle.burst.proofs.rounding.low_part.Reads as low-part-reads
-use Rattle.burst.proofs.rounding.round_down.Reads as round-down-reads
 
--- src/beats.rt:35:9
 bytes-of-requires : tie.Need-bytes-of-requires
-bytes-of-requires c κs = ?h1
+bytes-of-requires c κs = size-small (c .args .b) (c .pre .0 .legal)
 
--- src/beats.rt:36:31
 add-container : tie.Need-add-container
-add-container c = ?h2
+add-container c = omega (arith, known (c .before .before .args .b) (c .before .before .pre .0 .legal) .few)
 
--- src/beats.rt:36:21
 mul-container : tie.Need-mul-container
-mul-container c = ?h3
+mul-container c = rw (c .before .bytes-of .ensures) (omega (arith, span-small (c .before .before .args .b) (c .before .before .pre .0 .legal) (c .before .before .args .b .len + 1) (omega arith)))
 
--- src/beats.rt:37:18
 low-part-requires : tie.Need-low-part-requires
-low-part-requires c κs = ?h4
+low-part-requires c κs = rw (c .before .bytes-of .ensures) (container-power (c .before .before .args .b) (c .before .before .pre .0 .legal) (c .before .before .pre .1))
 
--- src/beats.rt:37:49
 mul-offset : tie.Need-mul-offset
-mul-offset c = ?h5
+mul-offset c = rw (c .before .before .bytes-of .ensures) (omega (arith, span-small (c .before .before .before .args .b) (c .before .before .before .pre .0 .legal) (c .before .before .before .args .k) (omega (arith, c .before .before .before .pre .2))))
 
--- src/beats.rt:37:18
 add-offset : tie.Need-add-offset
-add-offset c = ?h6
+add-offset c = rw (c .low-part .ensures, c .before .before .bytes-of .ensures)
+    (omega (
+      arith,
+      span-small (c .before .before .before .args .b) (c .before .before .before .pre .0 .legal) (c .before .before .before .args .k) (omega (arith, c .before .before .before .pre .2)),
+      span-small (c .before .before .before .args .b) (c .before .before .before .pre .0 .legal) (c .before .before .before .args .b .len + 1) (omega arith),
+      mod-lt (c .before .before .before .args .b .start) (power-positive (container-power (c .before .before .before .args .b) (c .before .before .before .pre .0 .legal) (c .before .before .before .pre .1))),
+    ))
 
--- src/beats.rt:38:5
 round-down-requires : tie.Need-round-down-requires
-round-down-requires c κs = ?h7
+round-down-requires c κs = rw (c .before .before .bytes-of .ensures) (container-power (c .before .before .before .args .b) (c .before .before .before .pre .0 .legal) (c .before .before .before .pre .1))
 
--- src/beats.rt:38:38
 low-part-requires-2 : tie.Need-low-part-requires-2
-low-part-requires-2 c κs = ?h8
+low-part-requires-2 c κs = rw (c .before .before .before .bytes-of .ensures) (container-power (c .before .before .before .before .args .b) (c .before .before .before .before .pre .0 .legal) (c .before .before .before .before .pre .1))
 
--- src/beats.rt:38:5
+sum-is : (c : tie.After-low-part2) → c .before .round-down .result + c .low-part2 .result ≡ beatAddress (c .before .before .before .before .before .args .b) (c .before .before .before .before .before .args .k)
+sum-is c =
+    rw (c .before .round-down .ensures, c .low-part2 .ensures, c .before .before .low-part .ensures, c .before .before .before .before .bytes-of .ensures)
+    (wrap-formula (c .before .before .before .before .before .args .b) (c .before .before .before .before .before .args .k)
+    (c .before .before .before .before .before .pre .0 .legal) (c .before .before .before .before .before .pre .1))
+
 add-result : tie.Need-add-result
-add-result c = ?h9
+add-result c = record { fits = rw (sum-is c) (address-fits (c .before .before .before .before .before .args .b) (c .before .before .before .before .before .args .k) 32 (omega arith) (omega (arith, c .before .before .before .before .before .good)) (c .before .before .before .before .before .pre .0) (c .before .before .before .before .before .pre .2)) }
 
--- src/beats.rt:31:1
 returns : tie.Need-returns
-returns c = ?h10
+returns c = sum-is c
 
 pub wrap-address-spec : {M : Type 1} → statement M
 wrap-address-spec =

@@ -9,7 +9,6 @@ use Rattle.burst.proofs.Tests.{among-yes, none-among, one-or-two, betwe
 use Rattle.burst.proofs.checks.bus_refused.Statement.{statement}
 use Rattle.burst.proofs.checks.bus_refused.Tie as tie
 
-
 abbrev widths : List ℕ
 widths = 1 ∷ 2 ∷ 4 ∷ 8 ∷ 16 ∷ 32 ∷ 64 ∷ 128 ∷ []
 

@@ -1,65 +1,53 @@
+-- `burst::checks::leaves_block` meets its contract: the test of INCR is the 4KB rule, and no other kind can break it. Assumes nothing.
 use borrow.Author.Needs.{needs}
+use mathlib.Core.Path.{_≡_, refl, sym, ap, _∙_}
+use Prim.Native.Nat.{ℕ, _+_}
+use native.Mathlib.Omega.{arith}
+use Rattle.burst_spec.specs.declared.Kind.the-variants.{Fixed, Wrap}
+use Rattle.burst_spec.proofs.Known.{known, size-small, span-small}
+use Rattle.burst.proofs.Formulas.{power, other-kind-inside, incr-test}
 use Rattle.burst.proofs.checks.leaves_block.Statement.{statement}
 use Rattle.burst.proofs.checks.leaves_block.Tie as tie
-use Rattle.burst.proofs.checks.leaves_block.Reads as reads
-use Rattle.burst.proofs.checks.leaves_block.Lts as lts
-use Rattle.burst.proofs.checks.bytes_of.Reads as bytes-of-reads
-use Rattle.burst.proofs.rounding.low_part.Reads as low-part-reads
-use Rattle.burst.proofs.rounding.round_down.Reads as round-down-reads
 
--- src/checks.rt:112:24
 enum-told : tie.Need-enum-told
 enum-told c = search needs
 
--- src/checks.rt:114:17
 enum-told-2 : tie.Need-enum-told-2
 enum-told-2 c = search needs
 
--- src/checks.rt:114:17
 bytes-of-requires : tie.Need-bytes-of-requires
-bytes-of-requires c κs = ?h1
+bytes-of-requires c κs = size-small (c .before .before .args .b) (c .before .before .pre)
 
--- src/checks.rt:115:35
 round-down-requires : tie.Need-round-down-requires
 round-down-requires c κs = search needs
 
--- src/checks.rt:115:17
 low-part-requires : tie.Need-low-part-requires
-low-part-requires c κs = ?h2
+low-part-requires c κs = power 12
 
--- src/checks.rt:116:26
 add-beats : tie.Need-add-beats
-add-beats c = ?h3
+add-beats c = omega (arith, known (c .before .before .before .before .before .before .args .b) (c .before .before .before .before .before .before .pre) .few)
 
--- src/checks.rt:117:29
 mul-result : tie.Need-mul-result
-mul-result c = ?h4
+mul-result c = rw (c .before .before .before .bytes-of .ensures) (omega (arith, span-small (c .before .before .before .before .before .before .args .b) (c .before .before .before .before .before .before .pre) (c .before .before .before .before .before .before .args .b .len + 1) (omega arith)))
 
--- src/checks.rt:117:20
 add-result : tie.Need-add-result
-add-result c = ?h5
+add-result c = rw (c .before .low-part .ensures, c .before .before .before .bytes-of .ensures) (omega (arith, span-small (c .before .before .before .before .before .before .args .b) (c .before .before .before .before .before .before .pre) (c .before .before .before .before .before .before .args .b .len + 1) (omega arith)))
 
--- src/checks.rt:119:23
 enum-told-3 : tie.Need-enum-told-3
 enum-told-3 c = search needs
 
--- src/checks.rt:120:27
 enum-told-4 : tie.Need-enum-told-4
 enum-told-4 c = search needs
 
--- src/checks.rt:106:1
 returns : tie.Need-returns
-returns c = ?h6
+returns c = other-kind-inside (c .before .before .args .b) (c .before .before .pre) Fixed (c .enum-told .given .1) (λ e. let z : _≡_ {A = ℕ} 0 1 = cc in omega arith)
 
--- src/checks.rt:106:1
 returns-2 : tie.Need-returns-2
-returns-2 c = ?h7
+returns-2 c = rw (c .before .low-part .ensures) (incr-test (c .before .before .before .before .before .before .args .b) (c .before .before .before .before .before .before .pre) (c .before .before .before .before .enum-told2 .given .1) (c .before .before .round-down .result) (c .before .before .before .bytes-of .result) (c .before .before .round-down .ensures) (c .before .before .before .bytes-of .ensures))
 
--- src/checks.rt:106:1
 returns-3 : tie.Need-returns-3
-returns-3 c = ?h8
+returns-3 c = other-kind-inside (c .before .before .args .b) (c .before .before .pre) Wrap (c .enum-told3 .given .1) (λ e. let z : _≡_ {A = ℕ} 0 1 = cc in omega arith)
 
--- src/checks.rt:106:1
 returns-4 : tie.Need-returns-4
 returns-4 c = search needs
 
