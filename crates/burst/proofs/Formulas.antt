@@ -18,7 +18,7 @@ use Rattle.burst_spec.specs.Checks.{crosses, crossesBy, countAllowed, misaligne
 use Rattle.burst_spec.specs.Legal.{Power, Legal, Accepted}
 use Rattle.burst_spec.proofs.Known.{known, Known, UpTo, wrap-power, size-small, bytes-small, span-small}
 use Rattle.burst_spec.proofs.Rounding.{round-near, highest-quotient, coarser}
-use Rattle.burst_spec.proofs.Block.{incr-crosses, only-incr-crosses, address-block, in-memory}
+use Rattle.burst_spec.proofs.Block.{incr-crosses, only-incr, address-block, in-memory}
 use Rattle.burst_spec.proofs.Step.{sub-shift, sub-down}
 use Rattle.burst_spec.proofs.Wrap.{wrap-aligned, wrap-closed}
 
@@ -31,8 +31,7 @@ module _ (x : Burst) (l : Legal x) where
 
   -- the 4KB test
   pub other-kind-inside : (m : Kind) → x .kind ≡ m → (m ≡ Incr → ⊥) → false ≡ crosses x
-  other-kind-inside m e h =
-      sym (only-incr-crosses (x .start) (x .size) (beats x) (size-small x l) (x .kind) (λ f. h (sym e ∙ f)) (known x l .count) (l .start))
+  other-kind-inside m e h = sym (only-incr x l (λ f. h (sym e ∙ f)))
 
   pub incr-test : x .kind ≡ Incr → (first b : ℕ) → first ≡ roundDown (x .start) b → b ≡ bytes x
       → ltb 4096 (first % 4096 + beats x * b) ≡ crosses x

@@ -59,7 +59,8 @@ pub fn beat_at(b: Burst, address: Address) -> Beat
 {
     let bytes = bytes_of(b.size);
     let bus = b.bus as Address;
-    let highest = round_down(address, bytes) + (bytes - 1);
+    let first = round_down(address, bytes);
+    let highest = first + (bytes - 1);
     Beat {
         address,
         lower: low_part(address, bus) as u32,

@@ -112,7 +112,8 @@ pub fn leaves_block(b: Burst) -> bool
         Kind::Fixed => false,
         Kind::Incr => {
             let bytes = bytes_of(b.size);
-            let offset = low_part(round_down(b.start, bytes), 4096);
+            let first = round_down(b.start, bytes);
+            let offset = low_part(first, 4096);
             let beats = (b.len + 1) as Address;
             4096 < offset + beats * bytes
         }

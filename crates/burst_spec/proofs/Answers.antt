@@ -8,7 +8,7 @@ use native.Mathlib.Omega.{arith}
 use lib.Dec.{leb}
 use borrow.Author.Tests.{not-false, le-leb, lt-leb}
 use Rattle.refusal.specs.declared.Refusal.{Refusal}
-use Rattle.refusal.specs.declared.Refusal.the-variants.{Index}
+use Rattle.refusal.specs.declared.Refusal.the-variants.{Bus, Size, Kind, Count, Align, Boundary, Index}
 use Rattle.burst_spec.specs.declared.Burst.{Burst}
 use Rattle.burst_spec.specs.declared.Kind.the-variants.{Reserved}
 use Rattle.burst_spec.specs.declared.Judgement.{Judgement}
@@ -18,7 +18,7 @@ use Rattle.burst_spec.specs.declared.BeatAnswer.the-variants as beat
 use Rattle.burst_spec.specs.declared.StepAnswer.{StepAnswer}
 use Rattle.burst_spec.specs.declared.StepAnswer.the-variants as step
 use Rattle.burst_spec.specs.Address.{beats, beatOf, beatStep}
-use Rattle.burst_spec.specs.Checks.{Check, decided, firstOf, checks, checksOfBeat, checksOfStep}
+use Rattle.burst_spec.specs.Checks.{Check, decided, firstOf, crosses, checks, checksOfBeat, checksOfStep}
 use Rattle.burst_spec.specs.Legal.{Legal, Accepted}
 use Rattle.burst_spec.specs.Answers.{kindOf, judgement, beatAnswer, stepAnswer, Row, refusalRow, acceptedRow, judgementShows, beatShows, stepShows, Judges, GivesBeat, GivesStep}
 
@@ -82,6 +82,9 @@ module _ {A : Type 0} (g : Refusal → A) (ok : A) (x : Burst) (k : ℕ) where
   pub has-beat : judgement x ≡ judged.Accepted → k < beats x → firstOf g (checksOfBeat x k) ok ≡ ok
   has-beat e h = carries-on g ok indexCheck (checks x) e ∙ ap (λ t. decided t (g Index) ok) (lt-leb (beats x) k h)
 
+clash : true ≡ false → ⊥
+clash e = let z : _≡_ {A = ℕ} 0 1 = cc in omega arith
+
 passed : (t : Bool) (r : Refusal) (y : Judgement) → decided t (judged.Refused r) y ≡ judged.Accepted → (t ≡ false) × (y ≡ judged.Accepted)
 passed true r y e = let z : _≡_ {A = ℕ} 0 1 = cc in absurd (omega arith)
 passed false r y e = (refl, e)
@@ -106,6 +109,31 @@ accepted-exactly x = (there, back)
     back : Accepted x → judgement x ≡ judged.Accepted
     back y =
         rw (y .legal .bus, y .legal .size, y .legal .kind, y .legal .count, y .legal .start, y .inside)
+
+-- FENCE is given exactly if none of 7 to 11 holds and the burst leaves its start's block
+pub boundary-exactly : (x : Burst) → (judgement x ≡ judged.Refused Boundary) ↔ (Legal x × (crosses x ≡ true))
+boundary-exactly x = (there, back)
+  where
+    earlier : (t : Bool) (r : Refusal) (y : Judgement) → (r ≡ Boundary → ⊥)
+        → decided t (judged.Refused r) y ≡ judged.Refused Boundary → (t ≡ false) × (y ≡ judged.Refused Boundary)
+    earlier true r y h e = absurd (h cc)
+    earlier false r y h e = (refl, e)
+
+    last : (t : Bool) → decided t (judged.Refused Boundary) judged.Accepted ≡ judged.Refused Boundary → t ≡ true
+    last true e = refl
+    last false e = cc
+
+    there : judgement x ≡ judged.Refused Boundary → Legal x × (crosses x ≡ true)
+    there e =
+        let p1 = earlier _ Bus _ (λ f. clash cc) e in
+        let p2 = earlier _ Size _ (λ f. clash cc) (p1 .1) in
+        let p3 = earlier _ Kind _ (λ f. clash cc) (p2 .1) in
+        let p4 = earlier _ Count _ (λ f. clash cc) (p3 .1) in
+        let p5 = earlier _ Align _ (λ f. clash cc) (p4 .1) in
+        (record { bus = not-false _ (p1 .0); size = p2 .0; kind = p3 .0; count = p4 .0; start = p5 .0 }, last _ (p5 .1))
+
+    back : Legal x × (crosses x ≡ true) → judgement x ≡ judged.Refused Boundary
+    back y = rw (y .0 .bus, y .0 .size, y .0 .kind, y .0 .count, y .0 .start, y .1)
 
 -- the numbers from 3 on are the reserved kind, and no others
 pub reserved-exactly : (n : ℕ) → (kindOf n ≡ Reserved) ↔ (3 ≤ n)

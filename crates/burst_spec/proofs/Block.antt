@@ -1,42 +1,29 @@
 -- The 4KB rule: what the code tests of INCR is exactly the paper's rule, no other kind can break it, and an accepted burst
 -- stays in the block it starts in. Assumes nothing.
-use mathlib.Core.Bool.{Bool, true, false, not, _||_}
+use mathlib.Core.Bool.{Bool, true, false, not}
+use mathlib.Core.Logic.{_↔_}
 use mathlib.Core.Path.{_≡_, refl, sym, ap, _∙_}
 use Prim.Native.Nat.{ℕ, zero, suc, _+_, _-_, _*_, _/_, _%_, _^_, _≤_, _<_}
-use native.Mathlib.Nat.{div-eq-of-lt, div-lt-iff-lt-mul, mul-add-div-right, mul-div-cancel, mul-le-mul-right, mod-lt}
-use native.Mathlib.Decide.{decLt}
+use native.Mathlib.Nat.{div-eq-of-lt, div-lt-iff-lt-mul, mul-le-mul-right}
 use native.Mathlib.Omega.{arith}
 use lib.Dec.{ltb, leb, eqb}
 use lib.Pow.{pow-pos, pow-add}
-use borrow.Author.Tests.{eqb-true, eq-eqb, not-false, lt-ltb, le-ltb, ltb-true, ltb-false}
+use borrow.Author.Tests.{eqb-true, eqb-false, eq-eqb, not-true, not-false, ltb-true, ltb-false}
 use Rattle.burst_spec.specs.declared.Burst.{Burst}
 use Rattle.burst_spec.specs.declared.Kind.{Kind}
 use Rattle.burst_spec.specs.declared.Kind.the-variants.{Fixed, Incr, Wrap, Reserved}
 use Rattle.burst_spec.specs.Address.{roundDown, highestByte, incrAddress, wrapAddress, wrapBoundary, addressBy, beats, bytes, beatAddress}
-use Rattle.burst_spec.specs.Checks.{someBelow, outside, beatOutside, crossesBy, countAllowed, misaligned}
+use Rattle.burst_spec.specs.Checks.{outside, beatOutside, crosses, crossesBy, countAllowed, misaligned}
 use Rattle.burst_spec.specs.Legal.{Legal, Accepted}
-use Rattle.burst_spec.proofs.Known.{or-false, wrap-power, UpTo, known, Known}
-use Rattle.burst_spec.proofs.Rounding.{round-le, round-near, same-quotient, quotient-of, highest-quotient, coarser}
+use Rattle.burst_spec.proofs.Below.{none-below, each-below, found-below}
+use Rattle.burst_spec.proofs.Known.{wrap-power, UpTo, known, Known, size-small}
+use Rattle.burst_spec.proofs.Rounding.{round-le, round-near, round-beats, same-quotient, quotient-of, coarser}
 use Rattle.burst_spec.proofs.Wrap.{wrap-aligned, wrap-container}
-
-none-below : (n : ℕ) (p : ℕ → Bool) → ((k : ℕ) → k < n → p k ≡ false) → someBelow n p ≡ false
-unfolding someBelow
-none-below zero p h = refl
-none-below (suc n) p h = rw (h n (omega arith)) (none-below n p (λ k l. h k (omega arith)))
-
-each-below : (n : ℕ) (p : ℕ → Bool) → someBelow n p ≡ false → (k : ℕ) → k < n → p k ≡ false
-unfolding someBelow
-each-below zero p e k l = absurd (omega arith)
-each-below (suc n) p e k l = go (or-false _ _ e) (each-below n p) (decLt k n)
-  where
-    go : (p n ≡ false) × (someBelow n p ≡ false) → (someBelow n p ≡ false → (j : ℕ) → j < n → p j ≡ false) → Dec (k < n) → p k ≡ false
-    go h rest (yes below) = rest (h .1) k below
-    go h rest (no above) = let same : k ≡ n = omega arith in rw same (h .0)
 
 inside : (s a : ℕ) → a / 4096 ≡ s / 4096 → outside s a ≡ false
 inside s a e = rw (eq-eqb (a / 4096) (s / 4096) e)
 
-pub not-outside : (s a : ℕ) → outside s a ≡ false → a / 4096 ≡ s / 4096
+not-outside : (s a : ℕ) → outside s a ≡ false → a / 4096 ≡ s / 4096
 not-outside s a e = eqb-true (a / 4096) (s / 4096) (not-false (eqb (a / 4096) (s / 4096)) e)
 
 module _ (s i : ℕ) (small : i ≤ 12) where
@@ -60,24 +47,17 @@ module _ (s i : ℕ) (small : i ≤ 12) where
   unfolding crossesBy
   all-inside m n h = none-below n (λ k. beatOutside s (2 ^ i) (addressBy m s (2 ^ i) n k)) (λ k l. beat-inside (addressBy m s (2 ^ i) n k) (h k l))
 
-  -- and if no beat is outside, every byte of every beat is in the block
-  pub bytes-inside : (m : Kind) (n : ℕ) → crossesBy m s (2 ^ i) n ≡ false → (k a : ℕ) → k < n
-      → addressBy m s (2 ^ i) n k ≤ a → a ≤ highestByte (addressBy m s (2 ^ i) n k) (2 ^ i) → a / 4096 ≡ s / 4096
-  unfolding crossesBy
-  bytes-inside m n e k a l from to =
-      let at : ℕ = addressBy m s (2 ^ i) n k in
-      let same : at + (a - at) ≡ a = omega arith in
-      rw same at
-      (not-outside s (at + (a - at))
-      (each-below (highestByte at (2 ^ i) - at + 1) (λ j. outside s (at + j))
-      (each-below n (λ j. beatOutside s (2 ^ i) (addressBy m s (2 ^ i) n j)) e k l) (a - at) (omega arith)))
-
--- rounding what is rounded, some beats on
-pub round-beats : (s b k : ℕ) → 0 < b → roundDown (roundDown s b + k * b) b ≡ roundDown s b + k * b
-unfolding roundDown
-round-beats s b k h =
-    let e : (s / b * b + k * b) / b ≡ s / b + k = mul-add-div-right h (s / b) (k * b) ∙ ap (λ q. s / b + q) (mul-div-cancel k h) in
-    rw e (omega arith)
+-- if no beat is outside, every byte of every beat is in the block
+bytes-inside : (m : Kind) (s b n : ℕ) → crossesBy m s b n ≡ false → (k a : ℕ) → k < n
+    → addressBy m s b n k ≤ a → a ≤ highestByte (addressBy m s b n k) b → a / 4096 ≡ s / 4096
+unfolding crossesBy
+bytes-inside m s b n e k a l from to =
+    let at : ℕ = addressBy m s b n k in
+    let same : at + (a - at) ≡ a = omega arith in
+    rw same at
+    (not-outside s (at + (a - at))
+    (each-below (highestByte at b - at + 1) (λ j. outside s (at + j))
+    (each-below n (λ j. beatOutside s b (addressBy m s b n j)) e k l) (a - at) (omega arith)))
 
 pub incr-round : (s b k : ℕ) → 0 < b → roundDown (incrAddress s b k) b ≡ roundDown s b + k * b
 unfolding incrAddress
@@ -105,7 +85,7 @@ module _ (s i : ℕ) (small : i ≤ 12) where
   fits-incr (suc k) h e =
       let near : incrAddress s (2 ^ i) k < roundDown (incrAddress s (2 ^ i) k) (2 ^ i) + 2 ^ i = round-near (incrAddress s (2 ^ i) k) (2 ^ i) (pow-pos i) in
       let high : highestByte (incrAddress s (2 ^ i) k) (2 ^ i) / 4096 ≡ s / 4096 =
-      bytes-inside s i small Incr (suc k) e k (highestByte (incrAddress s (2 ^ i) k) (2 ^ i)) (omega arith) (omega arith) (omega arith)
+      bytes-inside Incr s (2 ^ i) (suc k) e k (highestByte (incrAddress s (2 ^ i) k) (2 ^ i)) (omega arith) (omega arith) (omega arith)
       in
       let r : roundDown (incrAddress s (2 ^ i) k) (2 ^ i) ≡ roundDown s (2 ^ i) + k * 2 ^ i = incr-round s (2 ^ i) k (pow-pos i) in
       let h2 : (roundDown s (2 ^ i) + k * 2 ^ i + (2 ^ i - 1)) / 4096 ≡ roundDown s (2 ^ i) / 4096 = rw r at high ∙ sym aligned-block in
@@ -123,12 +103,12 @@ module _ (s i : ℕ) (small : i ≤ 12) where
 
 -- "Only INCR can do so."
 module _ (s i n : ℕ) (small : i ≤ 7) where
-  pub fixed-inside : crossesBy Fixed s (2 ^ i) n ≡ false
+  fixed-inside : crossesBy Fixed s (2 ^ i) n ≡ false
   unfolding addressBy
   fixed-inside = all-inside s i (omega arith) Fixed n (λ k l. refl)
 
   -- a wrapping burst's container lies in one block
-  pub wrap-inside : countAllowed Wrap n ≡ true → misaligned Wrap s (2 ^ i) ≡ false → crossesBy Wrap s (2 ^ i) n ≡ false
+  wrap-inside : countAllowed Wrap n ≡ true → misaligned Wrap s (2 ^ i) ≡ false → crossesBy Wrap s (2 ^ i) n ≡ false
   unfolding addressBy
   wrap-inside c e = all-inside s i (omega arith) Wrap n (λ k l. go (wrap-power n c) k)
     where
@@ -139,20 +119,64 @@ module _ (s i n : ℕ) (small : i ≤ 7) where
           let small : i + p .log ≤ 12 = omega (arith, p .small) in
           coarser (wrapAddress s (2 ^ i) n k) s small (rw t at (wrap-container s (2 ^ i) n (pow-pos i) some (wrap-aligned s (2 ^ i) e) k))
 
-  pub only-incr-crosses : (m : Kind) → (m ≡ Incr → ⊥) → countAllowed m n ≡ true → misaligned m s (2 ^ i) ≡ false → crossesBy m s (2 ^ i) n ≡ false
+  others-inside : (m : Kind) → (m ≡ Incr → ⊥) → countAllowed m n ≡ true → misaligned m s (2 ^ i) ≡ false → crossesBy m s (2 ^ i) n ≡ false
   unfolding countAllowed
-  only-incr-crosses Fixed h c e = fixed-inside
-  only-incr-crosses Incr h c e = absurd (h refl)
-  only-incr-crosses Wrap h c e = wrap-inside c e
-  only-incr-crosses Reserved h c e = let z : _≡_ {A = ℕ} 0 1 = cc in absurd (omega arith)
+  others-inside Fixed h c e = fixed-inside
+  others-inside Incr h c e = absurd (h refl)
+  others-inside Wrap h c e = wrap-inside c e
+  others-inside Reserved h c e = let z : _≡_ {A = ℕ} 0 1 = cc in absurd (omega arith)
+
+pub only-incr : (x : Burst) → Legal x → (x .kind ≡ Incr → ⊥) → crosses x ≡ false
+only-incr x l h = others-inside (x .start) (x .size) (beats x) (size-small x l) (x .kind) h (known x l .count) (l .start)
+
+-- the rule in the paper's words: some byte from a beat's address to its highest lane lies in another block than the start
+pub record Crossing (x : Burst) : Type 0 where
+  pub beat : ℕ
+  pub byte : ℕ
+  pub counted : beat < beats x
+  pub from : beatAddress x beat ≤ byte
+  pub to : byte ≤ highestByte (beatAddress x beat) (bytes x)
+  pub elsewhere : byte / 4096 ≡ x .start / 4096 → ⊥
+
+pub crosses-exactly : (x : Burst) → (crosses x ≡ true) ↔ Crossing x
+unfolding crossesBy
+crosses-exactly x = (there, back)
+  where
+    within : (k : ℕ) → k < beats x → beatOutside (x .start) (bytes x) (beatAddress x k) ≡ true → Crossing x
+    within k l e =
+        let at : ℕ = beatAddress x k in
+        let near : at ≤ highestByte at (bytes x) = omega (arith, round-near at (bytes x) (pow-pos (x .size)), pow-pos (x .size)) in
+        let found : (j : ℕ) × (j < highestByte at (bytes x) - at + 1) × (outside (x .start) (at + j) ≡ true) =
+        found-below (highestByte at (bytes x) - at + 1) (λ j. outside (x .start) (at + j)) e
+        in
+        record {
+          beat = k;
+          byte = at + found .0;
+          counted = l;
+          from = omega arith;
+          to = omega (arith, found .1);
+          elsewhere = eqb-false ((at + found .0) / 4096) (x .start / 4096) (not-true (eqb ((at + found .0) / 4096) (x .start / 4096)) (found .2));
+        }
+
+    there : crosses x ≡ true → Crossing x
+    there e =
+        let found : (k : ℕ) × (k < beats x) × (beatOutside (x .start) (bytes x) (beatAddress x k) ≡ true) =
+        found-below (beats x) (λ k. beatOutside (x .start) (bytes x) (beatAddress x k)) e
+        in
+        within (found .0) (found .1) (found .2)
+
+    back : Crossing x → crosses x ≡ true
+    back y = go (crosses x) refl
+      where
+        go : (t : Bool) → crosses x ≡ t → t ≡ true
+        go true e = refl
+        go false e =
+            absurd (y .elsewhere (bytes-inside (x .kind) (x .start) (bytes x) (beats x) e (y .beat) (y .byte) (y .counted) (y .from) (y .to)))
 
 -- an accepted burst touches one block only
 pub one-block : (x : Burst) → Accepted x → (k a : ℕ) → k < beats x
     → beatAddress x k ≤ a → a ≤ highestByte (beatAddress x k) (bytes x) → a / 4096 ≡ x .start / 4096
-one-block x y k a l from to = bytes-inside (x .start) (x .size) small (x .kind) (beats x) (y .inside) k a l from to
-  where
-    small : x .size ≤ 12
-    small = omega (arith, known x (y .legal) .narrow, known x (y .legal) .bus .small)
+one-block x y k a l from to = bytes-inside (x .kind) (x .start) (bytes x) (beats x) (y .inside) k a l from to
 
 pub address-block : (x : Burst) → Accepted x → (k : ℕ) → k < beats x → beatAddress x k / 4096 ≡ x .start / 4096
 address-block x y k l =
@@ -164,3 +188,7 @@ in-memory w s a h l e =
     let z : a / 2 ^ w ≡ 0 = coarser a s h e ∙ div-eq-of-lt l in
     let q : a / 2 ^ w < 1 = omega arith in
     omega (arith, div-lt-iff-lt-mul (pow-pos w) .0 q)
+
+pub accepted-in-memory : (w : ℕ) (x : Burst) → 12 ≤ w → x .start < 2 ^ w → Accepted x → (k a : ℕ) → k < beats x
+    → beatAddress x k ≤ a → a ≤ highestByte (beatAddress x k) (bytes x) → a < 2 ^ w
+accepted-in-memory w x h s y k a l from to = in-memory w (x .start) a h s (one-block x y k a l from to)

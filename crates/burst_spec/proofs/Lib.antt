@@ -1,6 +1,7 @@
 -- The laws of the burst definitions. Read in this order.
 pub mod Rounding
 pub mod Known
+pub mod Below
 pub mod Wrap
 pub mod Block
 pub mod Lanes

@@ -48,3 +48,10 @@ pub coarser : {i j : ℕ} (a c : ℕ) → i ≤ j → a / 2 ^ i ≡ c / 2 ^ i �
 coarser {i} {j} a c h e =
     let s : i + (j - i) ≡ j = omega arith in
     rw s at (rw (← pow-add 2 i (j - i)) at (finer a c (2 ^ i) (2 ^ (j - i)) e))
+
+-- rounding what is rounded, some beats on
+pub round-beats : (s b k : ℕ) → 0 < b → roundDown (roundDown s b + k * b) b ≡ roundDown s b + k * b
+unfolding roundDown
+round-beats s b k h =
+    let e : (s / b * b + k * b) / b ≡ s / b + k = mul-add-div-right h (s / b) (k * b) ∙ ap (λ q. s / b + q) (mul-div-cancel k h) in
+    rw e (omega arith)

@@ -16,8 +16,7 @@ use Rattle.burst_spec.specs.Legal.{Legal}
 use Rattle.burst_spec.specs.Transfer.{Loop, enter, wrapped, increment, advance, loopAt, low-byte, high-byte, transferAt, transfer}
 use Rattle.burst_spec.proofs.Known.{known, Known, wrap-power, UpTo}
 use Rattle.burst_spec.proofs.Lanes.{InRow, in-row}
-use Rattle.burst_spec.proofs.Rounding.{round-multiple}
-use Rattle.burst_spec.proofs.Block.{round-beats}
+use Rattle.burst_spec.proofs.Rounding.{round-multiple, round-beats}
 use Rattle.burst_spec.proofs.Wrap.{wrap-aligned, wrap-room, wrap-multiple}
 
 -- What the loop's variables are as a beat begins: addr is the beat's address, a multiple of the beat's bytes if aligned is

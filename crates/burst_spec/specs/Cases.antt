@@ -95,7 +95,7 @@ ends =
     accepts (burstOf 5 0 0 0 1) ∷ accepts (burstOf 0 255 0 1 128) ∷ accepts (burstOf 4 1 1 2 2)
     ∷ accepts (burstOf 64 7 3 2 8) ∷ hasStep (burstOf 1920 15 7 2 128) 0 (negsuc 1919)
     ∷ hasStep (burstOf 0 1 7 1 128) 0 (pos 128) ∷ hasStep (burstOf 3 1 2 1 4) 0 (pos 1) ∷ hasStep (burstOf 3 1 2 0 4) 0 (pos 0)
-    ∷ accepts (burstOf 0 31 7 1 128) ∷ refuses (burstOf 128 31 7 1 128) 12
+    ∷ accepts (burstOf 0xFFE 15 2 0 4) ∷ accepts (burstOf 0 31 7 1 128) ∷ refuses (burstOf 128 31 7 1 128) 12
     ∷ hasBeat (burstOf 0xFFFF_FFF1 3 2 1 4) 3 0xFFFF_FFFC 0 3 ∷ refuses (burstOf 0xFFFF_FFF1 4 2 1 4) 12
     ∷ hasBeat (burstOf 0xFFFF_FFFC 3 2 2 8) 1 0xFFFF_FFF0 0 3 ∷ hasStep (burstOf 0xFFFF_FFFC 3 2 2 8) 0 (negsuc 11)
     ∷ []
