@@ -83,7 +83,7 @@ refusals =
     ∷ refuses (burstOf 0xFF1 256 8 3 4) 8 ∷ refuses (burstOf 0xFF1 256 3 3 4) 8 ∷ refuses (burstOf 0 0 8 1 128) 8
     ∷ refuses (burstOf 0xFF1 256 2 3 4) 9 ∷ refuses (burstOf 0 0 0 3 1) 9 ∷ refuses (burstOf 0 0 0 7 1) 9
     ∷ refuses (burstOf 0xFF1 2 2 2 4) 10 ∷ refuses (burstOf 0 16 0 0 1) 10 ∷ refuses (burstOf 0xFF1 256 0 1 1) 10
-    ∷ refuses (burstOf 0x32 3 2 2 4) 11
+    ∷ refuses (burstOf 0xFF6 3 2 2 4) 11 ∷ refuses (burstOf 0x32 3 2 2 4) 11
     ∷ noBeat (burstOf 0xFF2 4 2 1 4) 5 12 ∷ noStep (burstOf 0xFF2 4 2 1 4) 4 12
     ∷ noBeat (burstOf 0x1002 2 2 1 4) 3 13 ∷ noStep (burstOf 0x1002 2 2 1 4) 2 13 ∷ noStep (burstOf 0 0 0 1 1) 0 13
     ∷ []
