@@ -17,10 +17,14 @@ use Rattle.burst_spec.specs.Address.{roundDown, highestByte, incrAddress, wrapA
 use Rattle.burst_spec.specs.Checks.{crosses, crossesBy, countAllowed, misaligned}
 use Rattle.burst_spec.specs.Legal.{Power, Legal, Accepted}
 use Rattle.burst_spec.proofs.Known.{known, Known, UpTo, wrap-power, size-small, bytes-small, span-small}
-use Rattle.burst_spec.proofs.Rounding.{round-near, highest-quotient, coarser}
+use Rattle.burst_spec.proofs.Rounding.{power-positive, highest-quotient, coarser}
 use Rattle.burst_spec.proofs.Block.{incr-crosses, only-incr, address-block, in-memory}
 use Rattle.burst_spec.proofs.Step.{sub-shift, sub-down}
 use Rattle.burst_spec.proofs.Wrap.{wrap-aligned, wrap-closed}
+
+-- a bound, carried along an equation
+pub lt-by : {a b w : ℕ} → a ≡ b → b < w → a < w
+lt-by e h = rw e h
 
 pub power : (i : ℕ) → Power (2 ^ i)
 power i = record { log = i; is = refl }
@@ -46,6 +50,16 @@ module _ (x : Burst) (l : Legal x) where
     where
       go : UpTo 4 (beats x) → Power (bytes x * beats x)
       go p = record { log = x .size + p .log; is = ap (λ n. bytes x * n) (p .is) ∙ sym (pow-add 2 (x .size) (p .log)) }
+
+  -- the offset before it goes round
+  pub offset-small : x .kind ≡ Wrap → (k : ℕ) → k ≤ beats x → x .start % (bytes x * beats x) + k * bytes x < 65536
+  offset-small e k h =
+      omega (
+        arith,
+        mod-lt (x .start) (power-positive (container-power e)),
+        span-small x l k h,
+        span-small x l (beats x) (omega arith),
+      )
 
 -- the addresses, by kind
 module _ (x : Burst) (k : ℕ) where

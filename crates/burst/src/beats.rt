@@ -19,11 +19,13 @@ fn incr_address(b: Burst, k: u32) -> Address
     requires { ⌜ Accepted b × (b .kind ≡ Incr) × (k < beats b) ⌝ }
     ensures { λ r. ⌜ r ≡ beatAddress b k ⌝ }
 {
+    let start = b.start;
     if k == 0 {
-        return b.start;
+        return start;
     }
     let bytes = bytes_of(b.size);
-    round_down(b.start, bytes) + (k as Address) * bytes
+    let first = round_down(start, bytes);
+    first + (k as Address) * bytes
 }
 
 // WRAP: the offset from the wrap boundary goes round in the burst's container. The container's end is never worked out: at
@@ -32,10 +34,13 @@ fn wrap_address(b: Burst, k: u32) -> Address
     requires { ⌜ Accepted b × (b .kind ≡ Wrap) × (k < beats b) ⌝ }
     ensures { λ r. ⌜ r ≡ beatAddress b k ⌝ }
 {
+    let start = b.start;
     let bytes = bytes_of(b.size);
     let container = bytes * ((b.len + 1) as Address);
-    let offset = low_part(b.start, container) + (k as Address) * bytes;
-    round_down(b.start, container) + low_part(offset, container)
+    let offset = low_part(start, container) + (k as Address) * bytes;
+    let boundary = round_down(start, container);
+    let turned = low_part(offset, container);
+    boundary + turned
 }
 
 // The address of beat k.

@@ -6,9 +6,11 @@ use mathlib.Core.Path.{_≡_, refl, sym, ap, _∙_}
 use Prim.Native.Nat.{ℕ, zero, suc, _+_, _≤_, _<_}
 use native.Mathlib.Omega.{arith}
 use lib.Dec.{leb}
+use lib.IntN.{ℤ}
 use borrow.Author.Tests.{not-false, le-leb, lt-leb}
 use Rattle.refusal.specs.declared.Refusal.{Refusal}
 use Rattle.refusal.specs.declared.Refusal.the-variants.{Bus, Size, Kind, Count, Align, Boundary, Index}
+use Rattle.burst_spec.specs.declared.Beat.{Beat}
 use Rattle.burst_spec.specs.declared.Burst.{Burst}
 use Rattle.burst_spec.specs.declared.Kind.the-variants.{Reserved}
 use Rattle.burst_spec.specs.declared.Judgement.{Judgement}
@@ -32,16 +34,6 @@ first-map {A} {B} f g (c ∷ cs) ok = go (c .refuses) (first-map f g cs ok)
         → f (decided t (g (c .because)) (firstOf g cs ok)) ≡ decided t (f (g (c .because))) (firstOf (λ r. f (g r)) cs (f ok))
     go true e = refl
     go false e = e
-
--- an answer that is the defined one shows the paper's numbers
-pub judges : (x : Burst) (r : Judgement) → r ≡ judgement x → Judges x r
-judges x r e = record { is = e; shows = ap judgementShows e ∙ first-map judgementShows judged.Refused (checks x) judged.Accepted }
-
-pub gives-beat : (x : Burst) (k : ℕ) (r : BeatAnswer) → r ≡ beatAnswer x k → GivesBeat x k r
-gives-beat x k r e = record { is = e; shows = ap beatShows e ∙ first-map beatShows beat.Refused (checksOfBeat x k) (beat.At (beatOf x k)) }
-
-pub gives-step : (x : Burst) (k : ℕ) (r : StepAnswer) → r ≡ stepAnswer x k → GivesStep x k r
-gives-step x k r e = record { is = e; shows = ap stepShows e ∙ first-map stepShows step.Refused (checksOfStep x k) (step.By (beatStep x k)) }
 
 -- A burst that is judged refused is refused by every call that has its checks first, with the same refusal; and where it is
 -- accepted, the checks that follow decide.
@@ -73,14 +65,44 @@ module _ {A : Type 0} (g : Refusal → A) (ok : A) (x : Burst) (k : ℕ) where
   abbrev indexCheck : List Check
   indexCheck = record { refuses = leb (beats x) k; because = Index } ∷ []
 
-  pub keeps-refusal : (r : Refusal) → judgement x ≡ judged.Refused r → firstOf g (checksOfBeat x k) ok ≡ g r
+  keeps-refusal : (r : Refusal) → judgement x ≡ judged.Refused r → firstOf g (checksOfBeat x k) ok ≡ g r
   keeps-refusal r e = carries-refusal g ok indexCheck (checks x) r e
 
-  pub no-beat : judgement x ≡ judged.Accepted → beats x ≤ k → firstOf g (checksOfBeat x k) ok ≡ g Index
+  no-beat : judgement x ≡ judged.Accepted → beats x ≤ k → firstOf g (checksOfBeat x k) ok ≡ g Index
   no-beat e h = carries-on g ok indexCheck (checks x) e ∙ ap (λ t. decided t (g Index) ok) (le-leb (beats x) k h)
 
-  pub has-beat : judgement x ≡ judged.Accepted → k < beats x → firstOf g (checksOfBeat x k) ok ≡ ok
+  has-beat : judgement x ≡ judged.Accepted → k < beats x → firstOf g (checksOfBeat x k) ok ≡ ok
   has-beat e h = carries-on g ok indexCheck (checks x) e ∙ ap (λ t. decided t (g Index) ok) (lt-leb (beats x) k h)
+
+-- an answer that is the defined one shows the paper's numbers
+pub judges : (x : Burst) (r : Judgement) → r ≡ judgement x → Judges x r
+judges x r e = record { is = e; shows = ap judgementShows e ∙ first-map judgementShows judged.Refused (checks x) judged.Accepted }
+
+gives-beat : (x : Burst) (k : ℕ) (r : BeatAnswer) → r ≡ beatAnswer x k → GivesBeat x k r
+gives-beat x k r e = record { is = e; shows = ap beatShows e ∙ first-map beatShows beat.Refused (checksOfBeat x k) (beat.At (beatOf x k)) }
+
+gives-step : (x : Burst) (k : ℕ) (r : StepAnswer) → r ≡ stepAnswer x k → GivesStep x k r
+gives-step x k r e = record { is = e; shows = ap stepShows e ∙ first-map stepShows step.Refused (checksOfStep x k) (step.By (beatStep x k)) }
+
+-- what the calls for beat k may answer
+module _ (x : Burst) (k : ℕ) where
+  pub refused-beat : (r : Refusal) → judgement x ≡ judged.Refused r → GivesBeat x k (beat.Refused r)
+  refused-beat r e = gives-beat x k (beat.Refused r) (sym (keeps-refusal beat.Refused (beat.At (beatOf x k)) x k r e))
+
+  pub missing-beat : judgement x ≡ judged.Accepted → beats x ≤ k → GivesBeat x k (beat.Refused Index)
+  missing-beat e h = gives-beat x k (beat.Refused Index) (sym (no-beat beat.Refused (beat.At (beatOf x k)) x k e h))
+
+  pub given-beat : judgement x ≡ judged.Accepted → k < beats x → (y : Beat) → y ≡ beatOf x k → GivesBeat x k (beat.At y)
+  given-beat e h y f = gives-beat x k (beat.At y) (ap beat.At f ∙ sym (has-beat beat.Refused (beat.At (beatOf x k)) x k e h))
+
+  pub refused-step : (r : Refusal) → judgement x ≡ judged.Refused r → GivesStep x k (step.Refused r)
+  refused-step r e = gives-step x k (step.Refused r) (sym (keeps-refusal step.Refused (step.By (beatStep x k)) x (k + 1) r e))
+
+  pub missing-step : judgement x ≡ judged.Accepted → beats x ≤ k + 1 → GivesStep x k (step.Refused Index)
+  missing-step e h = gives-step x k (step.Refused Index) (sym (no-beat step.Refused (step.By (beatStep x k)) x (k + 1) e h))
+
+  pub given-step : judgement x ≡ judged.Accepted → k + 1 < beats x → (d : ℤ) → d ≡ beatStep x k → GivesStep x k (step.By d)
+  given-step e h d f = gives-step x k (step.By d) (ap step.By f ∙ sym (has-beat step.Refused (step.By (beatStep x k)) x (k + 1) e h))
 
 clash : true ≡ false → ⊥
 clash e = let z : _≡_ {A = ℕ} 0 1 = cc in omega arith

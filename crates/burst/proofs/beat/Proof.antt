@@ -1,14 +1,13 @@
--- `burst::beat` meets its contract: a refused burst keeps its refusal, and beat k of an accepted one is worked out. Assumes nothing.
+-- `burst::beat` meets its contract: a refused burst keeps its refusal, and beat k of an accepted one is worked out.
+-- Assumes nothing.
 use borrow.Author.Needs.{needs}
 use mathlib.Core.Path.{_≡_, refl, sym, ap, _∙_}
 use native.Mathlib.Omega.{arith}
-use Rattle.refusal.specs.declared.Refusal.the-variants.{Index}
 use Rattle.burst_spec.specs.declared.Judgement.the-variants.{Accepted}
-use Rattle.burst_spec.specs.declared.BeatAnswer.the-variants as beat
-use Rattle.burst_spec.specs.Address.{beatAt, beatOf}
+use Rattle.burst_spec.specs.Address.{beatAt}
 use Rattle.burst_spec.specs.Answers.{judgement}
 use Rattle.burst_spec.specs.Legal as legal
-use Rattle.burst_spec.proofs.Answers.{gives-beat, keeps-refusal, accepted-exactly, no-beat, has-beat}
+use Rattle.burst_spec.proofs.Answers.{accepted-exactly, refused-beat, missing-beat, given-beat}
 use Rattle.burst.proofs.beat.Statement.{statement}
 use Rattle.burst.proofs.beat.Tie as tie
 
@@ -19,9 +18,10 @@ enum-known-judgement : tie.Need-enum-known-judgement
 enum-known-judgement c = search needs
 
 returns : tie.Need-returns
-returns c = gives-beat (c .before .before .before .before .args .b) (c .before .before .before .before .args .k) (beat.Refused (c .before .judgement .given .0 .0))
-    (sym (keeps-refusal beat.Refused (beat.At (beatOf (c .before .before .before .before .args .b) (c .before .before .before .before .args .k))) (c .before .before .before .before .args .b) (c .before .before .before .before .args .k) (c .before .judgement .given .0 .0)
-    (sym (c .before .before .before .judge .ensures .is) ∙ c .before .judgement .given .1)))
+returns c =
+    let s = c .before .before .before .before in
+    refused-beat (s .args .b) (s .args .k) (c .before .judgement .given .0 .0)
+    (sym (c .before .before .before .judge .ensures .is) ∙ c .before .judgement .given .1)
 
 enum-told : tie.Need-enum-told
 enum-told c = search needs
@@ -33,8 +33,9 @@ accepted : (c : tie.After-struct-known) → legal.Accepted (c .before .before .b
 accepted c = accepted-exactly (c .before .before .before .before .args .b) .0 (judged c)
 
 returns-2 : tie.Need-returns-2
-returns-2 c = gives-beat (c .before .before .before .before .before .args .b) (c .before .before .before .before .before .args .k) (beat.Refused Index)
-    (sym (no-beat beat.Refused (beat.At (beatOf (c .before .before .before .before .before .args .b) (c .before .before .before .before .before .args .k))) (c .before .before .before .before .before .args .b) (c .before .before .before .before .before .args .k) (judged (c .before)) (omega arith)))
+returns-2 c =
+    let s = c .before .before .before .before .before in
+    missing-beat (s .args .b) (s .args .k) (judged (c .before)) (omega arith)
 
 address-of-requires : tie.Need-address-of-requires
 address-of-requires c κs = (accepted (c .before), omega arith)
@@ -43,9 +44,10 @@ beat-at-requires : tie.Need-beat-at-requires
 beat-at-requires c κs = accepted (c .before .before) .legal
 
 returns-3 : tie.Need-returns-3
-returns-3 c = gives-beat (c .before .before .before .before .before .before .before .args .b) (c .before .before .before .before .before .before .before .args .k) (beat.At (c .beat-at .result))
-    (ap beat.At (c .beat-at .ensures ∙ ap (beatAt (c .before .before .before .before .before .before .before .args .b)) (c .before .address-of .ensures))
-    ∙ sym (has-beat beat.Refused (beat.At (beatOf (c .before .before .before .before .before .before .before .args .b) (c .before .before .before .before .before .before .before .args .k))) (c .before .before .before .before .before .before .before .args .b) (c .before .before .before .before .before .before .before .args .k) (judged (c .before .before .before)) (omega (arith, c .before .before .if1 .left))))
+returns-3 c =
+    let s = c .before .before .before .before .before .before .before in
+    given-beat (s .args .b) (s .args .k) (judged (c .before .before .before)) (omega (arith, c .before .before .if1 .left))
+    (c .beat-at .result) (c .beat-at .ensures ∙ ap (beatAt (s .args .b)) (c .before .address-of .ensures))
 
 pub beat-spec : {M : Type 1} → statement M
 beat-spec =

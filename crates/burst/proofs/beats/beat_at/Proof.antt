@@ -1,11 +1,13 @@
--- `burst::beats::beat_at` meets its contract: a beat's highest byte lies in the memory that its address lies in. Assumes nothing.
+-- `burst::beats::beat_at` meets its contract: a beat's highest byte lies in the memory that its address lies in.
+-- Assumes nothing.
 use borrow.Author.Needs.{needs}
 use mathlib.Core.Path.{_≡_, refl, sym, ap, _∙_}
-use Prim.Native.Nat.{_+_, _*_, _%_, _<_, _≤_, _^_}
+use Prim.Native.Nat.{_+_, _-_, _%_, _≤_}
 use native.Mathlib.Omega.{arith}
 use lib.Pow.{pow-pos}
+use Rattle.burst_spec.specs.Address.{highestByte, bytes}
 use Rattle.burst_spec.proofs.Known.{size-small}
-use Rattle.burst.proofs.Formulas.{bus-is-power, highest-fits}
+use Rattle.burst.proofs.Formulas.{bus-is-power, highest-fits, lt-by}
 use Rattle.burst.proofs.beats.beat_at.Statement.{statement}
 use Rattle.burst.proofs.beats.beat_at.Tie as tie
 
@@ -18,8 +20,15 @@ round-down-requires c κs = search needs
 sub-highest : tie.Need-sub-highest
 sub-highest c = rw (c .before .bytes-of .ensures) (pow-pos (c .before .before .args .b .size))
 
+highest-is : (c : tie.After-round-down)
+    → c .round-down .result + (c .before .bytes-of .result - 1) ≡ highestByte (c .before .before .args .address) (bytes (c .before .before .args .b))
+highest-is c = rw (c .round-down .ensures, c .before .bytes-of .ensures)
+
 add-highest : tie.Need-add-highest
-add-highest c = rw (c .round-down .ensures, c .before .bytes-of .ensures) (record { fits = highest-fits 32 (c .before .before .args .b .size) (c .before .before .args .address) (omega (arith, size-small (c .before .before .args .b) (c .before .before .pre))) (c .before .before .fits .address .fits) })
+add-highest c =
+    let s = c .before .before in
+    let small : s .args .b .size ≤ 32 = omega (arith, size-small (s .args .b) (s .pre)) in
+    record { fits = lt-by (highest-is c) (highest-fits 32 (s .args .b .size) (s .args .address) small (s .fits .address .fits)) }
 
 low-part-requires : tie.Need-low-part-requires
 low-part-requires c κs = bus-is-power (c .before .before .args .b) (c .before .before .pre)
@@ -28,7 +37,13 @@ low-part-requires-2 : tie.Need-low-part-requires-2
 low-part-requires-2 c κs = bus-is-power (c .before .before .before .args .b) (c .before .before .before .pre)
 
 returns : tie.Need-returns
-returns c = rw (c .before .low-part .ensures, c .low-part2 .ensures, c .before .before .round-down .ensures, c .before .before .before .bytes-of .ensures)
+returns c =
+    let s = c .before .before .before .before in
+    λ i. record {
+      address = s .args .address;
+      lower = c .before .low-part .ensures i;
+      upper = (c .low-part2 .ensures ∙ ap (λ h. h % s .args .b .bus) (highest-is (c .before .before))) i;
+    }
 
 pub beat-at-spec : {M : Type 1} → statement M
 beat-at-spec =

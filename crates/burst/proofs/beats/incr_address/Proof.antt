@@ -1,11 +1,12 @@
--- `burst::beats::incr_address` meets its contract: the formula of A3.4.1, whose result lies in the block that the start lies in. Assumes nothing.
+-- `burst::beats::incr_address` meets its contract: the formula of A3.4.1, whose result lies in the block that the start lies in.
+-- Assumes nothing.
 use borrow.Author.Needs.{needs}
-use mathlib.Core.Path.{_≡_, refl, sym, ap, _∙_}
-use Prim.Native.Nat.{_+_, _*_, _%_, _<_, _≤_, _^_}
+use mathlib.Core.Path.{_≡_}
+use Prim.Native.Nat.{_+_, _*_}
 use native.Mathlib.Omega.{arith}
 use Rattle.burst_spec.specs.Address.{beatAddress}
 use Rattle.burst_spec.proofs.Known.{size-small, span-small}
-use Rattle.burst.proofs.Formulas.{incr-first, incr-later, address-fits}
+use Rattle.burst.proofs.Formulas.{incr-first, incr-later, address-fits, lt-by}
 use Rattle.burst.proofs.beats.incr_address.Statement.{statement}
 use Rattle.burst.proofs.beats.incr_address.Tie as tie
 
@@ -18,16 +19,24 @@ bytes-of-requires c κs = size-small (c .before .args .b) (c .before .pre .0 .le
 round-down-requires : tie.Need-round-down-requires
 round-down-requires c κs = search needs
 
-sum-is : (c : tie.After-round-down) → c .round-down .result + c .before .before .before .args .k * c .before .bytes-of .result ≡ beatAddress (c .before .before .before .args .b) (c .before .before .before .args .k)
-sum-is c =
-    rw (c .round-down .ensures, c .before .bytes-of .ensures)
-    (incr-later (c .before .before .before .args .b) (c .before .before .before .args .k) (c .before .before .before .pre .1) (c .before .before .if1 .left))
-
 mul-result : tie.Need-mul-result
-mul-result c = rw (c .before .bytes-of .ensures) (omega (arith, span-small (c .before .before .before .args .b) (c .before .before .before .pre .0 .legal) (c .before .before .before .args .k) (omega (arith, c .before .before .before .pre .2))))
+mul-result c =
+    let s = c .before .before .before in
+    rw (c .before .bytes-of .ensures)
+    (omega (arith, span-small (s .args .b) (s .pre .0 .legal) (s .args .k) (omega (arith, s .pre .2))))
+
+sum-is : (c : tie.After-round-down)
+    → c .round-down .result + c .before .before .before .args .k * c .before .bytes-of .result
+    ≡ beatAddress (c .before .before .before .args .b) (c .before .before .before .args .k)
+sum-is c =
+    let s = c .before .before .before in
+    rw (c .round-down .ensures, c .before .bytes-of .ensures)
+    (incr-later (s .args .b) (s .args .k) (s .pre .1) (c .before .before .if1 .left))
 
 add-result : tie.Need-add-result
-add-result c = record { fits = rw (sum-is c) (address-fits (c .before .before .before .args .b) (c .before .before .before .args .k) 32 (omega arith) (omega (arith, c .before .before .before .good)) (c .before .before .before .pre .0) (c .before .before .before .pre .2)) }
+add-result c =
+    let s = c .before .before .before in
+    record { fits = lt-by (sum-is c) (address-fits (s .args .b) (s .args .k) 32 (omega arith) (omega (arith, s .good)) (s .pre .0) (s .pre .2)) }
 
 returns-2 : tie.Need-returns-2
 returns-2 c = sum-is c

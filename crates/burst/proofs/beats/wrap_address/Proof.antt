@@ -1,12 +1,11 @@
--- `burst::beats::wrap_address` meets its contract: the offset goes round in a container that is a power of two. Assumes nothing.
-use mathlib.Core.Path.{_≡_, refl, sym, ap, _∙_}
-use Prim.Native.Nat.{_+_, _*_, _%_, _<_, _≤_, _^_}
-use native.Mathlib.Nat.{mod-lt}
+-- `burst::beats::wrap_address` meets its contract: the offset goes round in a container that is a power of two.
+-- Assumes nothing.
+use mathlib.Core.Path.{_≡_}
+use Prim.Native.Nat.{_+_}
 use native.Mathlib.Omega.{arith}
 use Rattle.burst_spec.specs.Address.{beatAddress}
 use Rattle.burst_spec.proofs.Known.{known, size-small, span-small}
-use Rattle.burst_spec.proofs.Rounding.{power-positive}
-use Rattle.burst.proofs.Formulas.{container-power, wrap-formula, address-fits}
+use Rattle.burst.proofs.Formulas.{container-power, offset-small, wrap-formula, address-fits, lt-by}
 use Rattle.burst.proofs.beats.wrap_address.Statement.{statement}
 use Rattle.burst.proofs.beats.wrap_address.Tie as tie
 
@@ -14,40 +13,50 @@ bytes-of-requires : tie.Need-bytes-of-requires
 bytes-of-requires c κs = size-small (c .args .b) (c .pre .0 .legal)
 
 add-container : tie.Need-add-container
-add-container c = omega (arith, known (c .before .before .args .b) (c .before .before .pre .0 .legal) .few)
+add-container c = let s = c .before .before in omega (arith, known (s .args .b) (s .pre .0 .legal) .few)
 
 mul-container : tie.Need-mul-container
-mul-container c = rw (c .before .bytes-of .ensures) (omega (arith, span-small (c .before .before .args .b) (c .before .before .pre .0 .legal) (c .before .before .args .b .len + 1) (omega arith)))
+mul-container c =
+    let s = c .before .before in
+    rw (c .before .bytes-of .ensures) (omega (arith, span-small (s .args .b) (s .pre .0 .legal) (s .args .b .len + 1) (omega arith)))
 
 low-part-requires : tie.Need-low-part-requires
-low-part-requires c κs = rw (c .before .bytes-of .ensures) (container-power (c .before .before .args .b) (c .before .before .pre .0 .legal) (c .before .before .pre .1))
+low-part-requires c κs =
+    let s = c .before .before in
+    rw (c .before .bytes-of .ensures) (container-power (s .args .b) (s .pre .0 .legal) (s .pre .1))
 
 mul-offset : tie.Need-mul-offset
-mul-offset c = rw (c .before .before .bytes-of .ensures) (omega (arith, span-small (c .before .before .before .args .b) (c .before .before .before .pre .0 .legal) (c .before .before .before .args .k) (omega (arith, c .before .before .before .pre .2))))
+mul-offset c =
+    let s = c .before .before .before in
+    rw (c .before .before .bytes-of .ensures)
+    (omega (arith, span-small (s .args .b) (s .pre .0 .legal) (s .args .k) (omega (arith, s .pre .2))))
 
 add-offset : tie.Need-add-offset
-add-offset c = rw (c .low-part .ensures, c .before .before .bytes-of .ensures)
-    (omega (
-      arith,
-      span-small (c .before .before .before .args .b) (c .before .before .before .pre .0 .legal) (c .before .before .before .args .k) (omega (arith, c .before .before .before .pre .2)),
-      span-small (c .before .before .before .args .b) (c .before .before .before .pre .0 .legal) (c .before .before .before .args .b .len + 1) (omega arith),
-      mod-lt (c .before .before .before .args .b .start) (power-positive (container-power (c .before .before .before .args .b) (c .before .before .before .pre .0 .legal) (c .before .before .before .pre .1))),
-    ))
+add-offset c =
+    let s = c .before .before .before in
+    rw (c .low-part .ensures, c .before .before .bytes-of .ensures)
+    (omega (arith, offset-small (s .args .b) (s .pre .0 .legal) (s .pre .1) (s .args .k) (omega (arith, s .pre .2))))
 
 round-down-requires : tie.Need-round-down-requires
-round-down-requires c κs = rw (c .before .before .bytes-of .ensures) (container-power (c .before .before .before .args .b) (c .before .before .before .pre .0 .legal) (c .before .before .before .pre .1))
+round-down-requires c κs =
+    let s = c .before .before .before in
+    rw (c .before .before .bytes-of .ensures) (container-power (s .args .b) (s .pre .0 .legal) (s .pre .1))
 
 low-part-requires-2 : tie.Need-low-part-requires-2
-low-part-requires-2 c κs = rw (c .before .before .before .bytes-of .ensures) (container-power (c .before .before .before .before .args .b) (c .before .before .before .before .pre .0 .legal) (c .before .before .before .before .pre .1))
+low-part-requires-2 c κs = round-down-requires (c .before) κs
 
-sum-is : (c : tie.After-low-part2) → c .before .round-down .result + c .low-part2 .result ≡ beatAddress (c .before .before .before .before .before .args .b) (c .before .before .before .before .before .args .k)
+sum-is : (c : tie.After-low-part2)
+    → c .before .round-down .result + c .low-part2 .result
+    ≡ beatAddress (c .before .before .before .before .before .args .b) (c .before .before .before .before .before .args .k)
 sum-is c =
+    let s = c .before .before .before .before .before in
     rw (c .before .round-down .ensures, c .low-part2 .ensures, c .before .before .low-part .ensures, c .before .before .before .before .bytes-of .ensures)
-    (wrap-formula (c .before .before .before .before .before .args .b) (c .before .before .before .before .before .args .k)
-    (c .before .before .before .before .before .pre .0 .legal) (c .before .before .before .before .before .pre .1))
+    (wrap-formula (s .args .b) (s .args .k) (s .pre .0 .legal) (s .pre .1))
 
 add-result : tie.Need-add-result
-add-result c = record { fits = rw (sum-is c) (address-fits (c .before .before .before .before .before .args .b) (c .before .before .before .before .before .args .k) 32 (omega arith) (omega (arith, c .before .before .before .before .before .good)) (c .before .before .before .before .before .pre .0) (c .before .before .before .before .before .pre .2)) }
+add-result c =
+    let s = c .before .before .before .before .before in
+    record { fits = lt-by (sum-is c) (address-fits (s .args .b) (s .args .k) 32 (omega arith) (omega (arith, s .good)) (s .pre .0) (s .pre .2)) }
 
 returns : tie.Need-returns
 returns c = sum-is c

@@ -1,6 +1,7 @@
--- `burst::checks::leaves_block` meets its contract: the test of INCR is the 4KB rule, and no other kind can break it. Assumes nothing.
+-- `burst::checks::leaves_block` meets its contract: the test of INCR is the 4KB rule, and no other kind can break it.
+-- Assumes nothing.
 use borrow.Author.Needs.{needs}
-use mathlib.Core.Path.{_≡_, refl, sym, ap, _∙_}
+use mathlib.Core.Path.{_≡_}
 use Prim.Native.Nat.{ℕ, _+_}
 use native.Mathlib.Omega.{arith}
 use Rattle.burst_spec.specs.declared.Kind.the-variants.{Fixed, Wrap}
@@ -25,13 +26,21 @@ low-part-requires : tie.Need-low-part-requires
 low-part-requires c κs = power 12
 
 add-beats : tie.Need-add-beats
-add-beats c = omega (arith, known (c .before .before .before .before .before .before .args .b) (c .before .before .before .before .before .before .pre) .few)
+add-beats c =
+    let s = c .before .before .before .before .before .before in
+    omega (arith, known (s .args .b) (s .pre) .few)
 
 mul-result : tie.Need-mul-result
-mul-result c = rw (c .before .before .before .bytes-of .ensures) (omega (arith, span-small (c .before .before .before .before .before .before .args .b) (c .before .before .before .before .before .before .pre) (c .before .before .before .before .before .before .args .b .len + 1) (omega arith)))
+mul-result c =
+    let s = c .before .before .before .before .before .before in
+    rw (c .before .before .before .bytes-of .ensures)
+    (omega (arith, span-small (s .args .b) (s .pre) (s .args .b .len + 1) (omega arith)))
 
 add-result : tie.Need-add-result
-add-result c = rw (c .before .low-part .ensures, c .before .before .before .bytes-of .ensures) (omega (arith, span-small (c .before .before .before .before .before .before .args .b) (c .before .before .before .before .before .before .pre) (c .before .before .before .before .before .before .args .b .len + 1) (omega arith)))
+add-result c =
+    let s = c .before .before .before .before .before .before in
+    rw (c .before .low-part .ensures, c .before .before .before .bytes-of .ensures)
+    (omega (arith, span-small (s .args .b) (s .pre) (s .args .b .len + 1) (omega arith)))
 
 enum-told-3 : tie.Need-enum-told-3
 enum-told-3 c = search needs
@@ -40,13 +49,22 @@ enum-told-4 : tie.Need-enum-told-4
 enum-told-4 c = search needs
 
 returns : tie.Need-returns
-returns c = other-kind-inside (c .before .before .args .b) (c .before .before .pre) Fixed (c .enum-told .given .1) (λ e. let z : _≡_ {A = ℕ} 0 1 = cc in omega arith)
+returns c =
+    let s = c .before .before in
+    other-kind-inside (s .args .b) (s .pre) Fixed (c .enum-told .given .1) (λ e. let z : _≡_ {A = ℕ} 0 1 = cc in omega arith)
 
 returns-2 : tie.Need-returns-2
-returns-2 c = rw (c .before .low-part .ensures) (incr-test (c .before .before .before .before .before .before .args .b) (c .before .before .before .before .before .before .pre) (c .before .before .before .before .enum-told2 .given .1) (c .before .before .round-down .result) (c .before .before .before .bytes-of .result) (c .before .before .round-down .ensures) (c .before .before .before .bytes-of .ensures))
+returns-2 c =
+    let s = c .before .before .before .before .before .before in
+    rw (c .before .low-part .ensures)
+    (incr-test (s .args .b) (s .pre) (c .before .before .before .before .enum-told2 .given .1)
+    (c .before .before .round-down .result) (c .before .before .before .bytes-of .result)
+    (c .before .before .round-down .ensures) (c .before .before .before .bytes-of .ensures))
 
 returns-3 : tie.Need-returns-3
-returns-3 c = other-kind-inside (c .before .before .args .b) (c .before .before .pre) Wrap (c .enum-told3 .given .1) (λ e. let z : _≡_ {A = ℕ} 0 1 = cc in omega arith)
+returns-3 c =
+    let s = c .before .before in
+    other-kind-inside (s .args .b) (s .pre) Wrap (c .enum-told3 .given .1) (λ e. let z : _≡_ {A = ℕ} 0 1 = cc in omega arith)
 
 returns-4 : tie.Need-returns-4
 returns-4 c = search needs
