@@ -22,6 +22,10 @@ use Rattle.burst_spec.proofs.Block.{incr-crosses, only-incr, address-block, in-
 use Rattle.burst_spec.proofs.Step.{sub-shift, sub-down}
 use Rattle.burst_spec.proofs.Wrap.{wrap-aligned, wrap-closed}
 
+-- how many bits an `Address` has: the proofs say it here and nowhere else
+abbrev pub addressBits : ℕ
+addressBits = 32
+
 -- a bound, carried along an equation
 pub lt-by : {a b w : ℕ} → a ≡ b → b < w → a < w
 lt-by e h = rw e h

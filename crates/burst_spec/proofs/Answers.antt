@@ -1,5 +1,5 @@
 -- When a burst is accepted, and that an answer shows the paper's numbers. Assumes nothing.
-use mathlib.Core.Bool.{Bool, true, false, not}
+use mathlib.Core.Bool.{Bool, true, false, not, cond}
 use mathlib.Core.List.{List, [], _∷_, _++_}
 use mathlib.Core.Logic.{_↔_}
 use mathlib.Core.Path.{_≡_, refl, sym, ap, _∙_}
@@ -20,7 +20,7 @@ use Rattle.burst_spec.specs.declared.BeatAnswer.the-variants as beat
 use Rattle.burst_spec.specs.declared.StepAnswer.{StepAnswer}
 use Rattle.burst_spec.specs.declared.StepAnswer.the-variants as step
 use Rattle.burst_spec.specs.Address.{beats, beatOf, beatStep}
-use Rattle.burst_spec.specs.Checks.{Check, decided, firstOf, crosses, checks, checksOfBeat, checksOfStep}
+use Rattle.burst_spec.specs.Checks.{Check, firstOf, crosses, checks, checksOfBeat, checksOfStep}
 use Rattle.burst_spec.specs.Legal.{Legal, Accepted}
 use Rattle.burst_spec.specs.Answers.{kindOf, judgement, beatAnswer, stepAnswer, Row, refusalRow, acceptedRow, judgementShows, beatShows, stepShows, Judges, GivesBeat, GivesStep}
 
@@ -31,7 +31,7 @@ first-map f g [] ok = refl
 first-map {A} {B} f g (c ∷ cs) ok = go (c .refuses) (first-map f g cs ok)
   where
     go : (t : Bool) → f (firstOf g cs ok) ≡ firstOf (λ r. f (g r)) cs (f ok)
-        → f (decided t (g (c .because)) (firstOf g cs ok)) ≡ decided t (f (g (c .because))) (firstOf (λ r. f (g r)) cs (f ok))
+        → f (cond t (g (c .because)) (firstOf g cs ok)) ≡ cond t (f (g (c .because))) (firstOf (λ r. f (g r)) cs (f ok))
     go true e = refl
     go false e = e
 
@@ -44,8 +44,8 @@ module _ {A : Type 0} (g : Refusal → A) (ok : A) (ds : List Check) where
   carries-refusal (c ∷ cs) r e = go (c .refuses) (carries-refusal cs r) e
     where
       go : (t : Bool) → (firstOf judged.Refused cs judged.Accepted ≡ judged.Refused r → firstOf g (cs ++ ds) ok ≡ g r)
-          → decided t (judged.Refused (c .because)) (firstOf judged.Refused cs judged.Accepted) ≡ judged.Refused r
-          → decided t (g (c .because)) (firstOf g (cs ++ ds) ok) ≡ g r
+          → cond t (judged.Refused (c .because)) (firstOf judged.Refused cs judged.Accepted) ≡ judged.Refused r
+          → cond t (g (c .because)) (firstOf g (cs ++ ds) ok) ≡ g r
       go true rest e = cc
       go false rest e = rest e
 
@@ -55,8 +55,8 @@ module _ {A : Type 0} (g : Refusal → A) (ok : A) (ds : List Check) where
   carries-on (c ∷ cs) e = go (c .refuses) (carries-on cs) e
     where
       go : (t : Bool) → (firstOf judged.Refused cs judged.Accepted ≡ judged.Accepted → firstOf g (cs ++ ds) ok ≡ firstOf g ds ok)
-          → decided t (judged.Refused (c .because)) (firstOf judged.Refused cs judged.Accepted) ≡ judged.Accepted
-          → decided t (g (c .because)) (firstOf g (cs ++ ds) ok) ≡ firstOf g ds ok
+          → cond t (judged.Refused (c .because)) (firstOf judged.Refused cs judged.Accepted) ≡ judged.Accepted
+          → cond t (g (c .because)) (firstOf g (cs ++ ds) ok) ≡ firstOf g ds ok
       go true rest e = cc
       go false rest e = rest e
 
@@ -69,10 +69,10 @@ module _ {A : Type 0} (g : Refusal → A) (ok : A) (x : Burst) (k : ℕ) where
   keeps-refusal r e = carries-refusal g ok indexCheck (checks x) r e
 
   no-beat : judgement x ≡ judged.Accepted → beats x ≤ k → firstOf g (checksOfBeat x k) ok ≡ g Index
-  no-beat e h = carries-on g ok indexCheck (checks x) e ∙ ap (λ t. decided t (g Index) ok) (le-leb (beats x) k h)
+  no-beat e h = carries-on g ok indexCheck (checks x) e ∙ ap (λ t. cond t (g Index) ok) (le-leb (beats x) k h)
 
   has-beat : judgement x ≡ judged.Accepted → k < beats x → firstOf g (checksOfBeat x k) ok ≡ ok
-  has-beat e h = carries-on g ok indexCheck (checks x) e ∙ ap (λ t. decided t (g Index) ok) (lt-leb (beats x) k h)
+  has-beat e h = carries-on g ok indexCheck (checks x) e ∙ ap (λ t. cond t (g Index) ok) (lt-leb (beats x) k h)
 
 -- an answer that is the defined one shows the paper's numbers
 pub judges : (x : Burst) (r : Judgement) → r ≡ judgement x → Judges x r
@@ -107,7 +107,7 @@ module _ (x : Burst) (k : ℕ) where
 clash : true ≡ false → ⊥
 clash e = let z : _≡_ {A = ℕ} 0 1 = cc in omega arith
 
-passed : (t : Bool) (r : Refusal) (y : Judgement) → decided t (judged.Refused r) y ≡ judged.Accepted → (t ≡ false) × (y ≡ judged.Accepted)
+passed : (t : Bool) (r : Refusal) (y : Judgement) → cond t (judged.Refused r) y ≡ judged.Accepted → (t ≡ false) × (y ≡ judged.Accepted)
 passed true r y e = let z : _≡_ {A = ℕ} 0 1 = cc in absurd (omega arith)
 passed false r y e = (refl, e)
 
@@ -137,11 +137,11 @@ pub boundary-exactly : (x : Burst) → (judgement x ≡ judged.Refused Boundary)
 boundary-exactly x = (there, back)
   where
     earlier : (t : Bool) (r : Refusal) (y : Judgement) → (r ≡ Boundary → ⊥)
-        → decided t (judged.Refused r) y ≡ judged.Refused Boundary → (t ≡ false) × (y ≡ judged.Refused Boundary)
+        → cond t (judged.Refused r) y ≡ judged.Refused Boundary → (t ≡ false) × (y ≡ judged.Refused Boundary)
     earlier true r y h e = absurd (h cc)
     earlier false r y h e = (refl, e)
 
-    last : (t : Bool) → decided t (judged.Refused Boundary) judged.Accepted ≡ judged.Refused Boundary → t ≡ true
+    last : (t : Bool) → cond t (judged.Refused Boundary) judged.Accepted ≡ judged.Refused Boundary → t ≡ true
     last true e = refl
     last false e = cc
 

@@ -13,7 +13,7 @@ use Rattle.burst_spec.specs.declared.Burst.{Burst}
 use Rattle.burst_spec.specs.declared.Kind.{Kind}
 use Rattle.burst_spec.specs.declared.Kind.the-variants.{Fixed, Incr, Wrap, Reserved}
 use Rattle.burst_spec.specs.Address.{roundDown, highestByte, incrAddress, wrapAddress, wrapBoundary, addressBy, beats, bytes, beatAddress}
-use Rattle.burst_spec.specs.Checks.{outside, beatOutside, crosses, crossesBy, countAllowed, misaligned}
+use Rattle.burst_spec.specs.Checks.{Crossing, outside, beatOutside, crosses, crossesBy, countAllowed, misaligned}
 use Rattle.burst_spec.specs.Legal.{Legal, Accepted}
 use Rattle.burst_spec.proofs.Below.{none-below, each-below, found-below}
 use Rattle.burst_spec.proofs.Known.{wrap-power, UpTo, known, Known, size-small}
@@ -129,15 +129,7 @@ module _ (s i n : ℕ) (small : i ≤ 7) where
 pub only-incr : (x : Burst) → Legal x → (x .kind ≡ Incr → ⊥) → crosses x ≡ false
 only-incr x l h = others-inside (x .start) (x .size) (beats x) (size-small x l) (x .kind) h (known x l .count) (l .start)
 
--- the rule in the paper's words: some byte from a beat's address to its highest lane lies in another block than the start
-pub record Crossing (x : Burst) : Type 0 where
-  pub beat : ℕ
-  pub byte : ℕ
-  pub counted : beat < beats x
-  pub from : beatAddress x beat ≤ byte
-  pub to : byte ≤ highestByte (beatAddress x beat) (bytes x)
-  pub elsewhere : byte / 4096 ≡ x .start / 4096 → ⊥
-
+-- the computed test says what the paper's words say
 pub crosses-exactly : (x : Burst) → (crosses x ≡ true) ↔ Crossing x
 unfolding crossesBy
 crosses-exactly x = (there, back)

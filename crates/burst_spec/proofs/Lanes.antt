@@ -5,7 +5,7 @@ use native.Mathlib.Nat.{div-add-mod', mod-lt}
 use native.Mathlib.Omega.{arith}
 use lib.Pow.{pow-pos}
 use Rattle.burst_spec.specs.declared.Burst.{Burst}
-use Rattle.burst_spec.specs.Address.{roundDown, highestByte, lowerLane, upperLane, bytes}
+use Rattle.burst_spec.specs.Address.{highestByte, lowerLane, upperLane, bytes, beatAddress, beatOf}
 use Rattle.burst_spec.specs.Legal.{Legal}
 use Rattle.burst_spec.proofs.Known.{UpTo, known, Known}
 use Rattle.burst_spec.proofs.Rounding.{round-le, round-near, highest-quotient, coarser}
@@ -31,9 +31,12 @@ lanes a i j h =
       inside = mod-lt (highestByte a (2 ^ i)) (pow-pos j);
     }
 
--- "lower ≤ upper < bus", for any address
 pub in-row : (x : Burst) → Legal x → (a : ℕ) → InRow a (bytes x) (x .bus)
 in-row x l a = go (known x l)
   where
     go : Known x → InRow a (bytes x) (x .bus)
     go y = rw (y .bus .is) (lanes a (x .size) (y .bus .log) (y .narrow))
+
+-- a beat's lanes go upwards, and are lanes of the bus
+pub lanes-ordered : (x : Burst) → Legal x → (k : ℕ) → (beatOf x k .lower ≤ beatOf x k .upper) × (beatOf x k .upper < x .bus)
+lanes-ordered x l k = (in-row x l (beatAddress x k) .order, in-row x l (beatAddress x k) .inside)

@@ -1,14 +1,16 @@
--- Which bursts are refused, and why first (paper 01, 'Refusal numbers', 7 to 13; source 004, A3.4.1).
-use mathlib.Core.Bool.{Bool, true, false, not, _&&_, _||_}
+-- Which bursts are refused, and with what first (paper 01, 'Refusal numbers', 7 to 13; source 004, A3.4.1).
+-- A burst of the reserved kind is refused with 9 before any later line for its kind is read.
+use mathlib.Core.Bool.{Bool, true, false, not, cond, _&&_, _||_}
 use mathlib.Core.List.{List, [], _∷_, _++_}
-use Prim.Native.Nat.{ℕ, zero, suc, _+_, _-_, _*_, _/_, _%_, _^_}
+use mathlib.Core.Path.{_≡_}
+use Prim.Native.Nat.{ℕ, zero, suc, _+_, _-_, _/_, _%_, _≤_, _<_}
 use lib.Dec.{leb, ltb, eqb}
 use Rattle.refusal.specs.declared.Refusal.{Refusal}
 use Rattle.refusal.specs.declared.Refusal.the-variants.{Bus, Size, Kind, Count, Align, Boundary, Index}
 use Rattle.burst_spec.specs.declared.Burst.{Burst}
 use Rattle.burst_spec.specs.declared.Kind as kind
 use Rattle.burst_spec.specs.declared.Kind.the-variants.{Fixed, Incr, Wrap, Reserved}
-use Rattle.burst_spec.specs.Address.{beats, bytes, addressBy, highestByte}
+use Rattle.burst_spec.specs.Address.{beats, bytes, addressBy, beatAddress, highestByte}
 
 -- A check: when it refuses, and with what.
 pub record Check : Type 0 where
@@ -16,14 +18,9 @@ pub record Check : Type 0 where
   pub because : Refusal
 
 -- The answer under a list of checks: the first that refuses decides, and without one the call answers `ok`.
-module _ {A : Type 0} where
-  abbrev pub decided : Bool → A → A → A
-  decided true refused otherwise = refused
-  decided false refused otherwise = otherwise
-
-  abbrev pub firstOf : (Refusal → A) → List Check → A → A
-  firstOf refused [] ok = ok
-  firstOf refused (c ∷ cs) ok = decided (c .refuses) (refused (c .because)) (firstOf refused cs ok)
+abbrev pub firstOf : {A : Type 0} → (Refusal → A) → List Check → A → A
+firstOf refused [] ok = ok
+firstOf refused (c ∷ cs) ok = cond (c .refuses) (refused (c .because)) (firstOf refused cs ok)
 
 -- whether a number is one of a list, and whether it lies from low to high
 abbrev pub among : ℕ → List ℕ → Bool
@@ -84,6 +81,15 @@ crossesBy m s b n = someBelow n (λ k. beatOutside s b (addressBy m s b n k))
 
 abbrev pub crosses : Burst → Bool
 crosses x = crossesBy (x .kind) (x .start) (bytes x) (beats x)
+
+-- The same in the paper's words; that the two say the same is a law (proofs/Block, crosses-exactly).
+pub record Crossing (x : Burst) : Type 0 where
+  pub beat : ℕ
+  pub byte : ℕ
+  pub counted : beat < beats x
+  pub from : beatAddress x beat ≤ byte
+  pub to : byte ≤ highestByte (beatAddress x beat) (bytes x)
+  pub elsewhere : byte / 4096 ≡ x .start / 4096 → ⊥
 
 -- "On bursts: 7 to 12 in order, then 13."
 abbrev pub checks : Burst → List Check

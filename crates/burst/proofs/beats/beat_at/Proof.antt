@@ -7,7 +7,7 @@ use native.Mathlib.Omega.{arith}
 use lib.Pow.{pow-pos}
 use Rattle.burst_spec.specs.Address.{highestByte, bytes}
 use Rattle.burst_spec.proofs.Known.{size-small}
-use Rattle.burst.proofs.Formulas.{bus-is-power, highest-fits, lt-by}
+use Rattle.burst.proofs.Formulas.{addressBits, bus-is-power, highest-fits, lt-by}
 use Rattle.burst.proofs.beats.beat_at.Statement.{statement}
 use Rattle.burst.proofs.beats.beat_at.Tie as tie
 
@@ -27,8 +27,8 @@ highest-is c = rw (c .round-down .ensures, c .before .bytes-of .ensures)
 add-highest : tie.Need-add-highest
 add-highest c =
     let s = c .before .before in
-    let small : s .args .b .size ≤ 32 = omega (arith, size-small (s .args .b) (s .pre)) in
-    record { fits = lt-by (highest-is c) (highest-fits 32 (s .args .b .size) (s .args .address) small (s .fits .address .fits)) }
+    let small : s .args .b .size ≤ addressBits = omega (arith, size-small (s .args .b) (s .pre)) in
+    record { fits = lt-by (highest-is c) (highest-fits addressBits (s .args .b .size) (s .args .address) small (s .fits .address .fits)) }
 
 low-part-requires : tie.Need-low-part-requires
 low-part-requires c κs = bus-is-power (c .before .before .args .b) (c .before .before .pre)

@@ -6,7 +6,7 @@ use Prim.Native.Nat.{_+_, _*_}
 use native.Mathlib.Omega.{arith}
 use Rattle.burst_spec.specs.Address.{beatAddress}
 use Rattle.burst_spec.proofs.Known.{size-small, span-small}
-use Rattle.burst.proofs.Formulas.{incr-first, incr-later, address-fits, lt-by}
+use Rattle.burst.proofs.Formulas.{addressBits, incr-first, incr-later, address-fits, lt-by}
 use Rattle.burst.proofs.beats.incr_address.Statement.{statement}
 use Rattle.burst.proofs.beats.incr_address.Tie as tie
 
@@ -36,7 +36,7 @@ sum-is c =
 add-result : tie.Need-add-result
 add-result c =
     let s = c .before .before .before in
-    record { fits = lt-by (sum-is c) (address-fits (s .args .b) (s .args .k) 32 (omega arith) (omega (arith, s .good)) (s .pre .0) (s .pre .2)) }
+    record { fits = lt-by (sum-is c) (address-fits (s .args .b) (s .args .k) addressBits (omega arith) (omega (arith, s .good)) (s .pre .0) (s .pre .2)) }
 
 returns-2 : tie.Need-returns-2
 returns-2 c = sum-is c

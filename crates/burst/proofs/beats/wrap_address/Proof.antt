@@ -5,7 +5,7 @@ use Prim.Native.Nat.{_+_}
 use native.Mathlib.Omega.{arith}
 use Rattle.burst_spec.specs.Address.{beatAddress}
 use Rattle.burst_spec.proofs.Known.{known, size-small, span-small}
-use Rattle.burst.proofs.Formulas.{container-power, offset-small, wrap-formula, address-fits, lt-by}
+use Rattle.burst.proofs.Formulas.{addressBits, container-power, offset-small, wrap-formula, address-fits, lt-by}
 use Rattle.burst.proofs.beats.wrap_address.Statement.{statement}
 use Rattle.burst.proofs.beats.wrap_address.Tie as tie
 
@@ -56,7 +56,7 @@ sum-is c =
 add-result : tie.Need-add-result
 add-result c =
     let s = c .before .before .before .before .before in
-    record { fits = lt-by (sum-is c) (address-fits (s .args .b) (s .args .k) 32 (omega arith) (omega (arith, s .good)) (s .pre .0) (s .pre .2)) }
+    record { fits = lt-by (sum-is c) (address-fits (s .args .b) (s .args .k) addressBits (omega arith) (omega (arith, s .good)) (s .pre .0) (s .pre .2)) }
 
 returns : tie.Need-returns
 returns c = sum-is c

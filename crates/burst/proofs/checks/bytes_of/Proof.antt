@@ -3,6 +3,7 @@ use borrow.Author.Needs.{needs}
 use native.Mathlib.Nat.{one-mul, mod-eq-of-lt}
 use native.Mathlib.Omega.{arith}
 use lib.Pow.{pow-lt}
+use Rattle.burst.proofs.Formulas.{addressBits}
 use Rattle.burst.proofs.checks.bytes_of.Statement.{statement}
 use Rattle.burst.proofs.checks.bytes_of.Tie as tie
 
@@ -10,7 +11,7 @@ shl-result : tie.Need-shl-result
 shl-result c = search needs
 
 returns : tie.Need-returns
-returns c = rw (one-mul, mod-eq-of-lt (pow-lt {i = c .args .size} {j = 32} (omega arith)))
+returns c = rw (one-mul, mod-eq-of-lt (pow-lt {i = c .args .size} {j = addressBits} (omega arith)))
 
 pub bytes-of-spec : {M : Type 1} → statement M
 bytes-of-spec = tie.close (tie.spec shl-result returns)
