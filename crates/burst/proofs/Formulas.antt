@@ -37,6 +37,11 @@ module _ (x : Burst) (l : Legal x) where
   pub bus-is-power : Power (x .bus)
   bus-is-power = record { log = known x l .bus .log; is = known x l .bus .is }
 
+  -- a lane of the bus is a small number
+  pub lane-small : (a : ℕ) → a % x .bus < 128
+  lane-small a =
+      omega (arith, mod-lt a (power-positive bus-is-power), known x l .bus .is, pow-mono (known x l .bus .small))
+
   -- the 4KB test
   pub other-kind-inside : (m : Kind) → x .kind ≡ m → (m ≡ Incr → ⊥) → false ≡ crosses x
   other-kind-inside m e h = sym (only-incr x l (λ f. h (sym e ∙ f)))

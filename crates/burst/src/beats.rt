@@ -3,6 +3,8 @@
 use crate::checks::bytes_of;
 use crate::rounding::low_part;
 use crate::rounding::round_down;
+use crate::width::lane;
+use crate::width::wide;
 use burst_spec::Address;
 use burst_spec::Beat;
 use burst_spec::Burst;
@@ -25,7 +27,7 @@ fn incr_address(b: Burst, k: u32) -> Address
     }
     let bytes = bytes_of(b.size);
     let first = round_down(start, bytes);
-    first + (k as Address) * bytes
+    first + wide(k) * bytes
 }
 
 // WRAP: the offset from the wrap boundary goes round in the burst's container. The container's end is never worked out: at
@@ -36,8 +38,8 @@ fn wrap_address(b: Burst, k: u32) -> Address
 {
     let start = b.start;
     let bytes = bytes_of(b.size);
-    let container = bytes * ((b.len + 1) as Address);
-    let offset = low_part(start, container) + (k as Address) * bytes;
+    let container = bytes * wide(b.len + 1);
+    let offset = low_part(start, container) + wide(k) * bytes;
     let boundary = round_down(start, container);
     let turned = low_part(offset, container);
     boundary + turned
@@ -63,13 +65,13 @@ pub fn beat_at(b: Burst, address: Address) -> Beat
     ensures { λ r. ⌜ r ≡ beatAt b address ⌝ }
 {
     let bytes = bytes_of(b.size);
-    let bus = b.bus as Address;
+    let bus = wide(b.bus);
     let first = round_down(address, bytes);
     let highest = first + (bytes - 1);
     Beat {
         address,
-        lower: low_part(address, bus) as u32,
-        upper: low_part(highest, bus) as u32,
+        lower: lane(low_part(address, bus)),
+        upper: lane(low_part(highest, bus)),
     }
 }
 

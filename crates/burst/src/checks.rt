@@ -2,6 +2,7 @@
 // `judge` of the crate's root. A test counts only on those before it.
 use crate::rounding::low_part;
 use crate::rounding::round_down;
+use crate::width::wide;
 use burst_spec::Address;
 use burst_spec::Burst;
 use burst_spec::Kind;
@@ -39,7 +40,7 @@ pub fn too_wide(b: Burst) -> bool
         return true;
     }
     let bus = b.bus;
-    (bus as Address) < bytes_of(size)
+    wide(bus) < bytes_of(size)
 }
 
 // 9 TYPE: the kind is reserved.
@@ -114,7 +115,7 @@ pub fn leaves_block(b: Burst) -> bool
             let bytes = bytes_of(b.size);
             let first = round_down(b.start, bytes);
             let offset = low_part(first, 4096);
-            let beats = (b.len + 1) as Address;
+            let beats = wide(b.len + 1);
             4096 < offset + beats * bytes
         }
         Kind::Wrap => false,

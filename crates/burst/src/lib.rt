@@ -4,6 +4,7 @@
 mod beats;
 mod checks;
 mod rounding;
+mod width;
 
 use burst_spec::Address;
 use burst_spec::BeatAnswer;

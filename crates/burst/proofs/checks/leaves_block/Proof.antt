@@ -25,21 +25,24 @@ round-down-requires c κs = search needs
 low-part-requires : tie.Need-low-part-requires
 low-part-requires c κs = power 12
 
-add-beats : tie.Need-add-beats
-add-beats c =
+add-wide : tie.Need-add-wide
+add-wide c =
     let s = c .before .before .before .before .before .before in
     omega (arith, known (s .args .b) (s .pre) .few)
 
+wide-requires : tie.Need-wide-requires
+wide-requires c κs = search needs
+
 mul-result : tie.Need-mul-result
 mul-result c =
-    let s = c .before .before .before .before .before .before in
-    rw (c .before .before .before .bytes-of .ensures)
+    let s = c .before .before .before .before .before .before .before in
+    rw (c .wide .ensures, c .before .before .before .before .bytes-of .ensures)
     (omega (arith, span-small (s .args .b) (s .pre) (s .args .b .len + 1) (omega arith)))
 
 add-result : tie.Need-add-result
 add-result c =
-    let s = c .before .before .before .before .before .before in
-    rw (c .before .low-part .ensures, c .before .before .before .bytes-of .ensures)
+    let s = c .before .before .before .before .before .before .before in
+    rw (c .before .before .low-part .ensures, c .wide .ensures, c .before .before .before .before .bytes-of .ensures)
     (omega (arith, span-small (s .args .b) (s .pre) (s .args .b .len + 1) (omega arith)))
 
 enum-told-3 : tie.Need-enum-told-3
@@ -55,11 +58,11 @@ returns c =
 
 returns-2 : tie.Need-returns-2
 returns-2 c =
-    let s = c .before .before .before .before .before .before in
-    rw (c .before .low-part .ensures)
-    (incr-test (s .args .b) (s .pre) (c .before .before .before .before .enum-told2 .given .1)
-    (c .before .before .round-down .result) (c .before .before .before .bytes-of .result)
-    (c .before .before .round-down .ensures) (c .before .before .before .bytes-of .ensures))
+    let s = c .before .before .before .before .before .before .before in
+    rw (c .before .before .low-part .ensures, c .wide .ensures)
+    (incr-test (s .args .b) (s .pre) (c .before .before .before .before .before .enum-told2 .given .1)
+    (c .before .before .before .round-down .result) (c .before .before .before .before .bytes-of .result)
+    (c .before .before .before .round-down .ensures) (c .before .before .before .before .bytes-of .ensures))
 
 returns-3 : tie.Need-returns-3
 returns-3 c =
@@ -78,7 +81,8 @@ leaves-block-spec =
     bytes-of-requires
     round-down-requires
     low-part-requires
-    add-beats
+    add-wide
+    wide-requires
     mul-result
     add-result
     enum-told-3
