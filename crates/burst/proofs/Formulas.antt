@@ -1,24 +1,24 @@
 -- The formulas that the code works out are the definitions, and no number on the way is too large. Assumes nothing.
-use mathlib.Core.Bool.{Bool, true, false}
+use mathlib.Core.Bool.{false}
 use mathlib.Core.Path.{_≡_, refl, sym, ap, _∙_}
-use Prim.Native.Nat.{ℕ, zero, suc, _+_, _-_, _*_, _/_, _%_, _^_, _≤_, _<_}
-use native.Mathlib.Nat.{mod-add-mod, mod-lt, mul-comm, div-eq-of-lt, div-lt-iff-lt-mul}
+use Prim.Native.Nat.{ℕ, zero, suc, _+_, _-_, _*_, _%_, _^_, _≤_, _<_}
+use native.Mathlib.Nat.{mod-add-mod, mod-lt}
 use native.Mathlib.Omega.{arith}
 use lib.Dec.{ltb}
-use lib.IntN.{ℤ, pos, negsuc, subℕ, _-ℤ_}
+use lib.IntN.{pos, negsuc, subℕ, _-ℤ_}
 use mir.Facts.{toZ-pos}
 use mir.Syntax.{w32}
 use mir.Val.{toZ}
 use lib.Pow.{pow-pos, pow-add, pow-mono}
 use Rattle.burst_spec.specs.declared.Burst.{Burst}
 use Rattle.burst_spec.specs.declared.Kind.{Kind}
-use Rattle.burst_spec.specs.declared.Kind.the-variants.{Fixed, Incr, Wrap, Reserved}
-use Rattle.burst_spec.specs.Address.{roundDown, highestByte, incrAddress, wrapAddress, wrapBoundary, addressBy, beats, bytes, beatAddress}
+use Rattle.burst_spec.specs.declared.Kind.the-variants.{Incr, Wrap}
+use Rattle.burst_spec.specs.Address.{roundDown, highestByte, incrAddress, addressBy, beats, bytes, beatAddress}
 use Rattle.burst_spec.specs.Checks.{crosses, crossesBy, countAllowed, misaligned}
 use Rattle.burst_spec.specs.Legal.{Power, Legal, Accepted}
-use Rattle.burst_spec.proofs.Known.{known, Known, UpTo, wrap-power, size-small, bytes-small, span-small}
-use Rattle.burst_spec.proofs.Rounding.{power-positive, highest-quotient, coarser}
-use Rattle.burst_spec.proofs.Block.{incr-crosses, only-incr, address-block, in-memory}
+use Rattle.burst_spec.proofs.Known.{known, UpTo, wrap-power, size-small, span-small}
+use Rattle.burst_spec.proofs.Rounding.{power-positive, highest-quotient, same-memory}
+use Rattle.burst_spec.proofs.Block.{incr-crosses, only-incr, address-block}
 use Rattle.burst_spec.proofs.Step.{sub-shift, sub-down}
 use Rattle.burst_spec.proofs.Wrap.{wrap-aligned, wrap-closed}
 
@@ -100,13 +100,10 @@ module _ (x : Burst) (k : ℕ) where
 
   -- an address of the burst lies in the memory of 2 ^ w bytes that the start lies in, and so does the highest byte of a beat
   pub address-fits : (w : ℕ) → 12 ≤ w → x .start < 2 ^ w → Accepted x → k < beats x → beatAddress x k < 2 ^ w
-  address-fits w h s y l = in-memory w (x .start) (beatAddress x k) h s (address-block x y k l)
+  address-fits w h s y l = same-memory {i = 12} w (beatAddress x k) (x .start) h s (address-block x y k l)
 
 pub highest-fits : (w i a : ℕ) → i ≤ w → a < 2 ^ w → highestByte a (2 ^ i) < 2 ^ w
-highest-fits w i a h l =
-    let z : highestByte a (2 ^ i) / 2 ^ w ≡ 0 = coarser (highestByte a (2 ^ i)) a h (highest-quotient a (2 ^ i) (pow-pos i)) ∙ div-eq-of-lt l in
-    let q : highestByte a (2 ^ i) / 2 ^ w < 1 = omega arith in
-    omega (arith, div-lt-iff-lt-mul (pow-pos w) .0 q)
+highest-fits w i a h l = same-memory w (highestByte a (2 ^ i)) a h l (highest-quotient a (2 ^ i) (pow-pos i))
 
 -- the signed value of what the code works out where the way goes down
 pub down-is : (from to : ℕ) → to < from → from - to < 2 ^ 31 → pos 0 -ℤ toZ w32 (from - to) ≡ negsuc (from - suc to)

@@ -1,5 +1,5 @@
 -- When a burst is accepted, and that an answer shows the paper's numbers. Assumes nothing.
-use mathlib.Core.Bool.{Bool, true, false, not, cond}
+use mathlib.Core.Bool.{Bool, true, false, cond}
 use mathlib.Core.List.{List, [], _∷_, _++_}
 use mathlib.Core.Logic.{_↔_}
 use mathlib.Core.Path.{_≡_, refl, sym, ap, _∙_}
@@ -22,7 +22,7 @@ use Rattle.burst_spec.specs.declared.StepAnswer.the-variants as step
 use Rattle.burst_spec.specs.Address.{beats, beatOf, beatStep}
 use Rattle.burst_spec.specs.Checks.{Check, firstOf, crosses, checks, checksOfBeat, checksOfStep}
 use Rattle.burst_spec.specs.Legal.{Legal, Accepted}
-use Rattle.burst_spec.specs.Answers.{kindOf, judgement, beatAnswer, stepAnswer, Row, refusalRow, acceptedRow, judgementShows, beatShows, stepShows, Judges, GivesBeat, GivesStep}
+use Rattle.burst_spec.specs.Answers.{kindOf, judgement, beatAnswer, stepAnswer, judgementShows, beatShows, stepShows, Judges, GivesBeat, GivesStep}
 
 -- what is read off an answer is read off each of its cases
 first-map : {A B : Type 0} (f : A → B) (g : Refusal → A) (cs : List Check) (ok : A)

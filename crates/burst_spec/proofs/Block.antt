@@ -2,22 +2,22 @@
 -- stays in the block it starts in. Assumes nothing.
 use mathlib.Core.Bool.{Bool, true, false, not}
 use mathlib.Core.Logic.{_↔_}
-use mathlib.Core.Path.{_≡_, refl, sym, ap, _∙_}
+use mathlib.Core.Path.{_≡_, refl, sym, _∙_}
 use Prim.Native.Nat.{ℕ, zero, suc, _+_, _-_, _*_, _/_, _%_, _^_, _≤_, _<_}
-use native.Mathlib.Nat.{div-eq-of-lt, div-lt-iff-lt-mul, mul-le-mul-right}
+use native.Mathlib.Nat.{mul-le-mul-right}
 use native.Mathlib.Omega.{arith}
-use lib.Dec.{ltb, leb, eqb}
+use lib.Dec.{ltb, eqb}
 use lib.Pow.{pow-pos, pow-add}
 use borrow.Author.Tests.{eqb-true, eqb-false, eq-eqb, not-true, not-false, ltb-true, ltb-false}
 use Rattle.burst_spec.specs.declared.Burst.{Burst}
 use Rattle.burst_spec.specs.declared.Kind.{Kind}
 use Rattle.burst_spec.specs.declared.Kind.the-variants.{Fixed, Incr, Wrap, Reserved}
-use Rattle.burst_spec.specs.Address.{roundDown, highestByte, incrAddress, wrapAddress, wrapBoundary, addressBy, beats, bytes, beatAddress}
+use Rattle.burst_spec.specs.Address.{roundDown, highestByte, incrAddress, wrapAddress, addressBy, beats, bytes, beatAddress}
 use Rattle.burst_spec.specs.Checks.{Crossing, outside, beatOutside, crosses, crossesBy, countAllowed, misaligned}
 use Rattle.burst_spec.specs.Legal.{Legal, Accepted}
 use Rattle.burst_spec.proofs.Below.{none-below, each-below, found-below}
-use Rattle.burst_spec.proofs.Known.{wrap-power, UpTo, known, Known, size-small}
-use Rattle.burst_spec.proofs.Rounding.{round-le, round-near, round-beats, same-quotient, quotient-of, coarser}
+use Rattle.burst_spec.proofs.Known.{wrap-power, UpTo, known, size-small}
+use Rattle.burst_spec.proofs.Rounding.{round-le, round-near, round-beats, same-quotient, quotient-of, coarser, same-memory}
 use Rattle.burst_spec.proofs.Wrap.{wrap-aligned, wrap-container}
 
 inside : (s a : ℕ) → a / 4096 ≡ s / 4096 → outside s a ≡ false
@@ -175,12 +175,6 @@ address-block x y k l =
     one-block x y k (beatAddress x k) l (omega arith) (omega (arith, round-near (beatAddress x k) (bytes x) (pow-pos (x .size)), pow-pos (x .size)))
 
 -- so nothing of it lies beyond the memory that its start lies in, of 2 ^ w bytes
-pub in-memory : (w s a : ℕ) → 12 ≤ w → s < 2 ^ w → a / 4096 ≡ s / 4096 → a < 2 ^ w
-in-memory w s a h l e =
-    let z : a / 2 ^ w ≡ 0 = coarser a s h e ∙ div-eq-of-lt l in
-    let q : a / 2 ^ w < 1 = omega arith in
-    omega (arith, div-lt-iff-lt-mul (pow-pos w) .0 q)
-
 pub accepted-in-memory : (w : ℕ) (x : Burst) → 12 ≤ w → x .start < 2 ^ w → Accepted x → (k a : ℕ) → k < beats x
     → beatAddress x k ≤ a → a ≤ highestByte (beatAddress x k) (bytes x) → a < 2 ^ w
-accepted-in-memory w x h s y k a l from to = in-memory w (x .start) a h s (one-block x y k a l from to)
+accepted-in-memory w x h s y k a l from to = same-memory {i = 12} w a (x .start) h s (one-block x y k a l from to)

@@ -1,20 +1,19 @@
 -- What is known of a burst that none of 7 to 11 refuses, as facts on numbers. Assumes nothing.
-use mathlib.Core.Bool.{Bool, true, false, not, _&&_, _||_}
+use mathlib.Core.Bool.{Bool, true, false, not, _||_}
 use mathlib.Core.List.{List, [], _∷_}
 use mathlib.Core.Path.{_≡_, refl, sym, ap, _∙_}
-use Prim.Native.Nat.{ℕ, zero, suc, _+_, _-_, _*_, _/_, _%_, _^_, _≤_, _<_}
+use Prim.Native.Nat.{ℕ, _*_, _^_, _≤_, _<_}
 use native.Mathlib.Decide.{decLt}
 use native.Mathlib.Nat.{mul-le-mul-right}
 use native.Mathlib.Omega.{arith}
-use lib.Dec.{leb, ltb, eqb, lit≤}
-use lib.Pow.{pow-pos, pow-lt, pow-mono, pow-add}
-use borrow.Author.Tests.{ltb-false, eqb-true, eqb-false, not-false, leb-true}
+use lib.Dec.{ltb, eqb}
+use lib.Pow.{pow-lt, pow-mono}
+use borrow.Author.Tests.{ltb-false, eqb-true, not-false}
 use Rattle.burst_spec.specs.declared.Burst.{Burst}
-use Rattle.burst_spec.specs.declared.Kind.{Kind}
-use Rattle.burst_spec.specs.declared.Kind.the-variants.{Fixed, Incr, Wrap, Reserved}
+use Rattle.burst_spec.specs.declared.Kind.the-variants.{Wrap}
 use Rattle.burst_spec.specs.Address.{beats, bytes}
-use Rattle.burst_spec.specs.Checks.{among, busAllowed, countAllowed, countRefused, misaligned, tooWide}
-use Rattle.burst_spec.specs.Legal.{Power, Legal}
+use Rattle.burst_spec.specs.Checks.{among, busAllowed, countAllowed, countRefused, tooWide}
+use Rattle.burst_spec.specs.Legal.{Legal}
 
 pub or-false : (a b : Bool) → (a || b) ≡ false → (a ≡ false) × (b ≡ false)
 or-false true b e = let z : _≡_ {A = ℕ} 0 1 = cc in absurd (omega arith)

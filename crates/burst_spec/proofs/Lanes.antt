@@ -1,14 +1,14 @@
 -- Byte lanes: a beat lies in one row of the bus, so its lower lane is at most its upper one. Assumes nothing.
-use mathlib.Core.Path.{_≡_, refl, sym, ap, _∙_}
-use Prim.Native.Nat.{ℕ, zero, suc, _+_, _-_, _*_, _/_, _%_, _^_, _≤_, _<_}
+use mathlib.Core.Path.{_≡_}
+use Prim.Native.Nat.{ℕ, _+_, _*_, _/_, _%_, _^_, _≤_, _<_}
 use native.Mathlib.Nat.{div-add-mod', mod-lt}
 use native.Mathlib.Omega.{arith}
 use lib.Pow.{pow-pos}
 use Rattle.burst_spec.specs.declared.Burst.{Burst}
 use Rattle.burst_spec.specs.Address.{highestByte, lowerLane, upperLane, bytes, beatAddress, beatOf}
 use Rattle.burst_spec.specs.Legal.{Legal}
-use Rattle.burst_spec.proofs.Known.{UpTo, known, Known}
-use Rattle.burst_spec.proofs.Rounding.{round-le, round-near, highest-quotient, coarser}
+use Rattle.burst_spec.proofs.Known.{known, Known}
+use Rattle.burst_spec.proofs.Rounding.{round-near, highest-quotient, coarser}
 
 -- the two lanes of a beat, as the bytes' distance from the start of the bus row that the address is in
 pub record InRow (a b bus : ℕ) : Type 0 where

@@ -1,7 +1,7 @@
 -- Rounding down, and which addresses fall into one block of b bytes. Everything else rests on these. Assumes nothing.
-use mathlib.Core.Path.{_≡_, refl, sym, ap, _∙_}
-use Prim.Native.Nat.{ℕ, zero, suc, _+_, _-_, _*_, _/_, _%_, _^_, _≤_, _<_}
-use native.Mathlib.Nat.{div-add-mod', div-mul-le-self, lt-div-mul-add, mul-div-cancel, mul-add-div-right, div-eq-of-lt, div-div-eq-div-mul, mod-lt, mod-eq-sub-div-mul, add-zero}
+use mathlib.Core.Path.{_≡_, ap, _∙_}
+use Prim.Native.Nat.{ℕ, _+_, _-_, _*_, _/_, _%_, _^_, _≤_, _<_}
+use native.Mathlib.Nat.{div-lt-iff-lt-mul, div-add-mod', div-mul-le-self, lt-div-mul-add, mul-div-cancel, mul-add-div-right, div-eq-of-lt, div-div-eq-div-mul, add-zero}
 use native.Mathlib.Omega.{arith}
 use lib.Pow.{pow-pos, pow-add}
 use Rattle.burst_spec.specs.Address.{roundDown, highestByte}
@@ -55,3 +55,10 @@ unfolding roundDown
 round-beats s b k h =
     let e : (s / b * b + k * b) / b ≡ s / b + k = mul-add-div-right h (s / b) (k * b) ∙ ap (λ q. s / b + q) (mul-div-cancel k h) in
     rw e (omega arith)
+
+-- what lies in one block of 2 ^ i bytes with s lies in the memory of 2 ^ w bytes that s lies in
+pub same-memory : {i : ℕ} (w a s : ℕ) → i ≤ w → s < 2 ^ w → a / 2 ^ i ≡ s / 2 ^ i → a < 2 ^ w
+same-memory w a s h l e =
+    let z : a / 2 ^ w ≡ 0 = coarser a s h e ∙ div-eq-of-lt l in
+    let q : a / 2 ^ w < 1 = omega arith in
+    omega (arith, div-lt-iff-lt-mul (pow-pos w) .0 q)

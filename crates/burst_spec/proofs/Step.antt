@@ -1,11 +1,11 @@
 -- The step is the difference of the two addresses, and lies in -1,920 to 128. Assumes nothing.
 use mathlib.Core.Bool.{Bool, true, false, cond}
 use mathlib.Core.Path.{_≡_, refl, sym, ap, _∙_}
-use Prim.Native.Nat.{ℕ, zero, suc, _+_, _-_, _*_, _/_, _%_, _^_, _≤_, _<_}
-use native.Mathlib.Nat.{mul-le-mul-right, mul-le-mul-left}
+use Prim.Native.Nat.{ℕ, zero, suc, _+_, _-_, _*_, _^_, _≤_, _<_}
+use native.Mathlib.Nat.{mul-le-mul-right}
 use native.Mathlib.Numerals.{add-one}
 use native.Mathlib.Omega.{arith}
-use lib.Dec.{T, ltb, leb, eqb, le→leb}
+use lib.Dec.{ltb, le→leb}
 use lib.IntN.{ℤ, pos, negsuc, subℕ}
 use lib.Pow.{pow-pos, pow-mono}
 use lib.Signed.{_≤ℤ_, leZ-yes}
@@ -13,10 +13,10 @@ use borrow.Author.Tests.{eqb-true, lt-ltb, le-ltb, ltb-true, ltb-false}
 use Rattle.burst_spec.specs.declared.Burst.{Burst}
 use Rattle.burst_spec.specs.declared.Kind.{Kind}
 use Rattle.burst_spec.specs.declared.Kind.the-variants.{Fixed, Incr, Wrap, Reserved}
-use Rattle.burst_spec.specs.Address.{roundDown, aligned, wrapBoundary, wraps, incrAddress, wrapAddress, addressBy, incrStep, wrapStep, stepBy, beats, bytes, beatAddress, beatStep}
+use Rattle.burst_spec.specs.Address.{aligned, wrapBoundary, wraps, incrAddress, wrapAddress, addressBy, incrStep, wrapStep, stepBy, beats, bytes, beatAddress, beatStep}
 use Rattle.burst_spec.specs.Checks.{countAllowed}
 use Rattle.burst_spec.specs.Legal.{Legal}
-use Rattle.burst_spec.proofs.Known.{UpTo, wrap-power, known, Known}
+use Rattle.burst_spec.proofs.Known.{UpTo, wrap-power, known}
 use Rattle.burst_spec.proofs.Rounding.{round-le, round-near}
 
 -- a difference of two numbers, where the second is at most the first, and where it is above

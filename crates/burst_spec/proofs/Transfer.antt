@@ -6,15 +6,14 @@ use native.Mathlib.Omega.{arith}
 use lib.Dec.{leb, eqb}
 use lib.Pow.{pow-pos}
 use borrow.Author.Tests.{eqb-true, eqb-false, eq-eqb, le-leb, lt-leb}
-use Rattle.burst_spec.specs.declared.Beat.{Beat}
 use Rattle.burst_spec.specs.declared.Burst.{Burst}
 use Rattle.burst_spec.specs.declared.Kind.{Kind}
 use Rattle.burst_spec.specs.declared.Kind.the-variants.{Fixed, Incr, Wrap, Reserved}
 use Rattle.burst_spec.specs.Address.{roundDown, incrAddress, wrapAddress, wrapBoundary, addressBy, beatAddress, beatOf, beats, bytes, lowerLane, upperLane}
 use Rattle.burst_spec.specs.Checks.{countAllowed, misaligned}
 use Rattle.burst_spec.specs.Legal.{Legal}
-use Rattle.burst_spec.specs.Transfer.{Loop, enter, wrapped, increment, advance, loopAt, low-byte, high-byte, transferAt, transfer}
-use Rattle.burst_spec.proofs.Known.{known, Known, wrap-power, UpTo}
+use Rattle.burst_spec.specs.Transfer.{Loop, enter, advance, loopAt, low-byte, high-byte, transferAt, transfer}
+use Rattle.burst_spec.proofs.Known.{known, wrap-power}
 use Rattle.burst_spec.proofs.Lanes.{InRow, in-row}
 use Rattle.burst_spec.proofs.Rounding.{round-multiple, round-beats}
 use Rattle.burst_spec.proofs.Wrap.{wrap-aligned, wrap-room, wrap-multiple}

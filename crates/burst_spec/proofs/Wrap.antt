@@ -1,7 +1,7 @@
 -- The address of a WRAP beat in one formula: its offset in the burst's container goes round. Assumes nothing.
-use mathlib.Core.Bool.{Bool, true, false, not, cond}
-use mathlib.Core.Path.{_≡_, refl, sym, ap, _∙_}
-use Prim.Native.Nat.{ℕ, zero, suc, _+_, _-_, _*_, _/_, _%_, _^_, _≤_, _<_}
+use mathlib.Core.Bool.{Bool, true, false, cond}
+use mathlib.Core.Path.{_≡_, refl, sym, _∙_}
+use Prim.Native.Nat.{ℕ, zero, suc, _+_, _*_, _/_, _%_, _≤_, _<_}
 use native.Mathlib.Nat.{mod-lt, mod-self, mod-eq-of-lt, mod-add-mod, add-mul-mod-self-right, mul-le-mul-right, add-zero, mul-comm, zero-mul, add-mod-right, mul-mod-left}
 use native.Mathlib.Omega.{arith}
 use lib.Arith.{mod-mul}

@@ -1,10 +1,9 @@
 -- What the code may count on once checks have passed: 7 to 11, and then 12 too. The refusals themselves are in Checks.
-use mathlib.Core.Bool.{true, false, not, _||_}
+use mathlib.Core.Bool.{true, false}
 use mathlib.Core.Path.{_≡_}
 use Prim.Native.Nat.{ℕ, _^_}
-use lib.Dec.{ltb}
 use Rattle.burst_spec.specs.declared.Burst.{Burst}
-use Rattle.burst_spec.specs.Address.{beats, bytes}
+use Rattle.burst_spec.specs.Address.{bytes}
 use Rattle.burst_spec.specs.Checks.{busAllowed, tooWide, isReserved, countRefused, misaligned, crosses}
 
 -- A power of two: what an address is rounded to. A beat, a bus, a wrapping burst and a 4KB block each have so many bytes.

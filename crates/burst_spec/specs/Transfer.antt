@@ -3,7 +3,7 @@
 -- 004 has lost the indentation. We read it as Arm prints it: both wrap boundaries belong to `if mode == WRAP`; the loop is
 -- all from Lower_Byte_Lane to the end; the last `else` belongs to `if aligned`, and `aligned = TRUE` to that `else`. Were
 -- `aligned = TRUE` done for FIXED too, B2's second beat would have lanes 2 to 5, which paper 01 calls wrong.
-use mathlib.Core.Bool.{Bool, true, false, cond}
+use mathlib.Core.Bool.{Bool, true, cond}
 use Prim.Native.Nat.{ℕ, zero, suc, _+_, _-_, _*_, _/_}
 use lib.Dec.{leb, eqb}
 use Rattle.burst_spec.specs.declared.Beat.{Beat}

@@ -1,7 +1,7 @@
 -- `burst::beat` meets its contract: a refused burst keeps its refusal, and beat k of an accepted one is worked out.
 -- Assumes nothing.
 use borrow.Author.Needs.{needs}
-use mathlib.Core.Path.{_≡_, refl, sym, ap, _∙_}
+use mathlib.Core.Path.{_≡_, sym, ap, _∙_}
 use native.Mathlib.Omega.{arith}
 use Rattle.burst_spec.specs.declared.Judgement.the-variants.{Accepted}
 use Rattle.burst_spec.specs.Address.{beatAt}

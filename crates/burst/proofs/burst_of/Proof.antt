@@ -1,6 +1,5 @@
 -- `burst::burst_of` meets its contract: the kind is the one of its number. Assumes nothing.
 use borrow.Author.Needs.{needs}
-use mathlib.Core.Path.{_≡_, refl, sym, ap, _∙_}
 use Rattle.burst.proofs.burst_of.Statement.{statement}
 use Rattle.burst.proofs.burst_of.Tie as tie
 

@@ -3,7 +3,7 @@
 use borrow.Author.Needs.{needs}
 use borrow.Author.Tests.{not-false}
 use mathlib.Core.Bool.{not, false}
-use mathlib.Core.Path.{_≡_, refl, sym, _∙_}
+use mathlib.Core.Path.{_≡_, sym, _∙_}
 use Rattle.refusal.specs.declared.Refusal.the-variants.{Bus, Size, Kind, Count, Align, Boundary}
 use Rattle.burst_spec.specs.declared.Judgement.the-variants.{Accepted, Refused}
 use Rattle.burst_spec.specs.Address.{bytes}

@@ -1,7 +1,5 @@
 -- `burst::kind_of` meets its contract: a number that is none of 0, 1, 2 is from 3 on. Assumes nothing.
 use borrow.Author.Needs.{needs}
-use mathlib.Core.Path.{_≡_, refl, sym, ap, _∙_}
-use Prim.Native.Nat.{ℕ, zero, suc}
 use Rattle.burst.proofs.Tests.{reserved}
 use Rattle.burst.proofs.kind_of.Statement.{statement}
 use Rattle.burst.proofs.kind_of.Tie as tie

@@ -1,7 +1,7 @@
 -- `burst::step` meets its contract: a refused burst keeps its refusal, and the step is the difference of two addresses of
 -- one block. Assumes nothing.
 use borrow.Author.Needs.{needs}
-use mathlib.Core.Path.{_≡_, refl, sym, ap, _∙_}
+use mathlib.Core.Path.{_≡_, sym, _∙_}
 use Prim.Native.Nat.{_+_, _/_}
 use native.Mathlib.Omega.{arith}
 use lib.IntN.{subℕ}

@@ -1,14 +1,13 @@
--- `burst::checks::count_allowed` meets its contract: each arm is the line of its kind. Assumes nothing.
+-- `burst::count_allowed` meets its contract: each arm is the line of its kind. Assumes nothing.
 use borrow.Author.Needs.{needs}
-use mathlib.Core.Bool.{true, false}
+use mathlib.Core.Bool.{false}
 use mathlib.Core.List.{[], _∷_}
-use mathlib.Core.Path.{_≡_, refl, sym, ap, _∙_}
+use mathlib.Core.Path.{refl, sym}
 use native.Mathlib.Omega.{arith}
-use types.Run.{OneOf, hit}
 use Rattle.burst_spec.specs.Checks.{countAllowed}
 use Rattle.burst.proofs.Tests.{among-yes, none-among, between-yes, between-below, between-above}
-use Rattle.burst.proofs.checks.count_allowed.Statement.{statement}
-use Rattle.burst.proofs.checks.count_allowed.Tie as tie
+use Rattle.burst.proofs.count_allowed.Statement.{statement}
+use Rattle.burst.proofs.count_allowed.Tie as tie
 
 enum-told : tie.Need-enum-told
 enum-told c = search needs

@@ -1,4 +1,4 @@
--- `burst::beats::wrap_address` meets its contract: the offset goes round in a container that is a power of two.
+-- `burst::wrap_address` meets its contract: the offset goes round in a container that is a power of two.
 -- Assumes nothing.
 use borrow.Author.Needs.{needs}
 use mathlib.Core.Path.{_≡_}
@@ -8,8 +8,8 @@ use Rattle.burst_spec.specs.Address.{beatAddress}
 use Rattle.burst_spec.specs.Legal.{Power}
 use Rattle.burst_spec.proofs.Known.{known, size-small, span-small}
 use Rattle.burst.proofs.Formulas.{addressBits, container-power, offset-small, wrap-formula, address-fits, lt-by}
-use Rattle.burst.proofs.beats.wrap_address.Statement.{statement}
-use Rattle.burst.proofs.beats.wrap_address.Tie as tie
+use Rattle.burst.proofs.wrap_address.Statement.{statement}
+use Rattle.burst.proofs.wrap_address.Tie as tie
 
 bytes-of-requires : tie.Need-bytes-of-requires
 bytes-of-requires c κs = size-small (c .args .b) (c .pre .0 .legal)

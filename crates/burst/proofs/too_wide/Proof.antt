@@ -1,8 +1,8 @@
--- `burst::checks::too_wide` meets its contract, test by test. Assumes nothing.
+-- `burst::too_wide` meets its contract, test by test. Assumes nothing.
 use borrow.Author.Needs.{needs}
 use borrow.Author.Tests.{lt-ltb, le-ltb}
-use Rattle.burst.proofs.checks.too_wide.Statement.{statement}
-use Rattle.burst.proofs.checks.too_wide.Tie as tie
+use Rattle.burst.proofs.too_wide.Statement.{statement}
+use Rattle.burst.proofs.too_wide.Tie as tie
 
 returns : tie.Need-returns
 returns c = rw (lt-ltb 7 (c .before .args .b .size) (c .if1 .taken))

@@ -1,13 +1,13 @@
--- `burst::checks::bus_refused` meets its contract: the arms are the list of allowed widths. 1 | 2 is tested as a range. Assumes nothing.
-use mathlib.Core.Bool.{not, true}
+-- `burst::bus_refused` meets its contract: the arms are the list of allowed widths. 1 | 2 is tested as a range. Assumes nothing.
+use mathlib.Core.Bool.{not}
 use mathlib.Core.List.{List, [], _∷_}
-use mathlib.Core.Path.{_≡_, refl, sym, ap, _∙_}
+use mathlib.Core.Path.{refl, sym, ap}
 use Prim.Native.Nat.{ℕ}
 use native.Mathlib.Omega.{arith}
 use Rattle.burst_spec.specs.Checks.{busAllowed, between}
 use Rattle.burst.proofs.Tests.{among-yes, none-among, one-or-two, between-below, between-above}
-use Rattle.burst.proofs.checks.bus_refused.Statement.{statement}
-use Rattle.burst.proofs.checks.bus_refused.Tie as tie
+use Rattle.burst.proofs.bus_refused.Statement.{statement}
+use Rattle.burst.proofs.bus_refused.Tie as tie
 
 abbrev widths : List ℕ
 widths = 1 ∷ 2 ∷ 4 ∷ 8 ∷ 16 ∷ 32 ∷ 64 ∷ 128 ∷ []

@@ -1,11 +1,11 @@
--- `burst::checks::bytes_of` meets its contract: 1 shifted by at most 7 is a power that fits. Assumes nothing.
+-- `burst::bytes_of` meets its contract: 1 shifted by at most 7 is a power that fits. Assumes nothing.
 use borrow.Author.Needs.{needs}
 use native.Mathlib.Nat.{one-mul, mod-eq-of-lt}
 use native.Mathlib.Omega.{arith}
 use lib.Pow.{pow-lt}
 use Rattle.burst.proofs.Formulas.{addressBits}
-use Rattle.burst.proofs.checks.bytes_of.Statement.{statement}
-use Rattle.burst.proofs.checks.bytes_of.Tie as tie
+use Rattle.burst.proofs.bytes_of.Statement.{statement}
+use Rattle.burst.proofs.bytes_of.Tie as tie
 
 shl-result : tie.Need-shl-result
 shl-result c = search needs

@@ -1,8 +1,8 @@
--- `burst::checks::count_refused` meets its contract, test by test. Assumes nothing.
+-- `burst::count_refused` meets its contract, test by test. Assumes nothing.
 use borrow.Author.Needs.{needs}
 use borrow.Author.Tests.{lt-ltb, le-ltb}
-use Rattle.burst.proofs.checks.count_refused.Statement.{statement}
-use Rattle.burst.proofs.checks.count_refused.Tie as tie
+use Rattle.burst.proofs.count_refused.Statement.{statement}
+use Rattle.burst.proofs.count_refused.Tie as tie
 
 returns : tie.Need-returns
 returns c = rw (lt-ltb 255 (c .before .args .b .len) (c .if1 .taken))

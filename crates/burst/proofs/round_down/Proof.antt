@@ -1,10 +1,10 @@
--- `burst::rounding::round_down` meets its contract: an address is its rounded part and its low part. Assumes nothing.
+-- `burst::round_down` meets its contract: an address is its rounded part and its low part. Assumes nothing.
 use borrow.Author.Needs.{needs}
 use native.Mathlib.Nat.{mod-le}
 use native.Mathlib.Omega.{arith}
 use Rattle.burst_spec.proofs.Rounding.{round-low}
-use Rattle.burst.proofs.rounding.round_down.Statement.{statement}
-use Rattle.burst.proofs.rounding.round_down.Tie as tie
+use Rattle.burst.proofs.round_down.Statement.{statement}
+use Rattle.burst.proofs.round_down.Tie as tie
 
 low-part-requires : tie.Need-low-part-requires
 low-part-requires c κs = search needs

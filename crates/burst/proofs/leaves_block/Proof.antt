@@ -1,4 +1,4 @@
--- `burst::checks::leaves_block` meets its contract: the test of INCR is the 4KB rule, and no other kind can break it.
+-- `burst::leaves_block` meets its contract: the test of INCR is the 4KB rule, and no other kind can break it.
 -- Assumes nothing.
 use borrow.Author.Needs.{needs}
 use mathlib.Core.Path.{_≡_}
@@ -7,8 +7,8 @@ use native.Mathlib.Omega.{arith}
 use Rattle.burst_spec.specs.declared.Kind.the-variants.{Fixed, Wrap}
 use Rattle.burst_spec.proofs.Known.{known, size-small, span-small}
 use Rattle.burst.proofs.Formulas.{power, other-kind-inside, incr-test}
-use Rattle.burst.proofs.checks.leaves_block.Statement.{statement}
-use Rattle.burst.proofs.checks.leaves_block.Tie as tie
+use Rattle.burst.proofs.leaves_block.Statement.{statement}
+use Rattle.burst.proofs.leaves_block.Tie as tie
 
 enum-told : tie.Need-enum-told
 enum-told c = search needs

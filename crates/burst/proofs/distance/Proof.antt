@@ -1,15 +1,15 @@
--- `burst::beats::distance` meets its contract: two addresses of one block are less than 4,096 apart. Assumes nothing.
+-- `burst::distance` meets its contract: two addresses of one block are less than 4,096 apart. Assumes nothing.
 use borrow.Author.Needs.{needs}
-use mathlib.Core.Path.{_≡_, refl, sym, ap, _∙_}
-use Prim.Native.Nat.{suc, _-_, _+_, _*_, _%_, _<_, _≤_, _^_}
+use mathlib.Core.Path.{sym, _∙_}
+use Prim.Native.Nat.{suc, _-_}
 use native.Mathlib.Omega.{arith}
 use lib.IntN.{negsuc}
 use mir.Facts.{toZ-pos, toZ-ofZ}
 use mir.Syntax.{w32}
 use Rattle.burst_spec.proofs.Step.{sub-up, sub-down}
 use Rattle.burst.proofs.Formulas.{down-is}
-use Rattle.burst.proofs.beats.distance.Statement.{statement}
-use Rattle.burst.proofs.beats.distance.Tie as tie
+use Rattle.burst.proofs.distance.Statement.{statement}
+use Rattle.burst.proofs.distance.Tie as tie
 
 cast-result : tie.Need-cast-result
 cast-result c = search needs

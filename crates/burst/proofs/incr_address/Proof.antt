@@ -1,4 +1,4 @@
--- `burst::beats::incr_address` meets its contract: the formula of A3.4.1, whose result lies in the block that the start lies in.
+-- `burst::incr_address` meets its contract: the formula of A3.4.1, whose result lies in the block that the start lies in.
 -- Assumes nothing.
 use borrow.Author.Needs.{needs}
 use mathlib.Core.Path.{_≡_}
@@ -7,8 +7,8 @@ use native.Mathlib.Omega.{arith}
 use Rattle.burst_spec.specs.Address.{beatAddress}
 use Rattle.burst_spec.proofs.Known.{size-small, span-small}
 use Rattle.burst.proofs.Formulas.{addressBits, incr-first, incr-later, address-fits, lt-by}
-use Rattle.burst.proofs.beats.incr_address.Statement.{statement}
-use Rattle.burst.proofs.beats.incr_address.Tie as tie
+use Rattle.burst.proofs.incr_address.Statement.{statement}
+use Rattle.burst.proofs.incr_address.Tie as tie
 
 returns : tie.Need-returns
 returns c = incr-first (c .before .args .b) (c .before .args .k) (c .before .pre .1) (c .if1 .taken)

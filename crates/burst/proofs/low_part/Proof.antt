@@ -1,8 +1,8 @@
--- `burst::rounding::low_part` meets its contract: a power of two is not 0. Assumes nothing.
+-- `burst::low_part` meets its contract: a power of two is not 0. Assumes nothing.
 use borrow.Author.Needs.{needs}
 use Rattle.burst_spec.proofs.Rounding.{power-positive}
-use Rattle.burst.proofs.rounding.low_part.Statement.{statement}
-use Rattle.burst.proofs.rounding.low_part.Tie as tie
+use Rattle.burst.proofs.low_part.Statement.{statement}
+use Rattle.burst.proofs.low_part.Tie as tie
 
 rem-result : tie.Need-rem-result
 rem-result c = power-positive (c .pre)

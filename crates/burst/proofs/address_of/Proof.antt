@@ -1,11 +1,10 @@
--- `burst::beats::address_of` meets its contract: each kind has its address. Assumes nothing.
+-- `burst::address_of` meets its contract: each kind has its address. Assumes nothing.
 use borrow.Author.Needs.{needs}
-use mathlib.Core.Path.{_≡_, refl, sym, ap, _∙_}
 use Rattle.burst_spec.specs.Address.{addressBy}
 use Rattle.burst_spec.specs.declared.Kind.the-variants.{Fixed, Reserved}
 use Rattle.burst.proofs.Formulas.{at-kind}
-use Rattle.burst.proofs.beats.address_of.Statement.{statement}
-use Rattle.burst.proofs.beats.address_of.Tie as tie
+use Rattle.burst.proofs.address_of.Statement.{statement}
+use Rattle.burst.proofs.address_of.Tie as tie
 
 enum-told : tie.Need-enum-told
 enum-told c = search needs

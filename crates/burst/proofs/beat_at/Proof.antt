@@ -1,7 +1,7 @@
--- `burst::beats::beat_at` meets its contract: a beat's highest byte lies in the memory that its address lies in.
+-- `burst::beat_at` meets its contract: a beat's highest byte lies in the memory that its address lies in.
 -- Assumes nothing.
 use borrow.Author.Needs.{needs}
-use mathlib.Core.Path.{_≡_, refl, sym, ap, _∙_}
+use mathlib.Core.Path.{_≡_, ap, _∙_}
 use Prim.Native.Nat.{_+_, _-_, _%_, _≤_}
 use native.Mathlib.Omega.{arith}
 use lib.Pow.{pow-pos}
@@ -9,8 +9,8 @@ use Rattle.burst_spec.specs.Address.{highestByte, bytes}
 use Rattle.burst_spec.specs.Legal.{Power}
 use Rattle.burst_spec.proofs.Known.{size-small}
 use Rattle.burst.proofs.Formulas.{addressBits, bus-is-power, lane-small, highest-fits, lt-by}
-use Rattle.burst.proofs.beats.beat_at.Statement.{statement}
-use Rattle.burst.proofs.beats.beat_at.Tie as tie
+use Rattle.burst.proofs.beat_at.Statement.{statement}
+use Rattle.burst.proofs.beat_at.Tie as tie
 
 bytes-of-requires : tie.Need-bytes-of-requires
 bytes-of-requires c κs = size-small (c .args .b) (c .pre)

@@ -1,11 +1,10 @@
--- `burst::checks::start_refused` meets its contract: only WRAP asks for an aligned start. Assumes nothing.
+-- `burst::start_refused` meets its contract: only WRAP asks for an aligned start. Assumes nothing.
 use borrow.Author.Needs.{needs}
-use mathlib.Core.Path.{_≡_, refl, sym, ap, _∙_}
+use mathlib.Core.Path.{sym, ap}
 use Rattle.burst_spec.specs.Address.{bytes}
 use Rattle.burst_spec.specs.Checks.{misaligned}
-use Rattle.burst.proofs.Formulas.{power}
-use Rattle.burst.proofs.checks.start_refused.Statement.{statement}
-use Rattle.burst.proofs.checks.start_refused.Tie as tie
+use Rattle.burst.proofs.start_refused.Statement.{statement}
+use Rattle.burst.proofs.start_refused.Tie as tie
 
 enum-told : tie.Need-enum-told
 enum-told c = search needs
