@@ -22,6 +22,7 @@ use Rattle.burst_spec.specs.declared.StepAnswer.the-variants as step
 use Rattle.burst_spec.specs.Address.{beats, beatOf, beatStep}
 use Rattle.burst_spec.specs.Checks.{Check, firstOf, crosses, checks, checksOfBeat, checksOfStep}
 use Rattle.burst_spec.specs.Legal.{Legal, Accepted}
+use Rattle.burst_spec.proofs.Known.{clash}
 use Rattle.burst_spec.specs.Answers.{kindOf, judgement, beatAnswer, stepAnswer, judgementShows, beatShows, stepShows, Judges, GivesBeat, GivesStep}
 
 -- what is read off an answer is read off each of its cases
@@ -35,44 +36,32 @@ first-map {A} {B} f g (c ∷ cs) ok = go (c .refuses) (first-map f g cs ok)
     go true e = refl
     go false e = e
 
--- A burst that is judged refused is refused by every call that has its checks first, with the same refusal; and where it is
--- accepted, the checks that follow decide.
-module _ {A : Type 0} (g : Refusal → A) (ok : A) (ds : List Check) where
-  carries-refusal : (cs : List Check) (r : Refusal) → firstOf judged.Refused cs judged.Accepted ≡ judged.Refused r
-      → firstOf g (cs ++ ds) ok ≡ g r
-  carries-refusal [] r e = cc
-  carries-refusal (c ∷ cs) r e = go (c .refuses) (carries-refusal cs r) e
-    where
-      go : (t : Bool) → (firstOf judged.Refused cs judged.Accepted ≡ judged.Refused r → firstOf g (cs ++ ds) ok ≡ g r)
-          → cond t (judged.Refused (c .because)) (firstOf judged.Refused cs judged.Accepted) ≡ judged.Refused r
-          → cond t (g (c .because)) (firstOf g (cs ++ ds) ok) ≡ g r
-      go true rest e = cc
-      go false rest e = rest e
+-- checks in a row: the first list decides, and where it does not, the second
+first-append : {A : Type 0} (g : Refusal → A) (cs ds : List Check) (ok : A) → firstOf g (cs ++ ds) ok ≡ firstOf g cs (firstOf g ds ok)
+first-append g [] ds ok = refl
+first-append g (c ∷ cs) ds ok = ap (λ y. cond (c .refuses) (g (c .because)) y) (first-append g cs ds ok)
 
-  carries-on : (cs : List Check) → firstOf judged.Refused cs judged.Accepted ≡ judged.Accepted
-      → firstOf g (cs ++ ds) ok ≡ firstOf g ds ok
-  carries-on [] e = refl
-  carries-on (c ∷ cs) e = go (c .refuses) (carries-on cs) e
-    where
-      go : (t : Bool) → (firstOf judged.Refused cs judged.Accepted ≡ judged.Accepted → firstOf g (cs ++ ds) ok ≡ firstOf g ds ok)
-          → cond t (judged.Refused (c .because)) (firstOf judged.Refused cs judged.Accepted) ≡ judged.Accepted
-          → cond t (g (c .because)) (firstOf g (cs ++ ds) ok) ≡ firstOf g ds ok
-      go true rest e = cc
-      go false rest e = rest e
-
--- beat k of a burst: a refused burst keeps its refusal, and of an accepted one 13 is given exactly if there is no beat k
+-- A call for beat k goes by how the burst is judged: a refused burst keeps its refusal, and of an accepted one 13 is given
+-- exactly if there is no beat k.
 module _ {A : Type 0} (g : Refusal → A) (ok : A) (x : Burst) (k : ℕ) where
-  abbrev indexCheck : List Check
-  indexCheck = record { refuses = leb (beats x) k; because = Index } ∷ []
+  abbrev indexed : Judgement → A
+  indexed judged.Accepted = cond (leb (beats x) k) (g Index) ok
+  indexed (judged.Refused r) = g r
+
+  by-judgement : (j : Judgement) → judgement x ≡ j → firstOf g (checksOfBeat x k) ok ≡ indexed j
+  by-judgement j e =
+      first-append g (checks x) (record { refuses = leb (beats x) k; because = Index } ∷ []) ok
+      ∙ sym (first-map indexed judged.Refused (checks x) judged.Accepted)
+      ∙ ap indexed e
 
   keeps-refusal : (r : Refusal) → judgement x ≡ judged.Refused r → firstOf g (checksOfBeat x k) ok ≡ g r
-  keeps-refusal r e = carries-refusal g ok indexCheck (checks x) r e
+  keeps-refusal r e = by-judgement (judged.Refused r) e
 
   no-beat : judgement x ≡ judged.Accepted → beats x ≤ k → firstOf g (checksOfBeat x k) ok ≡ g Index
-  no-beat e h = carries-on g ok indexCheck (checks x) e ∙ ap (λ t. cond t (g Index) ok) (le-leb (beats x) k h)
+  no-beat e h = by-judgement judged.Accepted e ∙ ap (λ t. cond t (g Index) ok) (le-leb (beats x) k h)
 
   has-beat : judgement x ≡ judged.Accepted → k < beats x → firstOf g (checksOfBeat x k) ok ≡ ok
-  has-beat e h = carries-on g ok indexCheck (checks x) e ∙ ap (λ t. cond t (g Index) ok) (lt-leb (beats x) k h)
+  has-beat e h = by-judgement judged.Accepted e ∙ ap (λ t. cond t (g Index) ok) (lt-leb (beats x) k h)
 
 -- an answer that is the defined one shows the paper's numbers
 pub judges : (x : Burst) (r : Judgement) → r ≡ judgement x → Judges x r
@@ -104,11 +93,8 @@ module _ (x : Burst) (k : ℕ) where
   pub given-step : judgement x ≡ judged.Accepted → k + 1 < beats x → (d : ℤ) → d ≡ beatStep x k → GivesStep x k (step.By d)
   given-step e h d f = gives-step x k (step.By d) (ap step.By f ∙ sym (has-beat step.Refused (step.By (beatStep x k)) x (k + 1) e h))
 
-clash : true ≡ false → ⊥
-clash e = let z : _≡_ {A = ℕ} 0 1 = cc in omega arith
-
 passed : (t : Bool) (r : Refusal) (y : Judgement) → cond t (judged.Refused r) y ≡ judged.Accepted → (t ≡ false) × (y ≡ judged.Accepted)
-passed true r y e = let z : _≡_ {A = ℕ} 0 1 = cc in absurd (omega arith)
+passed true r y e = absurd (clash cc)
 passed false r y e = (refl, e)
 
 -- accepted exactly if none of 7 to 12 holds
@@ -159,7 +145,7 @@ boundary-exactly x = (there, back)
 
 -- the numbers from 3 on are the reserved kind, and no others
 pub reserved-exactly : (n : ℕ) → (kindOf n ≡ Reserved) ↔ (3 ≤ n)
-reserved-exactly zero = (λ e. let z : _≡_ {A = ℕ} 0 1 = cc in absurd (omega arith), λ h. absurd (omega arith))
-reserved-exactly (suc zero) = (λ e. let z : _≡_ {A = ℕ} 0 1 = cc in absurd (omega arith), λ h. absurd (omega arith))
-reserved-exactly (suc (suc zero)) = (λ e. let z : _≡_ {A = ℕ} 0 1 = cc in absurd (omega arith), λ h. absurd (omega arith))
+reserved-exactly zero = (λ e. absurd (clash cc), λ h. absurd (omega arith))
+reserved-exactly (suc zero) = (λ e. absurd (clash cc), λ h. absurd (omega arith))
+reserved-exactly (suc (suc zero)) = (λ e. absurd (clash cc), λ h. absurd (omega arith))
 reserved-exactly (suc (suc (suc n))) = (λ e. omega arith, λ h. refl)

@@ -5,7 +5,7 @@ use Prim.Native.Nat.{ℕ, zero, suc, _<_}
 use native.Mathlib.Decide.{decLt}
 use native.Mathlib.Omega.{arith}
 use Rattle.burst_spec.specs.Checks.{someBelow}
-use Rattle.burst_spec.proofs.Known.{or-false}
+use Rattle.burst_spec.proofs.Known.{clash, or-false}
 
 pub none-below : (n : ℕ) (p : ℕ → Bool) → ((k : ℕ) → k < n → p k ≡ false) → someBelow n p ≡ false
 unfolding someBelow
@@ -23,7 +23,7 @@ each-below (suc n) p e k l = go (or-false _ _ e) (each-below n p) (decLt k n)
 
 pub found-below : (n : ℕ) (p : ℕ → Bool) → someBelow n p ≡ true → (k : ℕ) × (k < n) × (p k ≡ true)
 unfolding someBelow
-found-below zero p e = let z : _≡_ {A = ℕ} 0 1 = cc in absurd (omega arith)
+found-below zero p e = absurd (clash cc)
 found-below (suc n) p e = go (p n) refl (found-below n p)
   where
     go : (t : Bool) → p n ≡ t → (someBelow n p ≡ true → (k : ℕ) × (k < n) × (p k ≡ true)) → (k : ℕ) × (k < suc n) × (p k ≡ true)

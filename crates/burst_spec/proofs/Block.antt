@@ -16,7 +16,7 @@ use Rattle.burst_spec.specs.Address.{roundDown, highestByte, incrAddress
 use Rattle.burst_spec.specs.Checks.{Crossing, outside, beatOutside, crosses, crossesBy, countAllowed, misaligned}
 use Rattle.burst_spec.specs.Legal.{Legal, Accepted}
 use Rattle.burst_spec.proofs.Below.{none-below, each-below, found-below}
-use Rattle.burst_spec.proofs.Known.{wrap-power, UpTo, known, size-small}
+use Rattle.burst_spec.proofs.Known.{clash, wrap-power, UpTo, known, size-small}
 use Rattle.burst_spec.proofs.Rounding.{round-le, round-near, round-beats, same-quotient, quotient-of, coarser, same-memory}
 use Rattle.burst_spec.proofs.Wrap.{wrap-aligned, wrap-container}
 
@@ -124,7 +124,7 @@ module _ (s i n : ℕ) (small : i ≤ 7) where
   others-inside Fixed h c e = fixed-inside
   others-inside Incr h c e = absurd (h refl)
   others-inside Wrap h c e = wrap-inside c e
-  others-inside Reserved h c e = let z : _≡_ {A = ℕ} 0 1 = cc in absurd (omega arith)
+  others-inside Reserved h c e = absurd (clash cc)
 
 pub only-incr : (x : Burst) → Legal x → (x .kind ≡ Incr → ⊥) → crosses x ≡ false
 only-incr x l h = others-inside (x .start) (x .size) (beats x) (size-small x l) (x .kind) h (known x l .count) (l .start)

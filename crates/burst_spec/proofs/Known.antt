@@ -15,8 +15,12 @@ use Rattle.burst_spec.specs.Address.{beats, bytes}
 use Rattle.burst_spec.specs.Checks.{among, busAllowed, countAllowed, countRefused, tooWide}
 use Rattle.burst_spec.specs.Legal.{Legal}
 
+-- two constructors are never equal: `cc` finds this path from any two that are said to be
+pub clash : true ≡ false → ⊥
+clash e = let z : _≡_ {A = ℕ} 0 1 = cc in omega arith
+
 pub or-false : (a b : Bool) → (a || b) ≡ false → (a ≡ false) × (b ≡ false)
-or-false true b e = let z : _≡_ {A = ℕ} 0 1 = cc in absurd (omega arith)
+or-false true b e = absurd (clash cc)
 or-false false b e = (refl, e)
 
 -- a property of every number of a list is one of whatever is among them
@@ -25,7 +29,7 @@ Each P [] = Unit
 Each P (y ∷ ys) = P y × Each P ys
 
 pub among-each : (P : ℕ → Type 0) (x : ℕ) (ys : List ℕ) → Each P ys → among x ys ≡ true → P x
-among-each P x [] ps e = let z : _≡_ {A = ℕ} 0 1 = cc in absurd (omega arith)
+among-each P x [] ps e = absurd (clash cc)
 among-each P x (y ∷ ys) ps e = go (eqb x y) refl (among-each P x ys (ps .1))
   where
     go : (t : Bool) → eqb x y ≡ t → (among x ys ≡ true → P x) → P x

@@ -13,7 +13,7 @@ use Rattle.burst_spec.specs.Address.{roundDown, incrAddress, wrapAddress
 use Rattle.burst_spec.specs.Checks.{countAllowed, misaligned}
 use Rattle.burst_spec.specs.Legal.{Legal}
 use Rattle.burst_spec.specs.Transfer.{Loop, enter, advance, loopAt, low-byte, high-byte, transferAt, transfer}
-use Rattle.burst_spec.proofs.Known.{known, wrap-power}
+use Rattle.burst_spec.proofs.Known.{clash, known, wrap-power}
 use Rattle.burst_spec.proofs.Lanes.{InRow, in-row}
 use Rattle.burst_spec.proofs.Rounding.{round-multiple, round-beats}
 use Rattle.burst_spec.proofs.Wrap.{wrap-aligned, wrap-room, wrap-multiple}
@@ -84,7 +84,7 @@ module _ (s i n : ℕ) where
       rw (incr-loop s (2 ^ i) n k) (running s (2 ^ i) (roundDown s (2 ^ i) + suc k * 2 ^ i) (round-beats s (2 ^ i) (suc k) (pow-pos i)))
   runs Wrap c e k =
       wrap-runs (rw (wrap-power n c .is) (pow-pos (wrap-power n c .log))) (wrap-aligned s (2 ^ i) e) k
-  runs Reserved c e k = let z : _≡_ {A = ℕ} 0 1 = cc in absurd (omega arith)
+  runs Reserved c e k = absurd (clash cc)
 
 -- the lanes that the pseudo code works out are ours
 module _ (s b bus a : ℕ) (l : Loop) (pos : 0 < b) (r : Runs s b a l) (y : InRow a b bus) where

@@ -5,7 +5,7 @@ use mathlib.Core.Path.{_≡_}
 use Prim.Native.Nat.{ℕ, _+_}
 use native.Mathlib.Omega.{arith}
 use Rattle.burst_spec.specs.declared.Kind.the-variants.{Fixed, Wrap}
-use Rattle.burst_spec.proofs.Known.{known, size-small, span-small}
+use Rattle.burst_spec.proofs.Known.{clash, known, size-small, span-small}
 use Rattle.burst.proofs.Formulas.{power, other-kind-inside, incr-test}
 use Rattle.burst.proofs.leaves_block.Statement.{statement}
 use Rattle.burst.proofs.leaves_block.Tie as tie
@@ -54,7 +54,7 @@ enum-told-4 c = search needs
 returns : tie.Need-returns
 returns c =
     let s = c .before .before in
-    other-kind-inside (s .args .b) (s .pre) Fixed (c .enum-told .given .1) (λ e. let z : _≡_ {A = ℕ} 0 1 = cc in omega arith)
+    other-kind-inside (s .args .b) (s .pre) Fixed (c .enum-told .given .1) (λ e. clash cc)
 
 returns-2 : tie.Need-returns-2
 returns-2 c =
@@ -67,7 +67,7 @@ returns-2 c =
 returns-3 : tie.Need-returns-3
 returns-3 c =
     let s = c .before .before in
-    other-kind-inside (s .args .b) (s .pre) Wrap (c .enum-told3 .given .1) (λ e. let z : _≡_ {A = ℕ} 0 1 = cc in omega arith)
+    other-kind-inside (s .args .b) (s .pre) Wrap (c .enum-told3 .given .1) (λ e. clash cc)
 
 returns-4 : tie.Need-returns-4
 returns-4 c = search needs
