@@ -1,0 +1,327 @@
+// Judging AXI4 bursts, and the address, byte lanes and step of each beat (paper 01, 'Bursts'). Every call takes any numbers
+// and refuses what is not allowed. What the answers mean is in the crate burst_spec. The calls come first; then, private to
+// this file, the tests of the refusals, the beats of an accepted burst, and the arithmetic on addresses.
+use burst_spec::Address;
+use burst_spec::Beat;
+use burst_spec::BeatAnswer;
+use burst_spec::Burst;
+use burst_spec::Judgement;
+use burst_spec::Kind;
+use burst_spec::StepAnswer;
+use refusal::Refusal;
+ghost use mathlib.Core.Bool.{not};
+ghost use mathlib.Core.Path.{_≡_};
+ghost use Prim.Native.Nat.{_/_, _%_, _^_, _≤_, _<_};
+ghost use lib.IntN.{subℕ};
+ghost use Rattle.burst_spec.specs.Address.{bytes, beats, roundDown, beatAddress, beatAt};
+ghost use Rattle.burst_spec.specs.Answers.{kindOf, burstOf, Judges, GivesBeat, GivesStep};
+ghost use Rattle.burst_spec.specs.Checks.{busAllowed, tooWide, isReserved, countAllowed, countRefused, misaligned, crosses};
+ghost use Rattle.burst_spec.specs.Legal.{Power, Legal, Accepted};
+ghost use Rattle.burst_spec.specs.declared.Kind.the-variants.{Incr, Wrap};
+
+// The kind with this AxBURST number. Every number from 3 on is the reserved kind, which is refused after BUS and SIZE.
+pub fn kind_of(number: u32) -> Kind
+    ensures { λ r. ⌜ r ≡ kindOf number ⌝ }
+{
+    match number {
+        0 => Kind::Fixed,
+        1 => Kind::Incr,
+        2 => Kind::Wrap,
+        _ => Kind::Reserved,
+    }
+}
+
+// The burst of five plain numbers: start address, AxLEN, AxSIZE, AxBURST, bus.
+pub fn burst_of(start: Address, len: u32, size: u32, kind: u32, bus: u32) -> Burst
+    ensures { λ r. ⌜ r ≡ burstOf start len size kind bus ⌝ }
+{
+    Burst {
+        start,
+        len,
+        size,
+        kind: kind_of(kind),
+        bus,
+    }
+}
+
+// Whether a burst is allowed, and if not, the first of refusals 7 to 12 that holds.
+pub fn judge(b: Burst) -> Judgement
+    ensures { λ r. ⌜ Judges b r ⌝ }
+{
+    if bus_refused(b.bus) {
+        return Judgement::Refused(Refusal::Bus);
+    }
+    if too_wide(b) {
+        return Judgement::Refused(Refusal::Size);
+    }
+    let kind = b.kind;
+    if is_reserved(kind) {
+        return Judgement::Refused(Refusal::Kind);
+    }
+    if count_refused(b) {
+        return Judgement::Refused(Refusal::Count);
+    }
+    if start_refused(b) {
+        return Judgement::Refused(Refusal::Align);
+    }
+    if leaves_block(b) {
+        return Judgement::Refused(Refusal::Boundary);
+    }
+    Judgement::Accepted
+}
+
+// The same of five plain numbers.
+pub fn judge_numbers(start: Address, len: u32, size: u32, kind: u32, bus: u32) -> Judgement
+    ensures { λ r. ⌜ Judges (burstOf start len size kind bus) r ⌝ }
+{
+    judge(burst_of(start, len, size, kind, bus))
+}
+
+// Beat k of a burst, counted from 0: its address and byte lanes; or a refusal, 7 to 12 in order, then 13.
+pub fn beat(b: Burst, k: u32) -> BeatAnswer
+    ensures { λ r. ⌜ GivesBeat b k r ⌝ }
+{
+    let judgement = judge(b);
+    if let Judgement::Refused(r) = judgement {
+        return BeatAnswer::Refused(r);
+    }
+    if b.len < k {
+        return BeatAnswer::Refused(Refusal::Index);
+    }
+    BeatAnswer::At(beat_at(b, address_of(b, k)))
+}
+
+// The step from beat k to beat k + 1; or a refusal, 7 to 12 in order, then 13 where there is no next beat.
+pub fn step(b: Burst, k: u32) -> StepAnswer
+    ensures { λ r. ⌜ GivesStep b k r ⌝ }
+{
+    let judgement = judge(b);
+    if let Judgement::Refused(r) = judgement {
+        return StepAnswer::Refused(r);
+    }
+    if b.len <= k {
+        return StepAnswer::Refused(Refusal::Index);
+    }
+    let from = address_of(b, k);
+    let to = address_of(b, k + 1);
+    StepAnswer::By(distance(from, to))
+}
+
+// The tests of refusals 7 to 12: true where the burst is refused for it. A test counts only on those before it.
+
+// 7 BUS: the bus is none of these.
+fn bus_refused(bus: u32) -> bool
+    ensures { λ r. ⌜ r ≡ not (busAllowed bus) ⌝ }
+{
+    match bus {
+        1 | 2 | 4 | 8 | 16 | 32 | 64 | 128 => false,
+        _ => true,
+    }
+}
+
+// 8 SIZE: AxSIZE is above 7, which is tested before any shift by it, or a beat is wider than the bus.
+fn too_wide(b: Burst) -> bool
+    ensures { λ r. ⌜ r ≡ tooWide b ⌝ }
+{
+    let size = b.size;
+    if 7 < size {
+        return true;
+    }
+    let bus = b.bus;
+    wide(bus) < bytes_of(size)
+}
+
+// 9 TYPE: the kind is reserved.
+fn is_reserved(kind: Kind) -> bool
+    ensures { λ r. ⌜ r ≡ isReserved kind ⌝ }
+{
+    match kind {
+        Kind::Fixed => false,
+        Kind::Incr => false,
+        Kind::Wrap => false,
+        Kind::Reserved => true,
+    }
+}
+
+// How many beats each kind allows.
+fn count_allowed(kind: Kind, beats: u32) -> bool
+    ensures { λ r. ⌜ r ≡ countAllowed kind beats ⌝ }
+{
+    match kind {
+        Kind::Fixed => match beats {
+            1..=16 => true,
+            _ => false,
+        },
+        Kind::Incr => match beats {
+            1..=256 => true,
+            _ => false,
+        },
+        Kind::Wrap => match beats {
+            2 | 4 | 8 | 16 => true,
+            _ => false,
+        },
+        Kind::Reserved => false,
+    }
+}
+
+// 10 COUNT: AxLEN is above 255, which is tested before one is added to it, or so many beats are not allowed.
+fn count_refused(b: Burst) -> bool
+    ensures { λ r. ⌜ r ≡ countRefused b ⌝ }
+{
+    let len = b.len;
+    if 255 < len {
+        return true;
+    }
+    let kind = b.kind;
+    !count_allowed(kind, len + 1)
+}
+
+// 11 ALIGN: a WRAP start that is no multiple of the beat's bytes.
+fn start_refused(b: Burst) -> bool
+    requires { ⌜ b .size ≤ 7 ⌝ }
+    ensures { λ r. ⌜ r ≡ misaligned (b .kind) (b .start) (bytes b) ⌝ }
+{
+    let kind = b.kind;
+    match kind {
+        Kind::Fixed => false,
+        Kind::Incr => false,
+        Kind::Wrap => low_part(b.start, bytes_of(b.size)) != 0,
+        Kind::Reserved => false,
+    }
+}
+
+// 12 FENCE, the 4KB rule: only INCR can run out of the start's block, and does if the beats from the aligned address on do
+// not fit into what the block has left. Worked out by offsets in the block, so nothing overflows at the top of memory.
+fn leaves_block(b: Burst) -> bool
+    requires { ⌜ Legal b ⌝ }
+    ensures { λ r. ⌜ r ≡ crosses b ⌝ }
+{
+    let kind = b.kind;
+    match kind {
+        Kind::Fixed => false,
+        Kind::Incr => {
+            let bytes = bytes_of(b.size);
+            let first = round_down(b.start, bytes);
+            let offset = low_part(first, 4096);
+            let beats = wide(b.len + 1);
+            4096 < offset + beats * bytes
+        }
+        Kind::Wrap => false,
+        Kind::Reserved => false,
+    }
+}
+
+// The beats of an accepted burst.
+
+// INCR: beat 0 is at the start, beat k at the aligned address and k beats further.
+fn incr_address(b: Burst, k: u32) -> Address
+    requires { ⌜ Accepted b × (b .kind ≡ Incr) × (k < beats b) ⌝ }
+    ensures { λ r. ⌜ r ≡ beatAddress b k ⌝ }
+{
+    let start = b.start;
+    if k == 0 {
+        return start;
+    }
+    let bytes = bytes_of(b.size);
+    let first = round_down(start, bytes);
+    first + wide(k) * bytes
+}
+
+// WRAP: the offset from the wrap boundary goes round in the burst's container. The container's end is never worked out: at
+// the top of memory it is no address.
+fn wrap_address(b: Burst, k: u32) -> Address
+    requires { ⌜ Accepted b × (b .kind ≡ Wrap) × (k < beats b) ⌝ }
+    ensures { λ r. ⌜ r ≡ beatAddress b k ⌝ }
+{
+    let start = b.start;
+    let bytes = bytes_of(b.size);
+    let container = bytes * wide(b.len + 1);
+    let offset = low_part(start, container) + wide(k) * bytes;
+    let boundary = round_down(start, container);
+    let turned = low_part(offset, container);
+    boundary + turned
+}
+
+// The address of beat k.
+fn address_of(b: Burst, k: u32) -> Address
+    requires { ⌜ Accepted b × (k < beats b) ⌝ }
+    ensures { λ r. ⌜ r ≡ beatAddress b k ⌝ }
+{
+    let kind = b.kind;
+    match kind {
+        Kind::Fixed => b.start,
+        Kind::Incr => incr_address(b, k),
+        Kind::Wrap => wrap_address(b, k),
+        Kind::Reserved => b.start,
+    }
+}
+
+// The beat at an address: every number that a beat's answer has is made here.
+fn beat_at(b: Burst, address: Address) -> Beat
+    requires { ⌜ Legal b ⌝ }
+    ensures { λ r. ⌜ r ≡ beatAt b address ⌝ }
+{
+    let bytes = bytes_of(b.size);
+    let bus = wide(b.bus);
+    let first = round_down(address, bytes);
+    let highest = first + (bytes - 1);
+    Beat {
+        address,
+        lower: lane(low_part(address, bus)),
+        upper: lane(low_part(highest, bus)),
+    }
+}
+
+// The signed distance between two addresses of one 4KB block.
+fn distance(from: Address, to: Address) -> i32
+    requires { ⌜ from / 4096 ≡ to / 4096 ⌝ }
+    ensures { λ r. ⌜ r ≡ subℕ to from ⌝ }
+{
+    if from <= to {
+        return (to - from) as i32;
+    }
+    0 - ((from - to) as i32)
+}
+
+// Powers of two, and rounding to them: the one place that divides.
+
+// The bytes in a beat.
+fn bytes_of(size: u32) -> Address
+    requires { ⌜ size ≤ 7 ⌝ }
+    ensures { λ r. ⌜ r ≡ 2 ^ size ⌝ }
+{
+    1 << size
+}
+
+// How far an address lies above a multiple of `bytes`.
+fn low_part(address: Address, bytes: Address) -> Address
+    requires { ⌜ Power bytes ⌝ }
+    ensures { λ r. ⌜ r ≡ address % bytes ⌝ }
+{
+    address % bytes
+}
+
+// The address rounded down to a multiple of `bytes`.
+fn round_down(address: Address, bytes: Address) -> Address
+    requires { ⌜ Power bytes ⌝ }
+    ensures { λ r. ⌜ r ≡ roundDown address bytes ⌝ }
+{
+    address - low_part(address, bytes)
+}
+
+// Numbers to and from the width of an address: the only casts between the two.
+
+// A bus, a number of beats or a beat's index as an address's number.
+fn wide(x: u32) -> Address
+    ensures { λ r. ⌜ r ≡ x ⌝ }
+{
+    x as Address
+}
+
+// A byte lane out of an address's number.
+fn lane(x: Address) -> u32
+    requires { ⌜ x < 128 ⌝ }
+    ensures { λ r. ⌜ r ≡ x ⌝ }
+{
+    x as u32
+}

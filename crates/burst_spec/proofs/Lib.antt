@@ -1,0 +1,11 @@
+-- The laws of the burst definitions. Read in this order.
+pub mod Rounding
+pub mod Known
+pub mod Below
+pub mod Wrap
+pub mod Block
+pub mod Lanes
+pub mod Transfer
+pub mod Step
+pub mod Answers
+pub mod Cases

@@ -1,0 +1,104 @@
+-- Paper 01's cases B1 to B4 and worked entries for each refusal, each bound and the top of memory: what is asked of which
+-- burst, and the row that must be answered. One statement covers the whole list (proofs/Cases). Numbers are typed from the
+-- paper; nothing here is computed by the definitions, but for the kind of a kind's number.
+use mathlib.Core.List.{List, [], _∷_, _++_, map}
+use Prim.Native.Nat.{ℕ}
+use lib.IntN.{ℤ, pos, negsuc}
+use Rattle.burst_spec.specs.declared.Burst.{Burst}
+use Rattle.burst_spec.specs.Answers.{burstOf, judgement, beatAnswer, stepAnswer, Row, acceptedRow, beatRow, stepRow, judgementShows, beatShows, stepShows}
+
+-- a question about a burst
+pub data Question : Type 0 where
+  judge : Question
+  beat : ℕ → Question
+  step : ℕ → Question
+
+pub record Case : Type 0 where
+  pub burst : Burst
+  pub question : Question
+  pub row : Row
+
+-- the row that the definitions give
+abbrev pub answerTo : Question → Burst → Row
+answerTo judge x = judgementShows (judgement x)
+answerTo (beat k) x = beatShows (beatAnswer x k)
+answerTo (step k) x = stepShows (stepAnswer x k)
+
+abbrev pub computed : Case → Case
+computed c = record { burst = c .burst; question = c .question; row = answerTo (c .question) (c .burst) }
+
+abbrev pub refusedRow : ℕ → Row
+refusedRow number = record { number = number; place = 0; rule = 0; address = 0; lower = 0; upper = 0; step = pos 0 }
+
+module _ (x : Burst) where
+  abbrev accepts : Case
+  accepts = record { burst = x; question = judge; row = acceptedRow }
+
+  abbrev refuses : ℕ → Case
+  refuses number = record { burst = x; question = judge; row = refusedRow number }
+
+  abbrev hasBeat : ℕ → ℕ → ℕ → ℕ → Case
+  hasBeat k address lower upper = record { burst = x; question = beat k; row = beatRow address lower upper }
+
+  abbrev hasStep : ℕ → ℤ → Case
+  hasStep k by = record { burst = x; question = step k; row = stepRow by }
+
+  abbrev noBeat : ℕ → ℕ → Case
+  noBeat k number = record { burst = x; question = beat k; row = refusedRow number }
+
+  abbrev noStep : ℕ → ℕ → Case
+  noStep k number = record { burst = x; question = step k; row = refusedRow number }
+
+-- a burst is typed as start address, AxLEN, AxSIZE, kind number, bus
+
+-- "B1 INCR 0x1002, 4 bytes, 3 beats, bus 4: 0x1002 lanes 2-3, 0x1004 0-3, 0x1008 0-3."
+abbrev pub b1 : List Case
+b1 =
+    let x : Burst = burstOf 0x1002 2 2 1 4 in
+    accepts x ∷ hasBeat x 0 0x1002 2 3 ∷ hasBeat x 1 0x1004 0 3 ∷ hasBeat x 2 0x1008 0 3 ∷ []
+
+-- "B2 FIXED 0x1002, 4 bytes, bus 4: lanes 2-3 each beat." The paper gives no number of beats; here all of 16.
+abbrev pub b2 : List Case
+b2 =
+    let x : Burst = burstOf 0x1002 15 2 0 4 in
+    accepts x
+    ∷ map (λ k. hasBeat x k 0x1002 2 3) (0 ∷ 1 ∷ 2 ∷ 3 ∷ 4 ∷ 5 ∷ 6 ∷ 7 ∷ 8 ∷ 9 ∷ 10 ∷ 11 ∷ 12 ∷ 13 ∷ 14 ∷ 15 ∷ [])
+
+-- "B3 WRAP 0x34, 4 bytes, 4 beats, bus 8: 0x34 lanes 4-7, 0x38 0-3, 0x3C 4-7, 0x30 0-3; steps 4, 4, -12."
+abbrev pub b3 : List Case
+b3 =
+    let x : Burst = burstOf 0x34 3 2 2 8 in
+    accepts x
+    ∷ hasBeat x 0 0x34 4 7 ∷ hasBeat x 1 0x38 0 3 ∷ hasBeat x 2 0x3C 4 7 ∷ hasBeat x 3 0x30 0 3
+    ∷ hasStep x 0 (pos 4) ∷ hasStep x 1 (pos 4) ∷ hasStep x 2 (negsuc 11) ∷ []
+
+-- "B4 INCR 0xFF2, 4 bytes, 4 beats: accepted; 5 beats: FENCE." The paper gives no bus; here 4.
+abbrev pub b4 : List Case
+b4 = accepts (burstOf 0xFF2 3 2 1 4) ∷ refuses (burstOf 0xFF2 4 2 1 4) 12 ∷ []
+
+-- Each refusal where those after it would be given too, and where it alone is.
+abbrev pub refusals : List Case
+refusals =
+    refuses (burstOf 0xFF1 256 8 3 3) 7 ∷ refuses (burstOf 0 0 0 1 0) 7 ∷ refuses (burstOf 0 0 0 1 256) 7
+    ∷ refuses (burstOf 0xFF1 256 8 3 4) 8 ∷ refuses (burstOf 0xFF1 256 3 3 4) 8 ∷ refuses (burstOf 0 0 8 1 128) 8
+    ∷ refuses (burstOf 0xFF1 256 2 3 4) 9 ∷ refuses (burstOf 0 0 0 3 1) 9 ∷ refuses (burstOf 0 0 0 7 1) 9
+    ∷ refuses (burstOf 0xFF1 2 2 2 4) 10 ∷ refuses (burstOf 0 16 0 0 1) 10 ∷ refuses (burstOf 0xFF1 256 0 1 1) 10
+    ∷ refuses (burstOf 0xFF6 3 2 2 4) 11 ∷ refuses (burstOf 0x32 3 2 2 4) 11
+    ∷ noBeat (burstOf 0xFF2 4 2 1 4) 5 12 ∷ noStep (burstOf 0xFF2 4 2 1 4) 4 12
+    ∷ noBeat (burstOf 0x1002 2 2 1 4) 3 13 ∷ noStep (burstOf 0x1002 2 2 1 4) 2 13 ∷ noStep (burstOf 0 0 0 1 1) 0 13
+    ∷ []
+
+-- The ends of what is allowed: beats by kind, the step's -1,920 and 128, a burst that fills a block, and bursts that end at
+-- the very last address of 32-bit memory.
+abbrev pub ends : List Case
+ends =
+    accepts (burstOf 5 0 0 0 1) ∷ accepts (burstOf 0 255 0 1 128) ∷ accepts (burstOf 4 1 1 2 2)
+    ∷ accepts (burstOf 64 7 3 2 8) ∷ hasStep (burstOf 1920 15 7 2 128) 0 (negsuc 1919)
+    ∷ hasStep (burstOf 0 1 7 1 128) 0 (pos 128) ∷ hasStep (burstOf 3 1 2 1 4) 0 (pos 1) ∷ hasStep (burstOf 3 1 2 0 4) 0 (pos 0)
+    ∷ accepts (burstOf 0xFFE 15 2 0 4) ∷ accepts (burstOf 0 31 7 1 128) ∷ refuses (burstOf 128 31 7 1 128) 12
+    ∷ hasBeat (burstOf 0xFFFF_FFF1 3 2 1 4) 3 0xFFFF_FFFC 0 3 ∷ refuses (burstOf 0xFFFF_FFF1 4 2 1 4) 12
+    ∷ hasBeat (burstOf 0xFFFF_FFFC 3 2 2 8) 1 0xFFFF_FFF0 0 3 ∷ hasStep (burstOf 0xFFFF_FFFC 3 2 2 8) 0 (negsuc 11)
+    ∷ []
+
+abbrev pub burstCases : List Case
+burstCases = b1 ++ (b2 ++ (b3 ++ (b4 ++ (refusals ++ ends))))
