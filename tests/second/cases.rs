@@ -1,0 +1,163 @@
+//! Paper 01's bench cases, typed literally. They run against any set of calls:
+//! the model in the self test, and the library in the compare programs.
+use crate::model::{Burst, BurstAnswer, StreamAnswer};
+use crate::tally::Tally;
+
+pub struct BurstCalls {
+    pub judge: fn(Burst) -> BurstAnswer,
+    pub beat: fn(Burst, u32) -> BurstAnswer,
+    pub step: fn(Burst, u32) -> BurstAnswer,
+}
+
+pub struct StreamCalls {
+    pub judge: fn(usize, &[u8]) -> StreamAnswer,
+    pub harvest: fn(usize, &[u8], &mut [u8]) -> StreamAnswer,
+    pub fill_in: fn(usize, &mut [u8]) -> StreamAnswer,
+    pub data_octets: fn(usize, &[u8], usize) -> (StreamAnswer, [u64; 2]),
+    pub repack: fn(usize, usize, &[u8], &mut [u8]) -> StreamAnswer,
+    pub downsize: fn(usize, usize, &[u8], &mut [u8]) -> StreamAnswer,
+}
+
+fn burst(start: u32, beats: u32, size: u32, kind: u32, bus: u32) -> Burst {
+    Burst { start, len: beats - 1, size, kind, bus }
+}
+
+/// Every beat as (address, lower, upper), every step, then 13 after the last.
+fn beats_are(t: &mut Tally, c: &BurstCalls, b: Burst, beats: &[(u64, u32, u32)], steps: &[i32]) {
+    refusal_is(t, c, b, 0);
+    for (k, &(address, lower, upper)) in beats.iter().enumerate() {
+        t.same((c.beat)(b, k as u32), BurstAnswer { address, lower, upper, ..Default::default() }, || format!("{b:?} beat {k}"));
+    }
+    for (k, &step) in steps.iter().enumerate() {
+        t.same((c.step)(b, k as u32), BurstAnswer { step, ..Default::default() }, || format!("{b:?} step {k}"));
+    }
+    let none = BurstAnswer { refusal: 13, ..Default::default() };
+    t.same((c.beat)(b, beats.len() as u32), none, || format!("{b:?} beat after the last"));
+    t.same((c.step)(b, steps.len() as u32), none, || format!("{b:?} step after the last"));
+}
+
+fn refusal_is(t: &mut Tally, c: &BurstCalls, b: Burst, refusal: u32) {
+    t.same((c.judge)(b), BurstAnswer { refusal, ..Default::default() }, || format!("{b:?}"));
+}
+
+pub fn bursts(t: &mut Tally, c: &BurstCalls) {
+    t.group("case B1", |t| beats_are(t, c, burst(0x1002, 3, 2, 1, 4), &[(0x1002, 2, 3), (0x1004, 0, 3), (0x1008, 0, 3)], &[2, 4]));
+    t.group("case B2", |t| beats_are(t, c, burst(0x1002, 3, 2, 0, 4), &[(0x1002, 2, 3); 3], &[0, 0]));
+    t.group("case B3", |t| beats_are(t, c, burst(0x34, 4, 2, 2, 8), &[(0x34, 4, 7), (0x38, 0, 3), (0x3C, 4, 7), (0x30, 0, 3)], &[4, 4, -12]));
+    t.group("case B4", |t| for bus in [4, 8, 16, 32, 64, 128] {
+        refusal_is(t, c, burst(0xFF2, 4, 2, 1, bus), 0);
+        refusal_is(t, c, burst(0xFF2, 5, 2, 1, bus), 12);
+    });
+    t.group("case B5", |t| {
+        refusal_is(t, c, burst(0x1001, 256, 4, 1, 16), 0);
+        refusal_is(t, c, burst(0x1010, 256, 4, 1, 16), 12);
+    });
+    t.group("case B6", |t| {
+        refusal_is(t, c, burst(0x1000, 16, 2, 0, 4), 0);
+        refusal_is(t, c, burst(0x1000, 17, 2, 0, 4), 10);
+        refusal_is(t, c, burst(0x1000, 3, 2, 2, 4), 10);
+        refusal_is(t, c, burst(0x32, 4, 2, 2, 4), 11);
+    });
+    // Each one also breaks as many later rules as can be broken with it.
+    t.group("burst refusals in order", |t| {
+        let mut b = Burst { start: 0x1FFF, len: 256, size: 8, kind: 3, bus: 3 };
+        refusal_is(t, c, b, 7);
+        b.bus = 2;
+        refusal_is(t, c, b, 8);
+        b.size = 2;
+        refusal_is(t, c, b, 8);
+        b.bus = 4;
+        refusal_is(t, c, b, 9);
+        b.kind = 2;
+        refusal_is(t, c, b, 10);
+        b.len = 15;
+        refusal_is(t, c, b, 11);
+        b.kind = 1;
+        refusal_is(t, c, b, 12);
+        let fence = BurstAnswer { refusal: 12, ..Default::default() };
+        t.same(((c.beat)(b, 16), (c.step)(b, 15)), (fence, fence), || format!("{b:?}: 12 before 13"));
+    });
+    // A burst may end exactly at 2^32.
+    t.group("burst up to 2^32", |t| beats_are(t, c, burst(0xFFFF_FFFB, 2, 2, 1, 8), &[(0xFFFF_FFFB, 3, 3), (0xFFFF_FFFC, 4, 7)], &[1]));
+}
+
+const TAIL: u8 = 0xC3;
+
+fn hex(text: &str) -> Vec<u8> { text.split_whitespace().map(|h| u8::from_str_radix(h, 16).expect("a typed octet")).collect() }
+
+/// An accepted writing call: the octets, the count, and an unchanged tail.
+fn writes(t: &mut Tally, call: impl Fn(&mut [u8]) -> StreamAnswer, count: u64, octets: &str) {
+    let mut room = vec![TAIL; hex(octets).len() + 9];
+    let mut expected = hex(octets);
+    expected.extend([TAIL; 9]);
+    let answer = call(&mut room);
+    t.same((answer, room), (StreamAnswer { count, ..Default::default() }, expected), || "writing call".to_string());
+}
+
+const P1_TAKE: &str = "0F 01 02 0D 00 09 00 11 22 33 44";
+const P1_TRANSFER: &str = "01 01 02 0D 00 09 00 11 22 33 44";
+const END_ONLY: &str = "01 00 00 00 00 00 00 00"; // the second record of S3
+
+pub fn streams(t: &mut Tally, c: &StreamCalls) {
+    let p1 = hex(P1_TRANSFER);
+    let pack = |t: &mut Tally, w: usize, v: usize, input: &str, count: u64, octets: &str| {
+        writes(t, |out| (c.repack)(w, v, &hex(input), out), count, octets)
+    };
+    t.group("case P1", |t| {
+        let take = hex(P1_TAKE);
+        t.same((c.judge)(4, &take), StreamAnswer { count: 1, ..Default::default() }, || "P1 judged".to_string());
+        writes(t, |out| (c.harvest)(4, &take, out), 1, P1_TRANSFER);
+        pack(t, 4, 2, P1_TRANSFER, 2, "00 01 02 03 00 01 00 11 00 01 01 02 01 00 01 00 44 00");
+        let part = (StreamAnswer::default(), [7, 4]);
+        t.same((c.data_octets)(4, &take, 0), part, || "P1's data octets".to_string());
+        let mut filled = take.clone();
+        let answer = (c.fill_in)(4, &mut filled);
+        let expected = hex("0E 01 02 0D 00 09 00 11 22 33 44");
+        t.same((answer, filled), (StreamAnswer { count: 1, ..Default::default() }, expected), || "P1 filled in".to_string());
+    });
+    t.group("case S1", |t| pack(t, 4, 4, P1_TRANSFER, 1, "01 01 02 07 00 05 00 11 00 44 00"));
+    t.group("case S2", |t| writes(t, |out| (c.downsize)(4, 2, &p1, out), 2, "00 01 02 01 00 01 00 11 00 01 01 02 03 00 02 00 00 44"));
+    t.group("case S3", |t| pack(t, 1, 1, &format!("00 00 00 01 00 01 00 AA {END_ONLY}"), 1, "01 00 00 01 00 01 00 AA"));
+    t.group("case S4", |t| pack(t, 1, 1, &format!("{END_ONLY} {END_ONLY}"), 2, &format!("{END_ONLY} {END_ONLY}")));
+    t.group("case S5", |t| pack(t, 1, 1, "00 00 00 00 00 00 00 00", 0, ""));
+    t.group("case S6", |t| for w in 1..=16 { pack(t, w, 17 - w, "", 0, "") });
+    t.group("case S7", |t| for v in 1..=16 {
+        let nulls = "00 ".repeat(v - 1);
+        let out: Vec<String> = ["01", "02", "01"].iter().map(|id| format!("00 {id} 00 01 00 01 00 5A {nulls}")).collect();
+        pack(t, 1, v, "00 01 00 01 00 01 00 5A 00 02 00 01 00 01 00 5A 00 01 00 01 00 01 00 5A", 3, &out.join(" "));
+    });
+    // "Errors that look right": a wait is not carried across reset; R1 to R4.
+    t.group("handshake findings", |t| {
+        let idle = "01 00 01 00 55"; // octets 3 on of a one-lane cycle
+        for (flags, place, rule) in [(["0A", "00", "08"], 0, 0), (["0A", "08", "08"], 1, 2), (["0A", "0B", "08"], 1, 3), (["08", "02", "08"], 1, 1)] {
+            let take: Vec<String> = flags.iter().map(|f| format!("{f} 00 00 {idle}")).collect();
+            t.same((c.judge)(1, &hex(&take.join(" "))), StreamAnswer { rule, place, ..Default::default() }, || format!("{flags:?}"));
+        }
+        t.same((c.judge)(1, &hex("0E 00 00 00 00 01 00 55")), StreamAnswer { rule: 4, ..Default::default() }, || "R4".to_string());
+    });
+    // Each refusal stands before all later ones: the input breaks those too.
+    t.group("stream refusals in order", |t| {
+        let refused = |refusal, place, rule| StreamAnswer { refusal, rule, place, count: 0 };
+        let good = "00 00 00 03 00 03 00 11 22";
+        let field = "02 00 00 00 00 03 00 11 22"; // octet 0 wrong, both lanes reserved
+        let reserved = "00 00 00 01 00 03 00 11 22";
+        let calls: [(&str, fn(&StreamCalls, &[u8]) -> StreamAnswer, String, StreamAnswer); 11] = [
+            ("downsize 2 to 0", |c, i| (c.downsize)(2, 0, i, &mut []), format!("{field} 00"), refused(1, 0, 0)),
+            ("downsize 2 to 3", |c, i| (c.downsize)(2, 3, i, &mut []), format!("{field} 00"), refused(6, 0, 0)),
+            ("downsize 2 to 1", |c, i| (c.downsize)(2, 1, i, &mut []), format!("{field} 00"), refused(2, 0, 0)),
+            ("repack 2 to 17", |c, i| (c.repack)(2, 17, i, &mut []), format!("{field} 00"), refused(1, 0, 0)),
+            ("3 before 4 in a record", |c, i| (c.repack)(2, 1, i, &mut []), format!("{good} {field}"), refused(3, 1, 0)),
+            ("4 of an earlier record", |c, i| (c.repack)(2, 1, i, &mut []), format!("{good} {reserved} {field}"), refused(4, 1, 0)),
+            ("repack without room", |c, i| (c.repack)(2, 1, i, &mut []), good.to_string(), refused(5, 0, 0)),
+            ("judge 3 before a finding", |c, i| (c.judge)(2, i), format!("{field} 10{}", &good[2..]), refused(3, 1, 0)),
+            ("harvest 3 before 14", |c, i| (c.harvest)(2, i, &mut []), format!("{field} 10{}", &good[2..]), refused(3, 1, 0)),
+            ("harvest 14 before 5", |c, i| (c.harvest)(2, i, &mut []), format!("0E{} {field}", &good[2..]), refused(14, 1, 1)),
+            ("harvest without room", |c, i| (c.harvest)(2, i, &mut []), format!("0E{}", &good[2..]), refused(5, 0, 0)),
+        ];
+        for (name, call, input, expected) in calls {
+            t.same(call(c, &hex(&input)), expected, || format!("{name}: {input}"));
+        }
+        let none = refused(13, 0, 0);
+        t.same((c.data_octets)(2, &hex(field), 1), (none, [0, 0]), || "data octets 13".to_string());
+    });
+}

@@ -1,0 +1,321 @@
+//! The library's stream calls against the model, on many takes.
+#![allow(dead_code)]
+mod cases;
+mod library_stream;
+mod model;
+mod tally;
+use library_stream as library;
+use model::StreamAnswer;
+use tally::{Random, Tally};
+
+const GUARD: usize = 24; // octets before and after each lent room
+
+/// A call that writes into a lent room; `plan` is the model's whole answer.
+struct Writer {
+    name: &'static str,
+    library: fn(usize, usize, &[u8], &mut [u8]) -> StreamAnswer,
+    model: fn(usize, usize, &[u8], &mut [u8]) -> StreamAnswer,
+    plan: fn(usize, usize, &[u8]) -> Result<Vec<u8>, StreamAnswer>,
+}
+
+const HARVEST: Writer = Writer {
+    name: "harvest",
+    library: |w, _, take, out| library::harvest(w, take, out),
+    model: |w, _, take, out| model::harvest(w, take, out),
+    plan: |w, _, take| model::harvest_plan(w, take),
+};
+const REPACK: Writer = Writer { name: "repack", library: library::repack, model: model::repack, plan: model::repack_plan };
+const DOWNSIZE: Writer = Writer { name: "downsize", library: library::downsize, model: model::downsize, plan: model::downsize_plan };
+
+/// Long inputs are shown by their beginning only.
+fn show(octets: &[u8]) -> String {
+    format!("{} octets {:02x?}", octets.len(), &octets[..octets.len().min(200)])
+}
+
+fn note(t: &mut Tally, call: &str, a: StreamAnswer) {
+    t.verdict(match (a.refusal, a.rule) {
+        (0, 0) => format!("{call} accepted"),
+        (0, rule) => format!("{call} broken rule {rule}"),
+        (n, _) => format!("{call} refusal {n}"),
+    });
+}
+
+/// A writing call into one room: the answer, every octet of the room and of
+/// the guards around it, and the input afterwards. Answers what was written,
+/// where accepted (and as expected; a difference has been counted by then).
+fn write_into(t: &mut Tally, c: &Writer, w: usize, v: usize, input: &[u8], room: usize) -> Option<Vec<u8>> {
+    let mut lent: Vec<u8> = (0..room + 2 * GUARD).map(|i| (i * 37 + 11) as u8).collect();
+    let mut modelled = lent.clone();
+    let kept = input.to_vec();
+    let answer = (c.library)(w, v, input, &mut lent[GUARD..GUARD + room]);
+    let expected = (c.model)(w, v, &kept, &mut modelled[GUARD..GUARD + room]);
+    note(t, c.name, expected);
+    let inputs = || format!("{} {w} to {v}, room {room}, input {}", c.name, show(&kept));
+    t.same(answer, expected, inputs);
+    t.check(lent == modelled, || format!("{}\n    lent memory {}\n    model's     {}", inputs(), show(&lent), show(&modelled)));
+    t.check(input == kept, || format!("{}: input changed", inputs()));
+    let octets = (answer.count as usize).saturating_mul(v.saturating_add(7)).min(room);
+    if answer.refusal == 0 && answer == expected { Some(lent[GUARD..GUARD + octets].to_vec()) } else { None }
+}
+
+/// Rooms: exact, one octet less, larger, none.
+fn write_all(t: &mut Tally, c: &Writer, w: usize, v: usize, input: &[u8]) {
+    let need = match (c.plan)(w, v, input) { Ok(octets) => octets.len(), Err(_) => 40 };
+    let mut rooms = vec![need, need.saturating_sub(1), need + 31, 0];
+    rooms.dedup();
+    for room in rooms { write_into(t, c, w, v, input, room); }
+}
+
+fn compare_judge(t: &mut Tally, w: usize, take: &[u8]) {
+    let kept = take.to_vec();
+    let expected = model::judge(w, take);
+    note(t, "judge", expected);
+    t.same(library::judge(w, take), expected, || format!("judge {w}, {}", show(&kept)));
+    t.check(take == kept, || format!("judge {w}, {}: take changed", show(&kept)));
+}
+
+fn compare_fill_in(t: &mut Tally, w: usize, take: &[u8]) {
+    let mut lent = [vec![0x5B; GUARD], take.to_vec(), vec![0x5B; GUARD]].concat();
+    let mut modelled = lent.clone();
+    let answer = library::fill_in(w, &mut lent[GUARD..GUARD + take.len()]);
+    let expected = model::fill_in(w, &mut modelled[GUARD..GUARD + take.len()], 0);
+    note(t, "fill-in", expected);
+    t.same(answer, expected, || format!("fill-in {w}, {}", show(take)));
+    t.check(lent == modelled, || format!("fill-in {w}, {}\n    lent memory {}\n    model's     {}", show(take), show(&lent), show(&modelled)));
+}
+
+fn compare_data_octets(t: &mut Tally, w: usize, take: &[u8]) {
+    let n = if w > 16 { 1 } else { take.len() / (7 + w) };
+    let kept = take.to_vec();
+    for k in (0..n.min(40)).chain([n.saturating_sub(1), n, n + 1, usize::MAX / 8 + 1, usize::MAX]) {
+        let expected = model::data_octets(w, take, k);
+        note(t, "data octets", expected.0);
+        t.same(library::data_octets(w, take, k), expected, || format!("data octets {w}, record {k}, {}", show(take)));
+    }
+    t.check(take == kept, || format!("data octets {w}, {}: take changed", show(&kept)));
+}
+
+/// All calls that read cycles; then all that read transfer records.
+fn cycle_calls(t: &mut Tally, w: usize, take: &[u8]) {
+    compare_judge(t, w, take);
+    write_all(t, &HARVEST, w, w, take);
+    compare_fill_in(t, w, take);
+    compare_data_octets(t, w, take);
+}
+
+fn transfer_calls(t: &mut Tally, w: usize, v: usize, input: &[u8]) {
+    write_all(t, &REPACK, w, v, input);
+    write_all(t, &DOWNSIZE, w, v, input);
+}
+
+/// A legal record: flags, one of few pairs, lanes full, empty or mixed.
+fn record(r: &mut Random, w: usize, flags: u8) -> Vec<u8> {
+    let all = ((1u32 << w) - 1) as u16;
+    let keep = match r.below(4) { 0 => all, 1 => 0, _ => r.next() as u16 & all };
+    let strb = if r.one_in(2) { keep } else { keep & r.next() as u16 };
+    let mut octets = vec![flags, r.pick(&[0, 0, 0, 1, 255]), r.pick(&[0, 0, 0, 15])];
+    octets.extend(keep.to_le_bytes().into_iter().chain(strb.to_le_bytes()));
+    octets.extend((0..w).map(|_| r.next() as u8));
+    octets
+}
+
+fn transfers(r: &mut Random, w: usize, n: usize) -> Vec<u8> {
+    let ends = 1 + r.below(6);
+    (0..n).flat_map(|_| { let last = u8::from(r.one_in(ends)); record(r, w, last) }).collect()
+}
+
+/// Cycles that keep the handshake rules, with waits and resets.
+fn cycles(r: &mut Random, w: usize, n: usize) -> Vec<u8> {
+    let mut take: Vec<u8> = Vec::new();
+    let mut waiting = false;
+    for _ in 0..n {
+        let resets = r.one_in(9);
+        let flags = if resets { r.pick(&[0, 1, 4, 5]) } else { r.pick(&[8, 9, 12, 10, 11, 14, 15, 15]) };
+        if waiting && !resets {
+            let mut again = take[take.len() - 7 - w..].to_vec(); // all as before, but TREADY is free
+            again[0] = (again[0] & !4) | r.pick(&[0, 4]);
+            take.extend(&again);
+        } else {
+            let mut now = record(r, w, flags);
+            if flags & 2 == 0 && r.one_in(3) { now[5] = now[3] ^ ((1u32 << w) - 1) as u8; } // reserved, but no valid cycle
+            take.extend(&now);
+        }
+        let now = take[take.len() - 7 - w];
+        waiting = now & 14 == 10;
+    }
+    take
+}
+
+/// Flip some bits: of the flags and fields mostly, or anywhere.
+fn damage(r: &mut Random, w: usize, octets: &mut [u8]) {
+    if octets.is_empty() { return; }
+    for _ in 0..1 + r.below(2) {
+        let at = r.below(octets.len() / (7 + w)) * (7 + w) + if r.one_in(4) { r.below(7 + w) } else { r.pick(&[0, 0, 1, 2, 3, 4, 5, 6]) };
+        octets[at] ^= 1 << r.below(8);
+    }
+}
+
+/// Places (in records) where a stream may be divided: where the last item before
+/// is a packet end (demand 3) or, with `pairs`, the item after has another pair.
+fn division_places(w: usize, stream: &[u8], pairs: bool) -> Vec<usize> {
+    let lists: Vec<Vec<model::Item>> = stream.chunks(7 + w).map(|r| model::items(w, r)).collect();
+    (0..=lists.len()).filter(|&k| {
+        let before = lists[..k].iter().rev().find_map(|list| list.last());
+        let after = lists[k..].iter().find_map(|list| list.first());
+        let end = before.is_some_and(|item| item.what == model::What::End);
+        let change = matches!((before, after), (Some(a), Some(b)) if a.pair != b.pair);
+        end || (pairs && change)
+    }).collect()
+}
+
+fn main() {
+    let mut t = Tally::default();
+    let mut r = Random(tally::SEED);
+    println!("streams: library and model, seed {:#x}", tally::SEED);
+    cases::streams(&mut t, &cases::StreamCalls {
+        judge: library::judge, harvest: library::harvest, fill_in: library::fill_in,
+        data_octets: library::data_octets, repack: library::repack, downsize: library::downsize,
+    });
+
+    let widths: Vec<usize> = (0..=20).chain([usize::MAX - 6, usize::MAX]).collect();
+    t.group("widths", |t| for &w in &widths {
+        for octets in [0, 1, 7, 8, 23, 24, 27, 65_536, 65_537] {
+            let input = vec![0; octets];
+            cycle_calls(t, w, &input);
+            for &v in &widths { write_into(t, &REPACK, w, v, &input, 70); write_into(t, &DOWNSIZE, w, v, &input, 70); }
+        }
+        if w >= 1 && w <= 16 { // a good stream of three records, to every width
+            let input = transfers(&mut r, w, 3);
+            for &v in &widths { transfer_calls(t, w, v, &input); }
+        }
+    });
+    t.group("longest takes", |t| for (w, most) in [(1, 8192), (9, 4096), (16, 2849), (4, 5957)] {
+        for records in [most - 1, most, most + 1] {
+            for extra in [0, 1, 7 + w - 1] {
+                let mut take = cycles(&mut r, w, records);
+                take.resize(take.len() + extra, 0);
+                cycle_calls(t, w, &take);
+                let mut input = transfers(&mut r, w, records);
+                input.resize(input.len() + extra, 0);
+                for v in [1, 3, 9, 16] { transfer_calls(t, w, v, &input); }
+            }
+        }
+    });
+    t.group("wrong lengths", |t| for w in 1..=16 {
+        let (take, input) = (cycles(&mut r, w, 3), transfers(&mut r, w, 3));
+        for octets in 0..take.len() {
+            cycle_calls(t, w, &take[..octets]);
+            transfer_calls(t, w, 1, &input[..octets]);
+        }
+    });
+    // Each bit of octets 0 to 6 of each record flipped, and each lane reserved.
+    t.group("each field bit", |t| for w in 1..=16 {
+        for rec in 0..3 {
+            for bit in 0..56 {
+                let (mut take, mut input) = (cycles(&mut r, w, 3), transfers(&mut r, w, 3));
+                take[rec * (7 + w) + bit / 8] ^= 1 << (bit % 8);
+                input[rec * (7 + w) + bit / 8] ^= 1 << (bit % 8);
+                cycle_calls(t, w, &take);
+                transfer_calls(t, w, 1 + bit % w, &input);
+            }
+            for lane in 0..w {
+                let (mut take, mut input) = (cycles(&mut r, w, 3), transfers(&mut r, w, 3));
+                for octets in [&mut take, &mut input] {
+                    octets[rec * (7 + w) + 3 + lane / 8] &= !(1 << (lane % 8));
+                    octets[rec * (7 + w) + 5 + lane / 8] |= 1 << (lane % 8);
+                }
+                cycle_calls(t, w, &take);
+                transfer_calls(t, w, w, &input);
+            }
+        }
+    });
+    // All flags of three cycles, with payloads equal or different: every rule,
+    // and every way through reset.
+    t.group("all flags of three cycles", |t| for flags in 0..4096u32 {
+        for payload in 0..4u8 {
+            let take: Vec<u8> = (0..3).flat_map(|c| {
+                let id = [0, payload & 1, payload >> 1][c];
+                [(flags >> (4 * c)) as u8 & 15, id, 0, 1, 0, 1, 0, 0x55]
+            }).collect();
+            compare_judge(t, 1, &take);
+            write_into(t, &HARVEST, 1, 1, &take, 24);
+        }
+    });
+    // Waiting, then one bit of the waiting cycle differs: each octet, TLAST too.
+    t.group("each bit while waiting", |t| for w in 1..=16 {
+        let mut wait = record(&mut r, w, 10);
+        wait[2] = 3;
+        for bit in 0..8 * (7 + w) {
+            let mut next = wait.clone();
+            next[bit / 8] ^= 1 << (bit % 8);
+            for before in [0, 1, 5] { // the pair of cycles later in the take, too
+                compare_judge(t, w, &[wait.repeat(before), wait.clone(), next.clone()].concat());
+            }
+        }
+    });
+    t.group("random cycles", |t| for _ in 0..12_000 {
+        let (w, n) = (1 + r.below(16), r.below(14));
+        let mut take = cycles(&mut r, w, n);
+        if r.one_in(2) { damage(&mut r, w, &mut take); }
+        cycle_calls(t, w, &take);
+    });
+    t.group("random transfers", |t| for _ in 0..12_000 {
+        let (w, n) = (1 + r.below(16), r.below(14));
+        let v = if r.one_in(2) { 1 + r.below(16) } else { r.pick(&[w, 1, (w + 1) / 2, w / 2 + 1]) };
+        let mut input = transfers(&mut r, w, n);
+        if r.one_in(3) { damage(&mut r, w, &mut input); }
+        transfer_calls(t, w, v, &input);
+    });
+    // Demand 3, lists of calls: each call gets the last accepted result.
+    t.group("lists of repacking calls", |t| for round in 0..3_000 {
+        let (w, n) = (1 + r.below(16), if round % 100 == 0 { 2_000 + r.below(3_000) } else { r.below(12) });
+        let first = transfers(&mut r, w, n);
+        let (mut standing, mut width, mut accepted) = (first.clone(), w, false);
+        for _ in 0..r.below(7) {
+            let v = if r.one_in(5) { r.pick(&[0, 17, 18, usize::MAX]) } else { 1 + r.below(16) };
+            let need = model::repack_plan(width, v, &standing).map_or(50, |o| o.len());
+            let room = r.pick(&[need, need, need + 5, need.saturating_sub(1), 0]);
+            if let Some(result) = write_into(t, &REPACK, width, v, &standing, room) {
+                (standing, width, accepted) = (result, v, true);
+            }
+        }
+        let expected = if accepted { model::packed(width, &model::items(w, &first)) } else { first.clone() };
+        t.check(standing == expected, || format!("list of calls from {w} to {width}, {}\n    library {}\n    packed  {}", show(&first), show(&standing), show(&expected)));
+    });
+    // Demand 3, parts: results joined are the whole's packed form, counts add up.
+    for (name, pairs) in [("parts after packet ends", false), ("parts after ends and at pair changes", true)] {
+        t.group(name, |t| for round in 0..1_500 {
+            let (w, v, n) = (1 + r.below(16), 1 + r.below(16), if round % 100 == 0 { 6_000 } else { r.below(25) });
+            let whole = transfers(&mut r, w, n);
+            let most = model::MOST_OCTETS / (7 + w);
+            let (mut joined, mut count, mut from, mut accepted) = (Vec::new(), 0, 0, true);
+            let mut places = division_places(w, &whole, pairs);
+            places.retain(|_| r.one_in(if n > 100 { 40 } else { 2 }));
+            for to in places.into_iter().chain([n]) {
+                accepted &= to - from <= most;
+                let part = &whole[from * (7 + w)..to * (7 + w)];
+                let room = model::repack_plan(w, v, part).map_or(0, |o| o.len()) + r.below(20);
+                match write_into(t, &REPACK, w, v, part, room) {
+                    Some(result) => { count += result.len() / (7 + v); joined.extend(result) }
+                    None => accepted = false,
+                }
+                from = to;
+            }
+            let expected = model::packed(v, &model::items(w, &whole));
+            let good = joined == expected && count == expected.len() / (7 + v);
+            t.check(!accepted || good, || format!("parts {w} to {v}, {}\n    library {}\n    packed  {}", show(&whole), show(&joined), show(&expected)));
+            if accepted { t.verdict("parts all accepted".to_string()); }
+        });
+    }
+    t.show_verdicts(&[
+        "judge accepted", "judge broken rule 1", "judge broken rule 2", "judge broken rule 3", "judge broken rule 4",
+        "judge refusal 1", "judge refusal 2", "judge refusal 3",
+        "harvest accepted", "harvest refusal 1", "harvest refusal 2", "harvest refusal 3", "harvest refusal 5", "harvest refusal 14",
+        "fill-in accepted", "fill-in refusal 1", "fill-in refusal 2",
+        "data octets accepted", "data octets refusal 1", "data octets refusal 2", "data octets refusal 13",
+        "repack accepted", "repack refusal 1", "repack refusal 2", "repack refusal 3", "repack refusal 4", "repack refusal 5",
+        "downsize accepted", "downsize refusal 1", "downsize refusal 2", "downsize refusal 3", "downsize refusal 4", "downsize refusal 5", "downsize refusal 6",
+        "parts all accepted",
+    ]);
+    t.finish()
+}

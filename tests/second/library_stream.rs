@@ -1,0 +1,46 @@
+//! The library's stream calls in C, and safe wrappers answering in the model's terms.
+use crate::model;
+
+#[repr(C)]
+#[derive(Clone, Copy, PartialEq, Eq, Debug)]
+pub struct StreamAnswer { pub refusal: u32, pub rule: u32, pub place: u64, pub count: u64 }
+
+unsafe extern "C" {
+    fn urd_judge(width: usize, take: *const u8, take_len: usize) -> StreamAnswer;
+    fn urd_harvest(width: usize, take: *const u8, take_len: usize, out: *mut u8, out_len: usize) -> StreamAnswer;
+    fn urd_fill_in(width: usize, take: *mut u8, take_len: usize) -> StreamAnswer;
+    fn urd_data_octets(width: usize, take: *const u8, take_len: usize, k: usize, part: *mut [u64; 2]) -> StreamAnswer;
+    fn urd_repack(width: usize, v: usize, input: *const u8, input_len: usize, out: *mut u8, out_len: usize) -> StreamAnswer;
+    fn urd_downsize(width: usize, v: usize, input: *const u8, input_len: usize, out: *mut u8, out_len: usize) -> StreamAnswer;
+}
+
+fn plain(a: StreamAnswer) -> model::StreamAnswer {
+    model::StreamAnswer { refusal: a.refusal, rule: a.rule, place: a.place, count: a.count }
+}
+
+pub fn judge(w: usize, take: &[u8]) -> model::StreamAnswer {
+    plain(unsafe { urd_judge(w, take.as_ptr(), take.len()) })
+}
+
+pub fn harvest(w: usize, take: &[u8], out: &mut [u8]) -> model::StreamAnswer {
+    plain(unsafe { urd_harvest(w, take.as_ptr(), take.len(), out.as_mut_ptr(), out.len()) })
+}
+
+pub fn fill_in(w: usize, take: &mut [u8]) -> model::StreamAnswer {
+    plain(unsafe { urd_fill_in(w, take.as_mut_ptr(), take.len()) })
+}
+
+/// The part starts out as nonsense, so that a part never written is seen.
+pub fn data_octets(w: usize, take: &[u8], k: usize) -> (model::StreamAnswer, [u64; 2]) {
+    let mut part = [u64::MAX; 2];
+    let answer = plain(unsafe { urd_data_octets(w, take.as_ptr(), take.len(), k, &mut part) });
+    (answer, part)
+}
+
+pub fn repack(w: usize, v: usize, input: &[u8], out: &mut [u8]) -> model::StreamAnswer {
+    plain(unsafe { urd_repack(w, v, input.as_ptr(), input.len(), out.as_mut_ptr(), out.len()) })
+}
+
+pub fn downsize(w: usize, v: usize, input: &[u8], out: &mut [u8]) -> model::StreamAnswer {
+    plain(unsafe { urd_downsize(w, v, input.as_ptr(), input.len(), out.as_mut_ptr(), out.len()) })
+}
