@@ -1,0 +1,11 @@
+// Runs paper 01's bench cases through the library's calls and prints what each answers, a line an answer. What it must
+// print is in the file stdout, typed from the paper. The starred cases are also proved of the definitions (specs/Starred).
+mod bursts;
+
+fn main() {
+    bursts::beats();
+    bursts::wrap();
+    bursts::boundary();
+    bursts::counts();
+    bursts::top();
+}
