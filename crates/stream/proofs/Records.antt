@@ -66,7 +66,7 @@ joined-pieces z (suc n) xs h =
     ap (λ (l : List ℕ). take z xs ++ l) (joined-pieces z n (drop z xs) (omega (arith, suc-mul n z, length-drop z xs)))
     ∙ take-append-drop z xs
 
-whole-count : (s : Shape) (xs : List ℕ) → length xs % size s ≡ 0 → length xs ≡ recordCount s xs * size s
+pub whole-count : (s : Shape) (xs : List ℕ) → length xs % size s ≡ 0 → length xs ≡ recordCount s xs * size s
 whole-count s xs h = omega (arith, div-add-mod' (length xs) (size s))
 
 -- whole records in front are the first records

@@ -1,0 +1,58 @@
+// Fill-in of TLAST, for ports that have no such wire: bit 0 of octet 0 of every record of a lent take is set to a level, and
+// nothing else is touched. Judging and harvesting are in the crate handshake.
+use refusal::Refusal;
+use stream::Shape;
+use stream::Written;
+ghost use mathlib.Core.Path.{_≡_};
+ghost use Prim.Native.Nat.{_≤_, _%_};
+ghost use lib.ListN.{length};
+ghost use Rattle.stream.specs.Layout.{bitOf, size, recordCount};
+ghost use Rattle.stream.specs.Handshake.{filledIn, baseLevel};
+ghost use Rattle.stream.specs.Answers.{FilledIn};
+ghost use Rattle.tlast.specs.Filling.{Fills, Filled};
+
+// A level as a bit.
+fn bit(level: bool) -> u8
+    ensures { λ r. ⌜ (r ≡ bitOf level) × (r ≤ 1) ⌝ }
+{
+    if level {
+        return 1;
+    }
+    0
+}
+
+// Sets TLAST of each record, and answers how many there are. Width and length have passed their tests.
+fn fill(s: Shape, capture: &mut [u8], level: bool) -> usize
+    requires { ⌜ Fills s (now capture) ⌝ }
+    ensures { λ r. ⌜ Filled level s (now (capture .entry)) (now (capture .exit)) r ⌝ }
+{
+    let last = bit(level);
+    let mut at = 0;
+    let mut k = 0;
+    while at < capture.len() {
+        capture[at] = capture[at] / 2 * 2 + last;
+        at += record::record_size(s);
+        k += 1;
+    }
+    k
+}
+
+// Sets TLAST of every record of the lent take to this level. Only a width or a length is refused.
+pub fn set_last(s: Shape, capture: &mut [u8], level: bool) -> Written
+    ensures { λ r. ⌜ FilledIn level s (now (capture .entry)) (now (capture .exit)) r ⌝ }
+{
+    if record::bad_width(s.width) {
+        return Written::Refused(Refusal::Width);
+    }
+    if record::bad_length(s, capture) {
+        return Written::Refused(Refusal::Length);
+    }
+    Written::Records(fill(s, capture, level))
+}
+
+// Fill-in as paper 01 has it: low.
+pub fn fill_in(s: Shape, capture: &mut [u8]) -> Written
+    ensures { λ r. ⌜ FilledIn baseLevel s (now (capture .entry)) (now (capture .exit)) r ⌝ }
+{
+    set_last(s, capture, false)
+}
