@@ -22,7 +22,9 @@ use Rattle.burst_spec.proofs.Step.{step-in-range}
 use Rattle.burst_spec.specs.declared.Burst.{Burst}
 use Rattle.burst_spec.specs.Answers.{Row}
 use Rattle.capi.specs.declared.BurstAnswer.{BurstAnswer}
-use Rattle.capi.specs.Shows.{ShowsRow}
+use Rattle.stream.specs.Answers.{Values, values}
+use Rattle.capi.specs.declared.stream_calls.StreamAnswer.{StreamAnswer}
+use Rattle.capi.specs.Shows.{ShowsRow, ShowsValues}
 
 -- the answer r of a call was found to be x, and it is what the definition says of the burst; b is the burst as the code
 -- made it, and d as the definition has it
@@ -49,3 +51,13 @@ step-fits x k d e = go (judgement x) refl
               let r = step-in-range x (accepted-exactly x .0 h .legal) k in
               subst (SFits w32) same (fits (beatStep x k) (r .0) (r .1))
         ]
+
+-- ---- streams
+
+-- an answer x that was found to be y shows what y shows
+pub shown : {X : Type 0} (valuesOf : X → Values) (a : StreamAnswer) {x y : X} → x ≡ y → ShowsValues a (valuesOf y) → ShowsValues a (valuesOf x)
+shown valuesOf a e h = subst (λ z. ShowsValues a (valuesOf z)) (sym e) h
+
+pub numbers : (a : StreamAnswer) {refusal place rule count : ℕ}
+    → (a .refusal ≡ refusal) × (a .rule ≡ rule) × (a .place ≡ place) × (a .count ≡ count) → ShowsValues a (values refusal place rule count)
+numbers a e = record { refusal = e .0; rule = e .1; place = e .2; count = e .3 }

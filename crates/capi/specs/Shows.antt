@@ -1,6 +1,13 @@
 -- The numbers of an answer as C sees them, against the rows of paper 01's numbers that the calls' definitions give.
 use mathlib.Core.Path.{_≡_}
+use mathlib.Core.List.{List}
+use Prim.Native.Nat.{ℕ}
+use lib.ListN.{length}
 use Rattle.burst_spec.specs.Answers.{Row}
+use Rattle.stream.specs.declared.Shape.{Shape}
+use Rattle.stream.specs.Answers.{Values, lookupValues, dataAnswer, dataStart, dataPart}
+use Rattle.capi.specs.declared.stream_calls.PartAnswer.{PartAnswer}
+use Rattle.capi.specs.declared.stream_calls.StreamAnswer.{StreamAnswer}
 use Rattle.capi.specs.declared.BurstAnswer.{BurstAnswer}
 
 -- A burst refusal's place and rule are always 0, so the struct has no field for them.
@@ -10,3 +17,19 @@ pub record ShowsRow (a : BurstAnswer) (row : Row) : Type 0 where
   pub upper : a .upper ≡ row .upper
   pub step : a .step ≡ row .step
   pub address : a .address ≡ row .address
+
+pub record ShowsValues (a : StreamAnswer) (values : Values) : Type 0 where
+  pub refusal : a .refusal ≡ values .refusal
+  pub place : a .place ≡ values .place
+  pub rule : a .rule ≡ values .rule
+  pub count : a .count ≡ values .count
+
+-- the shape of records of this width
+abbrev pub shape : ℕ → Shape
+shape width = record { width = width }
+
+-- A refusal of data octets has place and rule 0, so the struct has no field for them.
+pub record ShowsPart (a : PartAnswer) (s : Shape) (capture : List ℕ) (k : ℕ) : Type 0 where
+  pub refusal : a .refusal ≡ lookupValues (dataAnswer s capture k) .refusal
+  pub start : a .start ≡ dataStart s capture k
+  pub octets : a .length ≡ length (dataPart s capture k)

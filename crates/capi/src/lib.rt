@@ -3,7 +3,13 @@
 use burst_spec::BeatAnswer;
 use burst_spec::Judgement;
 use burst_spec::StepAnswer;
+
+mod stream_calls;
+
 use refusal::Refusal;
+pub use stream_calls::urd_data_octets;
+pub use stream_calls::urd_fill_in;
+pub use stream_calls::urd_judge;
 ghost use mathlib.Core.Path.{_≡_};
 ghost use Rattle.burst_spec.specs.Answers.{burstOf, judgement, beatAnswer, stepAnswer, judgementShows, beatShows, stepShows, refusalRow};
 ghost use Rattle.capi.specs.Shows.{ShowsRow};

@@ -16,7 +16,7 @@ use Rattle.stream.specs.declared.Lookup.{Lookup}
 use Rattle.stream.specs.declared.Lookup.the-variants.{Present, Refused}
 use Rattle.stream.specs.Layout.{size, recordCount}
 use Rattle.stream.specs.Checks.{widthCheck, lengthCheck}
-use Rattle.stream.specs.Answers.{LookedUp, lookup, lookupValues, dataRefusal, dataAnswer, dataPart}
+use Rattle.stream.specs.Answers.{LookedUp, lookup, lookupValues, dataRefusal, dataAnswer, dataPart, dataStart}
 use Rattle.stream.proofs.Promises.{data-there, record-there}
 
 module _ (s : Shape) (xs : List ℕ) (k : ℕ) where
@@ -66,3 +66,17 @@ module _ (s : Shape) (xs : List ℕ) (k : ℕ) where
   part-present z q e =
       let width : k * z + 7 + s .width - (k * z + 7) ≡ s .width = omega arith in
       rw e (rw (width, q, drop-drop 7 (k * size s) xs) refl)
+
+  start-refused : (f : Refusal) (r : Option Refusal) → dataRefusal s xs k ≡ r → Refused f ≡ lookup r → 0 ≡ dataStart s xs k
+  unfolding dataStart
+  start-refused f none e h = let z : _≡_ {A = ℕ} 0 1 = cc in absurd (omega arith)
+  start-refused f (some g) e h = rw e refl
+
+  -- a refused call starts nowhere, and an accepted one behind the record's header
+  pub no-start : (r : Lookup) (f : Refusal) → r ≡ Refused f → LookedUp s xs k r → 0 ≡ dataStart s xs k
+  unfolding dataAnswer
+  no-start r f e h = start-refused f (dataRefusal s xs k) refl (sym e ∙ h .is)
+
+  pub start-present : (z : ℕ) → z ≡ size s → dataRefusal s xs k ≡ none → k * z + 7 ≡ dataStart s xs k
+  unfolding dataStart
+  start-present z q e = rw (e, q) refl

@@ -4,6 +4,7 @@
 mod lookup;
 
 pub use lookup::data_octets;
+pub use lookup::data_start;
 pub use lookup::find_data;
 use stream::Shape;
 ghost use mathlib.Core.Path.{_≡_};

@@ -7,7 +7,7 @@ use refusal::Refusal;
 use stream::Lookup;
 use stream::Shape;
 ghost use mathlib.Core.Path.{_≡_};
-ghost use Rattle.stream.specs.Answers.{LookedUp, dataPart};
+ghost use Rattle.stream.specs.Answers.{LookedUp, dataPart, dataStart};
 
 // Whether the take has record k.
 pub fn find_data(s: Shape, capture: &[u8], k: usize) -> Lookup
@@ -35,4 +35,15 @@ pub fn data_octets(s: Shape, capture: &[u8], k: usize) -> &[u8]
     let start = k * record_size(s) + 7;
     let end = start + s.width;
     &capture[start..end]
+}
+
+// Where the data octets of record k start in the take, or 0 where find_data refuses: for callers who cannot be handed a
+// part of a slice.
+pub fn data_start(s: Shape, capture: &[u8], k: usize) -> usize
+    ensures { λ r. ⌜ r ≡ dataStart s (now (capture .entry)) k ⌝ }
+{
+    let Lookup::Present = find_data(s, capture, k) else {
+        return 0;
+    };
+    k * record_size(s) + 7
 }

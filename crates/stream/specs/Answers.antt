@@ -5,7 +5,7 @@ use mathlib.Core.Path.{_≡_}
 use mathlib.Core.Bool.{Bool}
 use mathlib.Core.List.{List, [], _∷_, _++_, map}
 use mathlib.Core.Option.{Option, none, some}
-use Prim.Native.Nat.{ℕ, _*_}
+use Prim.Native.Nat.{ℕ, _+_, _*_}
 use lib.ListN.{length, take, drop}
 use Rattle.refusal.specs.Code.{codeOf}
 use Rattle.refusal.specs.declared.Refusal.{Refusal}
@@ -17,7 +17,7 @@ use Rattle.stream.specs.declared.Written.{Written}
 use Rattle.stream.specs.declared.Written.the-variants.{Records, Refused as NotWritten}
 use Rattle.stream.specs.declared.Lookup.{Lookup}
 use Rattle.stream.specs.declared.Lookup.the-variants.{Present, Refused as NoPart}
-use Rattle.stream.specs.Layout.{size, records, recordCount, dataOctets, packedTransfers, packed, slicedTransfers, sliced}
+use Rattle.stream.specs.Layout.{size, headOctets, records, recordCount, dataOctets, packedTransfers, packed, slicedTransfers, sliced}
 use Rattle.stream.specs.Checks.{Check, check, first, shapeChecks, ratioCheck, lengthCheck, indexCheck, transferChecks, cycleChecks, roomCheck}
 use Rattle.stream.specs.Handshake.{Finding, findings, firstFinding, transferCount, harvested, filledIn, baseLevel}
 
@@ -98,6 +98,14 @@ dataAnswer s capture k = lookup (dataRefusal s capture k)
 
 unfoldable pub dataPart : Shape → List ℕ → ℕ → List ℕ
 dataPart s capture k = partFor (dataRefusal s capture k) (dataOctets s (drop (k * size s) capture))
+
+-- where that part starts in the take, for callers who cannot be handed a part; 0 where the call is refused
+abbrev pub startFor : Option Refusal → ℕ → ℕ
+startFor (some r) start = 0
+startFor none start = start
+
+unfoldable pub dataStart : Shape → List ℕ → ℕ → ℕ
+dataStart s capture k = startFor (dataRefusal s capture k) (k * size s + headOctets)
 
 -- ---- repack to width v: 1, 2, records with 3 before 4, 5
 

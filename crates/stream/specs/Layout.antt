@@ -30,9 +30,13 @@ maskOf (b ∷ bs) = bitOf b + 2 * maskOf bs
 
 -- ---- a record's octets and fields
 
+-- the octets before a record's data
+abbrev pub headOctets : ℕ
+headOctets = 7
+
 -- "A record has 7 + w octets."
 unfoldable pub size : Shape → ℕ
-size s = 7 + s .width
+size s = headOctets + s .width
 
 -- the same kind of record at another width. (What else a shape will hold stays as it is in s; as yet it is only a width.)
 abbrev pub atWidth : Shape → ℕ → Shape
@@ -68,7 +72,7 @@ tstrb r = getD r 5 0 + 256 * getD r 6 0
 
 -- octets 7 on: "data of lane 0, lane 1, up to w - 1"
 abbrev pub dataOctets : Shape → List ℕ → List ℕ
-dataOctets s r = take (s .width) (drop 7 r)
+dataOctets s r = take (s .width) (drop headOctets r)
 
 -- everything from octet 1 on: TID, TDEST, TKEEP, TSTRB and data
 abbrev pub body : List ℕ → List ℕ

@@ -1,0 +1,37 @@
+-- `capi::urd_data_octets` meets its contract: it shows what the calls answer. Assumes nothing.
+use mathlib.Core.Path.{ap, _∙_}
+use lib.ListN.{length}
+use Rattle.stream.specs.declared.Lookup.{Lookup}
+use Rattle.stream.specs.Answers.{lookupValues}
+use borrow.Author.Needs.{needs}
+use Rattle.capi.proofs.stream_calls.urd_data_octets.Statement.{statement}
+use Rattle.capi.proofs.stream_calls.urd_data_octets.Tie as tie
+
+data-octets-requires : tie.Need-data-octets-requires
+data-octets-requires c κs = search needs
+
+find-data-requires : tie.Need-find-data-requires
+find-data-requires c κs = search needs
+
+number-of-requires : tie.Need-number-of-requires
+number-of-requires c κs = search needs
+
+data-start-requires : tie.Need-data-start-requires
+data-start-requires c κs = search needs
+
+returns : tie.Need-returns
+returns c = record {
+  refusal = c .before .number-of .ensures ∙ ap (λ (l : Lookup). lookupValues l .refusal) (c .before .before .find-data .ensures .is);
+  start = c .data-start .ensures;
+  octets = ap length (c .before .before .before .data-octets .ensures);
+}
+
+pub urd-data-octets-spec : {M : Type 1} → statement M
+urd-data-octets-spec =
+    tie.close
+    (tie.spec
+    data-octets-requires
+    find-data-requires
+    number-of-requires
+    data-start-requires
+    returns)

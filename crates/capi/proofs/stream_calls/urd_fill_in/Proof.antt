@@ -1,0 +1,25 @@
+-- `capi::urd_fill_in` meets its contract: it shows what the call answers, and leaves what the call leaves. Assumes nothing.
+use mathlib.Core.Path.{sym}
+use Rattle.stream.specs.Answers.{writtenValues}
+use Rattle.capi.proofs.Told.{shown}
+use borrow.Author.Needs.{needs}
+use Rattle.capi.proofs.stream_calls.urd_fill_in.Statement.{statement}
+use Rattle.capi.proofs.stream_calls.urd_fill_in.Tie as tie
+
+fill-in-requires : tie.Need-fill-in-requires
+fill-in-requires c κs = search needs
+
+of-written-requires : tie.Need-of-written-requires
+of-written-requires c κs = search needs
+
+same-length : tie.Need-same-length
+same-length c = search needs
+
+returns : tie.Need-returns
+returns c = (
+  shown writtenValues (c .of-written .result) (sym (c .before .before .before .fill-in .ensures .is)) (c .of-written .ensures),
+  c .before .before .before .fill-in .ensures .leaves,
+)
+
+pub urd-fill-in-spec : {M : Type 1} → statement M
+urd-fill-in-spec = tie.close (tie.spec fill-in-requires of-written-requires same-length returns)

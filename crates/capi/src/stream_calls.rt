@@ -1,0 +1,109 @@
+// The stream calls as C functions.
+use refusal::Refusal;
+use stream::Lookup;
+use stream::Shape;
+use stream::Verdict;
+use stream::Written;
+ghost use mathlib.Core.Path.{_≡_};
+ghost use lib.ListN.{length};
+ghost use Rattle.stream.specs.Handshake.{baseLevel};
+ghost use Rattle.stream.specs.Answers.{refusalValues, verdictValues, writtenValues, lookupValues, judgeAnswer, fillAnswer, fillAfter};
+ghost use Rattle.capi.specs.Shows.{ShowsValues, ShowsPart, shape};
+
+// What a stream call answers: the refusal's number, or 0; its place, or the broken cycle; the rule; the count of transfers
+// or records. What it has not is 0.
+#[repr(C)]
+pub struct StreamAnswer {
+    pub refusal: u32,
+    pub rule: u32,
+    pub place: u64,
+    pub count: u64,
+}
+
+fn answer(refusal: u32, place: usize, rule: u32, count: usize) -> StreamAnswer
+    ensures { λ a. ⌜ (a .refusal ≡ refusal) × (a .rule ≡ rule) × (a .place ≡ place) × (a .count ≡ count) ⌝ }
+{
+    StreamAnswer {
+        refusal,
+        rule,
+        place: place as u64,
+        count: count as u64,
+    }
+}
+
+fn refused(r: Refusal) -> StreamAnswer
+    ensures { λ a. ⌜ ShowsValues a (refusalValues r) ⌝ }
+{
+    let code = refusal::code_of(r);
+    answer(code.0, code.1, code.2, 0)
+}
+
+fn of_written(w: Written) -> StreamAnswer
+    ensures { λ a. ⌜ ShowsValues a (writtenValues w) ⌝ }
+{
+    match w {
+        Written::Records(n) => answer(0, 0, 0, n),
+        Written::Refused(r) => refused(r),
+    }
+}
+
+fn of_verdict(v: Verdict) -> StreamAnswer
+    ensures { λ a. ⌜ ShowsValues a (verdictValues v) ⌝ }
+{
+    match v {
+        Verdict::Clean(n) => answer(0, 0, 0, n),
+        Verdict::Broken(cycle, rule) => answer(0, cycle, rule, 0),
+        Verdict::Refused(r) => refused(r),
+    }
+}
+
+// Judges a take of cycle records.
+#[no_mangle]
+pub extern "C" fn urd_judge(width: usize, capture: &[u8]) -> StreamAnswer
+    ensures { λ a. ⌜ ShowsValues a (verdictValues (judgeAnswer (shape width) (now (capture .entry)))) ⌝ }
+{
+    of_verdict(handshake::judge(Shape { width }, capture))
+}
+
+// Clears TLAST in a lent take.
+#[no_mangle]
+pub extern "C" fn urd_fill_in(width: usize, capture: &mut [u8]) -> StreamAnswer
+    ensures { λ a. ⌜ ShowsValues a (writtenValues (fillAnswer (shape width) (now (capture .entry)))) ⌝ }
+    ensures { λ a. ⌜ now (capture .exit) ≡ fillAfter baseLevel (shape width) (now (capture .entry)) ⌝ }
+{
+    of_written(tlast::fill_in(Shape { width }, capture))
+}
+
+// Where the data octets of a record stand in a take: the refusal's number, or 0 with their offset and their number.
+#[repr(C)]
+pub struct PartAnswer {
+    pub refusal: u32,
+    pub start: u64,
+    pub length: u64,
+}
+
+fn number_of(l: Lookup) -> u32
+    ensures { λ n. ⌜ n ≡ lookupValues l .refusal ⌝ }
+{
+    match l {
+        Lookup::Present => 0,
+        Lookup::Refused(r) => {
+            let code = refusal::code_of(r);
+            code.0
+        }
+    }
+}
+
+// The data octets of record k of a take.
+#[no_mangle]
+pub extern "C" fn urd_data_octets(width: usize, capture: &[u8], k: usize) -> PartAnswer
+    ensures { λ a. ⌜ ShowsPart a (shape width) (now (capture .entry)) k ⌝ }
+{
+    let s = Shape { width };
+    let octets = record::data_octets(s, capture, k);
+    PartAnswer {
+        refusal: number_of(record::find_data(s, capture, k)),
+        start: record::data_start(s, capture, k) as u64,
+        length: octets.len() as u64,
+    }
+}
