@@ -5,11 +5,14 @@ use crate::model;
 #[derive(Clone, Copy, PartialEq, Eq, Debug)]
 pub struct StreamAnswer { pub refusal: u32, pub rule: u32, pub place: u64, pub count: u64 }
 
+#[repr(C)]
+pub struct PartAnswer { pub refusal: u32, pub start: u64, pub length: u64 }
+
 unsafe extern "C" {
     fn urd_judge(width: usize, take: *const u8, take_len: usize) -> StreamAnswer;
     fn urd_harvest(width: usize, take: *const u8, take_len: usize, out: *mut u8, out_len: usize) -> StreamAnswer;
     fn urd_fill_in(width: usize, take: *mut u8, take_len: usize) -> StreamAnswer;
-    fn urd_data_octets(width: usize, take: *const u8, take_len: usize, k: usize, part: *mut [u64; 2]) -> StreamAnswer;
+    fn urd_data_octets(width: usize, take: *const u8, take_len: usize, k: usize) -> PartAnswer;
     fn urd_repack(width: usize, v: usize, input: *const u8, input_len: usize, out: *mut u8, out_len: usize) -> StreamAnswer;
     fn urd_downsize(width: usize, v: usize, input: *const u8, input_len: usize, out: *mut u8, out_len: usize) -> StreamAnswer;
 }
@@ -30,11 +33,10 @@ pub fn fill_in(w: usize, take: &mut [u8]) -> model::StreamAnswer {
     plain(unsafe { urd_fill_in(w, take.as_mut_ptr(), take.len()) })
 }
 
-/// The part starts out as nonsense, so that a part never written is seen.
+/// Its refusals have place and rule 0, and the library shows none.
 pub fn data_octets(w: usize, take: &[u8], k: usize) -> (model::StreamAnswer, [u64; 2]) {
-    let mut part = [u64::MAX; 2];
-    let answer = plain(unsafe { urd_data_octets(w, take.as_ptr(), take.len(), k, &mut part) });
-    (answer, part)
+    let a = unsafe { urd_data_octets(w, take.as_ptr(), take.len(), k) };
+    (model::StreamAnswer { refusal: a.refusal, rule: 0, place: 0, count: 0 }, [a.start, a.length])
 }
 
 pub fn repack(w: usize, v: usize, input: &[u8], out: &mut [u8]) -> model::StreamAnswer {
