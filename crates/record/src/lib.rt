@@ -1,6 +1,8 @@
 // The code that knows a record's octets: its size, its header's fields, the faults of a width, a length and a record.
 // Layout knowledge stands here and in stream's Layout only. Functions with a `requires` are for the crates above, which
 // make the test first; the calls of the library are there.
+pub mod write;
+
 use stream::Shape;
 ghost use mathlib.Core.Path.{_≡_};
 ghost use Prim.Native.Nat.{ℕ, _≤_, _<_, _^_};
