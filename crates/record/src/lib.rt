@@ -2,6 +2,7 @@
 // Layout knowledge stands here and in stream's Layout only. Functions with a `requires` are for the crates above, which
 // make the test first; the calls of the library are there.
 mod lookup;
+pub mod write;
 
 pub use lookup::data_octets;
 pub use lookup::data_start;

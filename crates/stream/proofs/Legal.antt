@@ -38,7 +38,7 @@ Sound ts = EachTransfer PairFits ByteFits ts
 
 -- ---- octets
 
-octets-take : (n : ℕ) (xs : List ℕ) → Octets xs → Octets (take n xs)
+pub octets-take : (n : ℕ) (xs : List ℕ) → Octets xs → Octets (take n xs)
 octets-take zero xs h = tt
 octets-take (suc n) [] h = tt
 octets-take (suc n) (x ∷ xs) h = (h .0, octets-take n xs (h .1))
@@ -48,7 +48,7 @@ octets-drop zero xs h = h
 octets-drop (suc n) [] h = tt
 octets-drop (suc n) (x ∷ xs) h = octets-drop n xs (h .1)
 
-octet-at : (xs : List ℕ) (i : ℕ) → Octets xs → getD xs i 0 < 256
+pub octet-at : (xs : List ℕ) (i : ℕ) → Octets xs → getD xs i 0 < 256
 octet-at [] i h = omega arith
 octet-at (x ∷ xs) zero h = h .0
 octet-at (x ∷ xs) (suc i) h = octet-at xs i (h .1)
@@ -140,7 +140,7 @@ wide-transfers s xs = records-wide s (records s xs)
 
 -- ---- from transfers to a legal stream
 
-mask-fits : (bs : List Bool) → maskOf bs < 2 ^ length bs
+pub mask-fits : (bs : List Bool) → maskOf bs < 2 ^ length bs
 mask-fits [] = omega arith
 mask-fits (true ∷ bs) = rw (pow-suc 2 (length bs)) (omega (arith, mask-fits bs))
 mask-fits (false ∷ bs) = rw (pow-suc 2 (length bs)) (omega (arith, mask-fits bs))

@@ -110,11 +110,11 @@ module _ {A : Type 0} where
   Wide v [] = Unit {0}
   Wide v (t ∷ ts) = (length (t .lanes) ≡ v) × Wide v ts
 
-  wide-append : (v : ℕ) (ts us : List (Transfer A)) → Wide v ts → Wide v us → Wide v (ts ++ us)
+  pub wide-append : (v : ℕ) (ts us : List (Transfer A)) → Wide v ts → Wide v us → Wide v (ts ++ us)
   wide-append v [] us h k = k
   wide-append v (t ∷ ts) us h k = (h .0, wide-append v ts us (h .1) k)
 
-  wide-spread : (k v : ℕ) (p : Pair) (ls : List (Option A)) (last : Bool) → Wide v (spread k v p ls last)
+  pub wide-spread : (k v : ℕ) (p : Pair) (ls : List (Option A)) (last : Bool) → Wide v (spread k v p ls last)
   wide-spread zero v p ls last = (length-fitted v ls, tt)
   wide-spread (suc k) v p ls last = (length-fitted v ls, wide-spread k v p (drop v ls) last)
 

@@ -1,0 +1,99 @@
+-- The ladder of repack's refusals, a law for each way the code returns. Assumes nothing.
+use mathlib.Core.Path.{_≡_, refl, sym, ap, _∙_, subst}
+use mathlib.Core.Bool.{Bool, true, false, not, cond}
+use mathlib.Core.List.{List, [], _∷_, _++_}
+use mathlib.Core.Option.{Option, none, some}
+use Prim.Native.Nat.{ℕ, _≤_, _<_, _%_}
+use native.Mathlib.Omega.{arith}
+use borrow.Author.Tests.{ltb-false, eqb-true, not-false}
+use lib.Dec.{ltb, eqb}
+use lib.ListN.{length, take, drop}
+use lib.Seq.{length-take-le}
+use Rattle.refusal.specs.declared.Refusal.{Refusal}
+use Rattle.refusal.specs.declared.Refusal.the-variants.{Width, Length}
+use Rattle.stream.specs.declared.Shape.{Shape}
+use Rattle.stream.specs.declared.Written.{Written}
+use Rattle.stream.specs.declared.Written.the-variants.{Refused}
+use Rattle.stream.specs.Packed.{Stretch, cut, packStretches}
+use Rattle.stream.specs.Layout.{size, records, streamItems, octets, packedTransfers, packed}
+use Rattle.stream.specs.Checks.{Check, check, first, widthCheck, captureMost, lengthCheck, transferChecks, roomCheck}
+use Rattle.stream.specs.Answers.{written, lentAfter, repackRefusal, repackAnswer, repackAfter, writtenValues}
+use Rattle.stream.proofs.Bools.{neither}
+use Rattle.stream.proofs.Repack.{WidthFits, width-fits}
+use Rattle.scratch.specs.Codes.{stretchesOf}
+use Rattle.repack_parse.specs.Read.{Taken}
+use Rattle.repack_emit.specs.Write.{Emitted}
+use Rattle.repack.specs.Repacked.{Repacked}
+
+-- ---- a refusal that comes first is the answer
+
+append-found : (cs ds : List (Check Refusal)) (f : Refusal) → first cs ≡ some f → first (cs ++ ds) ≡ some f
+append-found [] ds f e = let z : _≡_ {A = ℕ} 0 1 = cc in absurd (omega arith)
+append-found (c ∷ cs) ds f e = go (c .found) refl (append-found cs ds f)
+  where
+    go : (b : Bool) → c .found ≡ b → (first cs ≡ some f → first (cs ++ ds) ≡ some f) → first ((c ∷ cs) ++ ds) ≡ some f
+    go true h ih = rw h (rw h at e)
+    go false h ih = rw h (ih (rw h at e))
+
+append-passed : (cs ds : List (Check Refusal)) → first cs ≡ none → first (cs ++ ds) ≡ first ds
+append-passed [] ds e = refl
+append-passed (c ∷ cs) ds e = go (c .found) refl (append-passed cs ds)
+  where
+    go : (b : Bool) → c .found ≡ b → (first cs ≡ none → first (cs ++ ds) ≡ first ds) → first ((c ∷ cs) ++ ds) ≡ first ds
+    go true h ih = let z : some (c .gives) ≡ none = rw h at e in let y : _≡_ {A = ℕ} 0 1 = cc in absurd (omega arith)
+    go false h ih = rw h (ih (rw h at e))
+
+module _ (s : Shape) (v : ℕ) (input out : List ℕ) where
+  -- the answer and the memory of a refusal, and of any outcome
+  pub refused : (f : Refusal) → repackRefusal s v input (length out) ≡ some f → Repacked s v input out out (Refused f)
+  unfolding repackAnswer repackAfter
+  refused f e = record { answer = rw e refl; memory = rw e refl; numbers = rw e refl }
+
+  pub answered : (o : Option Refusal) (after : List ℕ) (r : Written) → repackRefusal s v input (length out) ≡ o
+      → r ≡ written o (length (packedTransfers s v input)) → after ≡ lentAfter o (packed s v input) out → Repacked s v input out after r
+  unfolding repackAnswer repackAfter
+  answered o after r e f g = record { answer = rw e f; memory = rw e g; numbers = rw (e, f) refl }
+
+  pub bad-width : widthCheck (s .width) .found ≡ true → Repacked s v input out out (Refused Width)
+  bad-width h = refused Width (rw h refl)
+
+  module _ (w : widthCheck (s .width) .found ≡ false) where
+    pub bad-output : widthCheck v .found ≡ true → Repacked s v input out out (Refused Width)
+    bad-output h = refused Width (rw (w, h) refl)
+
+    module _ (o : widthCheck v .found ≡ false) where
+      pub bad-length : lengthCheck s input .found ≡ true → Repacked s v input out out (Refused Length)
+      bad-length h = refused Length (rw (w, o, h) refl)
+
+      module _ (l : lengthCheck s input .found ≡ false) where
+        ladder : repackRefusal s v input (length out) ≡ first (transferChecks s 0 (records s input) ++ roomCheck (packed s v input) (length out) ∷ [])
+        ladder = rw (w, o, l) refl
+
+        -- a record's fault
+        pub bad-record : (f : Refusal) → first (transferChecks s 0 (records s input)) ≡ some f → Repacked s v input out out (Refused f)
+        bad-record f h =
+            refused f (ladder ∙ append-found (transferChecks s 0 (records s input)) (roomCheck (packed s v input) (length out) ∷ []) f h)
+
+        -- no fault: what writing the stretches answers
+        pub no-fault : (items table after : List ℕ) (r : Written) → first (transferChecks s 0 (records s input)) ≡ none
+            → stretchesOf table items ≡ cut (streamItems s input) → Emitted v items table out after r → Repacked s v input out after r
+        no-fault items table after r h e m =
+            answered (first (roomCheck (packed s v input) (length out) ∷ [])) after r
+            (ladder ∙ append-passed (transferChecks s 0 (records s input)) (roomCheck (packed s v input) (length out) ∷ []) h)
+            (rw e at (m .answer)) (rw e at (m .memory))
+
+-- ---- what the tests let through
+
+pub length-fits : (s : Shape) (input : List ℕ) → lengthCheck s input .found ≡ false → (length input ≤ 65536) × (length input % size s ≡ 0)
+length-fits s input e =
+    let h = neither (ltb captureMost (length input)) (not (eqb (length input % size s) 0)) e in
+    (ltb-false captureMost (length input) (h .0), eqb-true (length input % size s) 0 (not-false (eqb (length input % size s) 0) (h .1)))
+
+-- ---- what the take's stretches need of the table
+
+module _ (s : Shape) (input items table : List ℕ) (n : ℕ) where
+  pub table-fits : Taken s input items table n → n ≤ length table
+  table-fits t = t .finished .within
+
+  pub prefix-long : Taken s input items table n → n ≡ length (take n table)
+  prefix-long t = sym (length-take-le n table (t .finished .within))

@@ -1,0 +1,81 @@
+-- `repack::convert` meets its contract: a record's fault is the answer, or what writing the stretches answers. Assumes nothing.
+use mathlib.Core.Path.{_≡_, refl, sym, ap, _∙_}
+use Prim.Native.Nat.{ℕ, _≤_}
+use native.Mathlib.Omega.{arith}
+use lib.ListN.{length, take, replicate, length-replicate, length-take}
+use lib.Seq.{length-take-le}
+use Rattle.stream.proofs.Repack.{width-fits}
+use Rattle.repack_parse.specs.Read.{Taken}
+use Rattle.repack.proofs.Answer.{bad-record, no-fault, length-fits, table-fits, prefix-long}
+use borrow.Author.Needs.{needs}
+use Rattle.repack.proofs.convert.Statement.{statement}
+use Rattle.repack.proofs.convert.Tie as tie
+
+slice-aggregate-parse : tie.Need-slice-aggregate-parse
+slice-aggregate-parse c = search needs
+
+slice-aggregate-parse-2 : tie.Need-slice-aggregate-parse-2
+slice-aggregate-parse-2 c = search needs
+
+parse-requires : tie.Need-parse-requires
+parse-requires c κs =
+    let a = c .before .before .before .before .args in
+    let w = width-fits (a .s .width) (c .before .before .before .before .pre .0) in
+    let l = length-fits (a .s) (a .input .now) (c .before .before .before .before .pre .2) in
+    ((w .low, w .high, l .0, l .1), (length-replicate {A = ℕ} 45600 0, length-replicate {A = ℕ} 8193 0))
+
+enum-known-p : tie.Need-enum-known-p
+enum-known-p c = search needs
+
+enum-known-p-2 : tie.Need-enum-known-p-2
+enum-known-p-2 c = search needs
+
+slice-aggregate-emit : tie.Need-slice-aggregate-emit
+slice-aggregate-emit c = search needs
+
+array-share-prefix-table : tie.Need-array-share-prefix-table
+array-share-prefix-table c = table-fits (c .before .before .before .before .before .before .before .before .before .before .before .before .args .s) (c .before .before .before .before .before .before .before .before .before .before .before .before .args .input .now) (c .before .before .before .before .before .before .before .parse .last .1 .1 .0) (c .before .before .before .before .before .before .before .parse .last .1 .1 .1 .0) (c .before .before .before .p2 .given .0 .0) (rw (c .before .before .before .p2 .given .1) at (c .before .before .before .before .before .before .before .parse .ensures))
+
+slice-aggregate-emit-2 : tie.Need-slice-aggregate-emit-2
+slice-aggregate-emit-2 c = prefix-long (c .before .before .before .before .before .before .before .before .before .before .before .before .before .args .s) (c .before .before .before .before .before .before .before .before .before .before .before .before .before .args .input .now) (c .before .before .before .before .before .before .before .before .parse .last .1 .1 .0) (c .before .before .before .before .before .before .before .before .parse .last .1 .1 .1 .0) (c .before .before .before .before .p2 .given .0 .0) (rw (c .before .before .before .before .p2 .given .1) at (c .before .before .before .before .before .before .before .before .parse .ensures))
+
+emit-requires : tie.Need-emit-requires
+emit-requires c κs =
+    let a = c .before .before .before .before .before .before .before .before .before .before .before .before .before .args in
+    let w = width-fits (a .v) (c .before .before .before .before .before .before .before .before .before .before .before .before .before .pre .1) in
+    let t : Taken (a .s) (a .input .now) (c .before .before .before .before .before .before .before .before .parse .last .1 .1 .0) (c .before .before .before .before .before .before .before .before .parse .last .1 .1 .1 .0) (c .before .before .before .before .p2 .given .0 .0) = (rw (c .before .before .before .before .p2 .given .1) at (c .before .before .before .before .before .before .before .before .parse .ensures)) in
+    (w .low, w .high, t .finished .held, omega (arith, length-take (c .before .before .before .before .p2 .given .0 .0) (c .before .before .before .before .before .before .before .before .parse .last .1 .1 .1 .0), c .before .before .before .before .before .before .before .before .parse .kept .1 .1 .1 .0, length-replicate {A = ℕ} 8193 0))
+
+returns : tie.Need-returns
+returns c =
+    let a = c .before .before .before .before .before .before .before .before .before .before .args in
+    let p = c .before .before .before .before .before .before .before .before .before .before .pre in
+    bad-record (a .s) (a .v) (a .input .now) (a .out .now) (p .0) (p .1) (p .2) (c .before .p .given .0 .0) (rw (c .before .p .given .1) at (c .before .before .before .before .before .parse .ensures))
+
+same-length : tie.Need-same-length
+same-length c = search needs
+
+returns-2 : tie.Need-returns-2
+returns-2 c =
+    let a = c .before .before .before .before .before .before .before .before .before .before .before .before .before .before .before .before .args in
+    let p = c .before .before .before .before .before .before .before .before .before .before .before .before .before .before .before .before .pre in
+    let t : Taken (a .s) (a .input .now) (c .before .before .before .before .before .before .before .before .before .before .before .parse .last .1 .1 .0) (c .before .before .before .before .before .before .before .before .before .before .before .parse .last .1 .1 .1 .0) (c .before .before .before .before .before .before .before .p2 .given .0 .0) = (rw (c .before .before .before .before .before .before .before .p2 .given .1) at (c .before .before .before .before .before .before .before .before .before .before .before .parse .ensures)) in
+    no-fault (a .s) (a .v) (a .input .now) (a .out .now) (p .0) (p .1) (p .2) (c .before .before .before .before .before .before .before .before .before .before .before .parse .last .1 .1 .0) (take (c .before .before .before .before .before .before .before .p2 .given .0 .0) (c .before .before .before .before .before .before .before .before .before .before .before .parse .last .1 .1 .1 .0))
+    (c .before .before .emit .last .0) (c .before .before .emit .result) (t .faultless) (t .finished .is) (c .before .before .emit .ensures)
+
+pub convert-spec : {M : Type 1} → statement M
+convert-spec =
+    tie.close
+    (tie.spec
+    slice-aggregate-parse
+    slice-aggregate-parse-2
+    parse-requires
+    enum-known-p
+    enum-known-p-2
+    slice-aggregate-emit
+    array-share-prefix-table
+    slice-aggregate-emit-2
+    emit-requires
+    returns
+    same-length
+    returns-2)

@@ -1,0 +1,43 @@
+// The public call `repack`: a take of transfer records as its packed form at another width, or a refusal.
+// Reading the take is in repack_parse, writing the records in repack_emit.
+use refusal::Refusal;
+use repack_parse::Parsed;
+use stream::Shape;
+use stream::Written;
+ghost use mathlib.Core.Path.{_≡_};
+ghost use mathlib.Core.Bool.{false};
+ghost use lib.ListN.{length};
+ghost use Rattle.stream.specs.Checks.{widthCheck, lengthCheck};
+ghost use Rattle.repack.specs.Repacked.{Repacked};
+
+// The widths and the length have passed their tests. The two arrays hold the take's items, one code each, and its
+// stretches, one entry each; nothing is written to `out` before all records are read and the answer is known to fit.
+fn convert(s: Shape, v: usize, input: &[u8], out: &mut [u8]) -> Written
+    requires { ⌜ (widthCheck (s .width) .found ≡ false) × (widthCheck v .found ≡ false) × (lengthCheck s (now input) .found ≡ false) ⌝ }
+    ensures { λ r. ⌜ Repacked s v (now (input .entry)) (now (out .entry)) (now (out .exit)) r ⌝ }
+{
+    let mut items = [0u16; 45600];
+    let mut table = [0u32; 8193];
+    let p = repack_parse::parse(s, input, &mut items, &mut table);
+    match p {
+        Parsed::Refused(r) => Written::Refused(r),
+        Parsed::Stretches(n) => { repack_emit::emit(out, &items, &table[..n], Shape { width: v }) }
+    }
+}
+
+// Repacks the take `input` of shape s to width v into `out`. Answers the number of records written, or refuses: 1 for
+// either width, 2, then record by record 3 before 4, then 5. Refused, `out` keeps its content.
+pub fn repack(s: Shape, v: usize, input: &[u8], out: &mut [u8]) -> Written
+    ensures { λ r. ⌜ Repacked s v (now (input .entry)) (now (out .entry)) (now (out .exit)) r ⌝ }
+{
+    if record::bad_width(s.width) {
+        return Written::Refused(Refusal::Width);
+    }
+    if record::bad_width(v) {
+        return Written::Refused(Refusal::Width);
+    }
+    if record::bad_length(s, input) {
+        return Written::Refused(Refusal::Length);
+    }
+    convert(s, v, input, out)
+}

@@ -1,0 +1,135 @@
+-- Lent memory while it is written: one record at its place, and the octets of one record. Assumes nothing.
+use mathlib.Core.Path.{_≡_, refl, sym, ap, _∙_, subst}
+use mathlib.Core.Bool.{Bool, true, false}
+use mathlib.Core.List.{List, [], _∷_, _++_, map, append-assoc, append-nil}
+use mathlib.Core.Option.{Option, none, some}
+use Prim.Native.Nat.{ℕ, zero, suc, _+_, _-_, _*_, _/_, _%_, _^_, _≤_, _<_}
+use native.Mathlib.Omega.{arith}
+use lib.ListN.{length, take, drop, replicate, length-append, length-drop, length-take, length-map, length-replicate, drop-of-length-le}
+use lib.Seq.{take-all, take-at, drop-at, drop-drop, length-take-le, take-append-seam}
+use Rattle.stream.specs.declared.Shape.{Shape}
+use Rattle.stream.specs.Items.{Pair}
+use Rattle.stream.specs.Packed.{fitted}
+use Rattle.stream.specs.Layout.{size, odd, bitOf, maskOf, Kept, keepBit, strbBit, laneOctet, octetsOf}
+use Rattle.record.specs.Write.{headerOctets}
+use Rattle.scratch.specs.Codes.{keptOf, pairFrom}
+use Rattle.repack_emit.specs.Write.{itemOctet, itemStrobe, recordOf, Writing, Writes}
+use Rattle.repack_emit.proofs.Lanes.{lanes-octets, lanes-strb, lanes-keep}
+
+-- ---- a record at its place
+
+module _ (out rec : List ℕ) (to z : ℕ) (l : length rec ≡ z) (h : to + z ≤ length out) where
+  placed : List ℕ
+  placed = (take to out ++ rec) ++ drop (to + z) out
+
+  front-long : length (take to out ++ rec) ≡ to + z
+  front-long = length-append (take to out) rec ∙ omega (arith, length-take-le to out (omega arith))
+
+  placed-long : length placed ≡ length out
+  unfolding placed
+  placed-long = length-append (take to out ++ rec) (drop (to + z) out) ∙ omega (arith, front-long, length-drop (to + z) out)
+
+  placed-writes : Writes rec out to placed (to + z)
+  unfolding placed
+  placed-writes before whole rest w =
+      record {
+        same = placed-long ∙ w .same;
+        room = omega (arith, placed-long, w .room, length-append rec rest);
+        is = rw (take-at (take to out ++ rec) (drop (to + z) out) (to + z) front-long) (append-assoc (take to out) rec rest ∙ w .is);
+        after =
+            drop-at (take to out ++ rec) (drop (to + z) out) (to + z) front-long
+            ∙ sym (drop-drop z to out) ∙ ap (drop z) (w .after) ∙ drop-drop z to before;
+      }
+
+  -- what the lent part comes back as
+  module _ (k : ℕ) (e : k ≡ length out - to) where
+    lent-placed : take to out ++ ((rec ++ drop z (take k (drop to out))) ++ drop k (drop to out)) ≡ placed
+    unfolding placed
+    lent-placed =
+        let all : length (drop to out) ≤ k = omega (arith, length-drop to out) in
+        rw (take-all k (drop to out) all, drop-of-length-le (drop to out) all)
+        (rw (append-nil (rec ++ drop z (drop to out)), drop-drop z to out) (sym (append-assoc (take to out) rec (drop (to + z) out))))
+
+    pub lent-long : length (take to out ++ ((rec ++ drop z (take k (drop to out))) ++ drop k (drop to out))) ≡ length out
+    lent-long = ap length lent-placed ∙ placed-long
+
+    pub lent-writes : Writes rec out to (take to out ++ ((rec ++ drop z (take k (drop to out))) ++ drop k (drop to out))) (to + z)
+    lent-writes = rw lent-placed placed-writes
+
+-- ---- the octets of a record
+
+module _ (out octs zeros hdr : List ℕ) (n v : ℕ) (k : n ≤ v) (l : length octs ≡ n) (h : 7 + v ≤ length out) where
+  with-items : List ℕ
+  with-items = take 7 out ++ (octs ++ drop (7 + n) out)
+
+  items-front : with-items ≡ (take 7 out ++ octs) ++ drop (7 + n) out
+  unfolding with-items
+  items-front = sym (append-assoc (take 7 out) octs (drop (7 + n) out))
+
+  items-long : length (take 7 out ++ octs) ≡ 7 + n
+  items-long = length-append (take 7 out) octs ∙ omega (arith, length-take-le 7 out (omega arith))
+
+  items-before : take (7 + n) with-items ≡ take 7 out ++ octs
+  items-before = ap (take (7 + n)) items-front ∙ take-at (take 7 out ++ octs) (drop (7 + n) out) (7 + n) items-long
+
+  items-after : drop (7 + v) with-items ≡ drop (7 + v) out
+  items-after =
+      let sum : 7 + n + (v - n) ≡ 7 + v = omega arith in
+      ap (λ (m : ℕ). drop m with-items) (sym sum) ∙ sym (drop-drop (v - n) (7 + n) with-items)
+      ∙ ap (drop (v - n)) (ap (drop (7 + n)) items-front ∙ drop-at (take 7 out ++ octs) (drop (7 + n) out) (7 + n) items-long)
+      ∙ drop-drop (v - n) (7 + n) out ∙ ap (λ (m : ℕ). drop m out) sum
+
+  with-nulls : take (7 + n) with-items ++ (zeros ++ drop (7 + v) with-items) ≡ take 7 out ++ (octs ++ (zeros ++ drop (7 + v) out))
+  with-nulls = rw (items-before, items-after) (append-assoc (take 7 out) octs (zeros ++ drop (7 + v) out))
+
+  lanes-stand : drop 7 (take (7 + n) with-items ++ (zeros ++ drop (7 + v) with-items)) ≡ octs ++ (zeros ++ drop (7 + v) out)
+  lanes-stand = ap (drop 7) with-nulls ∙ drop-at (take 7 out) (octs ++ (zeros ++ drop (7 + v) out)) 7 (length-take-le 7 out (omega arith))
+
+  -- items, nulls and header, one after the other
+  pub three-writes : (out1 out2 out3 : List ℕ) → out1 ≡ take 7 out ++ (octs ++ drop (7 + n) out)
+      → out2 ≡ take (7 + n) out1 ++ (zeros ++ drop (7 + v) out1) → out3 ≡ hdr ++ drop 7 out2
+      → out3 ≡ hdr ++ (octs ++ (zeros ++ drop (7 + v) out))
+  unfolding with-items
+  three-writes out1 out2 out3 e f g =
+      g ∙ ap (λ (o : List ℕ). hdr ++ drop 7 o) (f ∙ ap (λ (o : List ℕ). take (7 + n) o ++ (zeros ++ drop (7 + v) o)) e) ∙ ap (λ (o : List ℕ). hdr ++ o) lanes-stand
+
+last-bit : (last : ℕ) → last ≤ 1 → bitOf (odd last) ≡ last % 256
+last-bit zero h = refl
+last-bit (suc zero) h = refl
+last-bit (suc (suc n)) h = absurd (omega arith)
+
+-- header, items and nulls are the record
+pub record-octets : (t : Shape) (pair last : ℕ) (codes tail : List ℕ) → length codes ≤ t .width → pair < 65536 → last ≤ 1
+    → headerOctets (last % 256) (pair % 256) (pair / 256 % 256) (2 ^ length codes - 1) (maskOf (map itemStrobe codes))
+    ++ (map itemOctet codes ++ (replicate {A = ℕ} (t .width - length codes) 0 ++ tail))
+    ≡ octetsOf (recordOf (t .width) (pairFrom pair) codes (odd last)) ++ tail
+record-octets t pair last codes tail h p l =
+    let high : pair / 256 % 256 ≡ pair / 256 = omega arith in
+    rw (lanes-keep (t .width) codes h, lanes-strb (t .width) codes h, lanes-octets (t .width) codes h, last-bit last l, high)
+    (rw (append-assoc (map itemOctet codes) (replicate {A = ℕ} (t .width - length codes) 0) tail) refl)
+
+-- what the three writes of a record come to
+pub record-written : (t : Shape) (out out1 out2 out3 items : List ℕ) (n pair last keep strb : ℕ)
+    → n ≤ t .width → n ≤ length items → size t ≤ length out → pair < 65536 → last ≤ 1 → keep ≡ 2 ^ n - 1
+    → strb ≡ maskOf (map itemStrobe (take n items))
+    → out1 ≡ take 7 out ++ (map itemOctet (take n items) ++ drop (7 + n) out)
+    → out2 ≡ take (7 + n) out1 ++ (replicate {A = ℕ} (t .width - n) 0 ++ drop (7 + t .width) out1)
+    → out3 ≡ headerOctets (last % 256) (pair % 256) (pair / 256 % 256) keep strb ++ drop 7 out2
+    → out3 ≡ octetsOf (recordOf (t .width) (pairFrom pair) (take n items) (odd last)) ++ drop (size t) out
+unfolding size
+record-written t out out1 out2 out3 items n pair last keep strb k i h p l ke se e f g =
+    let long : length (take n items) ≡ n = length-take-le n items i in
+    three-writes out (map itemOctet (take n items)) (replicate {A = ℕ} (t .width - n) 0) (headerOctets (last % 256) (pair % 256) (pair / 256 % 256) keep strb)
+    n (t .width) k (length-map (take n items) itemOctet ∙ long) h out1 out2 out3 e f g
+    ∙ rw (ke, se)
+    (subst
+    (λ (m : ℕ).
+    headerOctets (last % 256) (pair % 256) (pair / 256 % 256) (2 ^ m - 1) (maskOf (map itemStrobe (take n items)))
+    ++ (map itemOctet (take n items) ++ (replicate {A = ℕ} (t .width - m) 0 ++ drop (7 + t .width) out))
+    ≡ octetsOf (recordOf (t .width) (pairFrom pair) (take n items) (odd last)) ++ drop (7 + t .width) out)
+    long (record-octets t pair last (take n items) (drop (7 + t .width) out) (omega arith) p l))
+
+-- a record's octets are its header's and its lanes'
+pub size-is : (t : Shape) → size t ≡ 7 + t .width
+unfolding size
+size-is t = refl

@@ -1,0 +1,56 @@
+-- What is written of stretches that are held as codes, and what holds while it is written, stated by what remains.
+use mathlib.Core.Path.{_≡_}
+use mathlib.Core.Bool.{Bool}
+use mathlib.Core.List.{List, [], _∷_, _++_, map}
+use mathlib.Core.Option.{Option, some}
+use Prim.Native.Nat.{ℕ, _+_, _-_, _/_, _≤_}
+use lib.ListN.{length, take, drop}
+use Rattle.stream.specs.declared.Shape.{Shape}
+use Rattle.stream.specs.declared.Written.{Written}
+use Rattle.stream.specs.Items.{Pair, Transfer}
+use Rattle.stream.specs.Packed.{fitted, spread, packStretches}
+use Rattle.stream.specs.Layout.{Kept, strbBit, laneOctet, octetsOf, octets}
+use Rattle.stream.specs.Checks.{first, roomCheck}
+use Rattle.stream.specs.Answers.{written, lentAfter}
+use Rattle.scratch.specs.Codes.{keptOf, entryCount, stretchesOf}
+
+-- the data octet and the strobe of an item
+abbrev pub itemOctet : ℕ → ℕ
+itemOctet x = laneOctet (some (keptOf x))
+
+abbrev pub itemStrobe : ℕ → Bool
+itemStrobe x = strbBit (some (keptOf x))
+
+-- one record with the items of these codes from lane 0 up
+abbrev pub recordOf : ℕ → Pair → List ℕ → Bool → Transfer Kept
+recordOf v pair codes last = record { pair = pair; lanes = fitted v (map some (map keptOf codes)); last = last }
+
+-- the octets of a stretch with the items of these codes
+abbrev pub stretchOctets : ℕ → Pair → List ℕ → Bool → List ℕ
+stretchOctets v pair codes last = octets (spread ((length codes - 1) / v) v pair (map some (map keptOf codes)) last)
+
+-- how many records the stretches of a table give
+abbrev pub countOf : ℕ → List ℕ → ℕ
+countOf v [] = 0
+countOf v (e ∷ es) = (entryCount e - 1) / v + 1 + countOf v es
+
+-- Of `whole` all but `rest` is written, up to octet `to`; from there on the memory is as it was.
+pub record Writing (before out : List ℕ) (to : ℕ) (whole rest : List ℕ) : Type 0 where
+  pub same : length out ≡ length before
+  pub room : to + length rest ≤ length out
+  pub is : take to out ++ rest ≡ whole
+  pub after : drop to out ≡ drop to before
+
+-- these octets, more, are written
+abbrev pub Writes : List ℕ → List ℕ → ℕ → List ℕ → ℕ → Type 0
+Writes octets out to after next =
+    (before whole rest : List ℕ) → Writing before out to whole (octets ++ rest) → Writing before after next whole rest
+
+-- what writing the records of stretches answers, and the memory after it
+pub record Emitted (v : ℕ) (items table out after : List ℕ) (r : Written) : Type 0 where
+  pub answer :
+      r ≡ written (first (roomCheck (octets (packStretches v (stretchesOf table items))) (length out) ∷ []))
+      (length (packStretches v (stretchesOf table items)))
+  pub memory :
+      after ≡ lentAfter (first (roomCheck (octets (packStretches v (stretchesOf table items))) (length out) ∷ []))
+      (octets (packStretches v (stretchesOf table items))) out

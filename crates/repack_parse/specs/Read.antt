@@ -1,0 +1,114 @@
+-- What each step of reading a take does to the item codes, to the table of stretches and to the state.
+use mathlib.Core.Path.{_≡_}
+use mathlib.Core.Bool.{Bool, cond}
+use mathlib.Core.List.{List, [], _∷_, _++_, map}
+use mathlib.Core.Option.{Option, none, some}
+use Prim.Native.Nat.{ℕ, suc, _+_, _*_, _≤_, _<_}
+use lib.ListN.{length, take}
+use Rattle.refusal.specs.declared.Refusal.{Refusal}
+use Rattle.stream.specs.declared.Shape.{Shape}
+use Rattle.stream.specs.Items.{Item, end, itemPair, transferItems}
+use Rattle.stream.specs.Packed.{Stretch, cut}
+use Rattle.stream.specs.Layout.{bit, typesOf, anyReserved, Kept, transferOf, records, streamItems}
+use Rattle.stream.specs.Checks.{first, transferFlags, transferChecks}
+use Rattle.record.specs.declared.Header.{Header}
+use Rattle.record.specs.declared.Fault.{Fault}
+use Rattle.record.specs.declared.Fault.the-variants.{Sound, Field, Reserved}
+use Rattle.record.specs.Header.{headerFault}
+use Rattle.scratch.specs.declared.Open.{Open}
+use Rattle.scratch.specs.Codes.{sifted, pairFrom, stretchesOf, total}
+use Rattle.scratch.specs.Stands.{Stands}
+use Rattle.repack_parse.specs.declared.Next.{Next}
+use Rattle.repack_parse.specs.declared.Next.the-variants.{Read, Refused as NotRead}
+use Rattle.repack_parse.specs.declared.Parsed.{Parsed}
+use Rattle.repack_parse.specs.declared.Parsed.the-variants.{Stretches, Refused}
+
+-- a data lane's code
+abbrev pub dataCode : ℕ → ℕ
+dataCode d = d + 256
+
+-- the fault of a header, FIELD before RESERVED
+abbrev pub judged : Header → Shape → Fault
+judged h s = cond (headerFault transferFlags s h) Field (cond (anyReserved (typesOf (s .width) (h .keep) (h .strb))) Reserved Sound)
+
+-- the codes of a record's kept lanes stand behind those before them, up to place r
+pub record Gathered (keep strb : ℕ) (lanes items : List ℕ) (at : ℕ) (after : List ℕ) (r : ℕ) : Type 0 where
+  pub same : length after ≡ length items
+  pub beyond : at ≤ r
+  pub within : r ≤ at + length lanes
+  pub is : take r after ≡ take at items ++ sifted (length lanes) keep strb lanes
+
+-- Room in the table: while k records are read there are at most k stretches, and fewer while bytes are open.
+abbrev pub Few : Open → ℕ → ℕ → Type 0
+Few st k more = 65536 * st .closed + st .items ≤ 65536 * k + more + st .start
+
+-- before an item of this pair: the open stretch has the pair
+pub record Turned (pair : ℕ) (table : List ℕ) (st : Open) (after : List ℕ) (r : Open) : Type 0 where
+  pub same : length after ≡ length table
+  pub items : r .items ≡ st .items
+  pub paired : r .pair ≡ pair
+  pub started : r .start ≤ r .items
+  pub closed : r .closed ≤ st .closed + 1
+  pub few : (k : ℕ) → Few st k 0 → Few r k 0
+  pub stands :
+      (codes : List ℕ) (i : Item Kept) (rest : List (Item Kept)) (all : List (Stretch Kept)) → itemPair i ≡ pairFrom pair
+      → Stands codes (take (st .closed) table) st (i ∷ rest) all → Stands codes (take (r .closed) after) r (i ∷ rest) all
+
+-- after a record's lanes: its end, where it has TLAST, is behind the open bytes
+pub record Ended (flags : ℕ) (table : List ℕ) (st : Open) (after : List ℕ) (r : Open) : Type 0 where
+  pub same : length after ≡ length table
+  pub items : r .items ≡ st .items
+  pub pair : r .pair ≡ st .pair
+  pub started : r .start ≤ r .items
+  pub few : (k : ℕ) → Few st k 16 → Few r (k + 1) 0
+  pub stands :
+      (codes : List ℕ) (rest : List (Item Kept)) (all : List (Stretch Kept))
+      → Stands codes (take (st .closed) table) st (cond (bit 0 flags) (end (pairFrom (st .pair)) ∷ []) [] ++ rest) all
+      → Stands codes (take (r .closed) after) r rest all
+
+-- one record more is read
+pub record Added (s : Shape) (rec items table : List ℕ) (st : Open) (itemsAfter tableAfter : List ℕ) (r : Open) : Type 0 where
+  pub sameItems : length itemsAfter ≡ length items
+  pub sameTable : length tableAfter ≡ length table
+  pub kept : r .items ≤ st .items + s .width
+  pub pair : r .pair < 4096
+  pub started : r .start ≤ r .items
+  pub few : (k : ℕ) → Few st k 0 → Few r (k + 1) 0
+  pub stands :
+      (rest : List (Item Kept)) (all : List (Stretch Kept))
+      → Stands (take (st .items) items) (take (st .closed) table) st (transferItems (transferOf s rec) ++ rest) all
+      → Stands (take (r .items) itemsAfter) (take (r .closed) tableAfter) r rest all
+
+-- a state that another record can be read from: the arrays have room for it
+pub record Ready (s : Shape) (items table : List ℕ) (st : Open) : Type 0 where
+  pub low : 1 ≤ s .width
+  pub high : s .width ≤ 16
+  pub started : st .start ≤ st .items
+  pub pair : st .pair < 4096
+  pub holds : st .items + s .width ≤ length items
+  pub small : length items < 65536
+  pub lists : st .closed + 1 < length table
+
+pub record Sounds (s : Shape) (rec : List ℕ) (k : ℕ) (items table : List ℕ) (st : Open) (itemsAfter tableAfter : List ℕ) (r : Open) : Type 0 where
+  pub faultless : first (transferChecks s k (rec ∷ [])) ≡ none
+  pub added : Added s rec items table st itemsAfter tableAfter r
+
+-- what reading record k gives
+abbrev pub NextIs : Shape → List ℕ → ℕ → List ℕ → List ℕ → Open → List ℕ → List ℕ → Next → Type 0
+NextIs s rec k items table st itemsAfter tableAfter (NotRead f) = first (transferChecks s k (rec ∷ [])) ≡ some f
+NextIs s rec k items table st itemsAfter tableAfter (Read r) = Sounds s rec k items table st itemsAfter tableAfter r
+
+-- n stretches in the table, all that a take has
+pub record Finished (n : ℕ) (items table : List ℕ) (all : List (Stretch Kept)) : Type 0 where
+  pub within : n ≤ length table
+  pub held : total (take n table) ≤ length items
+  pub is : stretchesOf (take n table) items ≡ all
+
+pub record Taken (s : Shape) (input items table : List ℕ) (n : ℕ) : Type 0 where
+  pub faultless : first (transferChecks s 0 (records s input)) ≡ none
+  pub finished : Finished n items table (cut (streamItems s input))
+
+-- what reading a take gives: the first fault of its records, or its stretches
+abbrev pub ParsedIs : Shape → List ℕ → List ℕ → List ℕ → Parsed → Type 0
+ParsedIs s input items table (Refused f) = first (transferChecks s 0 (records s input)) ≡ some f
+ParsedIs s input items table (Stretches n) = Taken s input items table n
