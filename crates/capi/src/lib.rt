@@ -10,6 +10,7 @@ use refusal::Refusal;
 pub use stream_calls::urd_data_octets;
 pub use stream_calls::urd_fill_in;
 pub use stream_calls::urd_judge;
+pub use stream_calls::urd_repack;
 ghost use mathlib.Core.Path.{_≡_};
 ghost use Rattle.burst_spec.specs.Answers.{burstOf, judgement, beatAnswer, stepAnswer, judgementShows, beatShows, stepShows, refusalRow};
 ghost use Rattle.capi.specs.Shows.{ShowsRow};

@@ -17,13 +17,12 @@ use Rattle.stream.specs.declared.Written.the-variants.{Refused}
 use Rattle.stream.specs.Packed.{Stretch, cut, packStretches}
 use Rattle.stream.specs.Layout.{size, records, streamItems, octets, packedTransfers, packed}
 use Rattle.stream.specs.Checks.{Check, check, first, widthCheck, captureMost, lengthCheck, transferChecks, roomCheck}
-use Rattle.stream.specs.Answers.{written, lentAfter, repackRefusal, repackAnswer, repackAfter, writtenValues}
+use Rattle.stream.specs.Answers.{Repacked, written, lentAfter, repackRefusal, repackAnswer, repackAfter, writtenValues}
 use Rattle.stream.proofs.Bools.{neither}
 use Rattle.stream.proofs.Repack.{WidthFits, width-fits}
 use Rattle.scratch.specs.Codes.{stretchesOf}
 use Rattle.repack_parse.specs.Read.{Taken}
 use Rattle.repack_emit.specs.Write.{Emitted}
-use Rattle.repack.specs.Repacked.{Repacked}
 
 -- ---- a refusal that comes first is the answer
 
@@ -47,12 +46,12 @@ module _ (s : Shape) (v : ℕ) (input out : List ℕ) where
   -- the answer and the memory of a refusal, and of any outcome
   pub refused : (f : Refusal) → repackRefusal s v input (length out) ≡ some f → Repacked s v input out out (Refused f)
   unfolding repackAnswer repackAfter
-  refused f e = record { answer = rw e refl; memory = rw e refl; numbers = rw e refl }
+  refused f e = record { is = rw e refl; leaves = rw e refl; says = rw e refl }
 
   pub answered : (o : Option Refusal) (after : List ℕ) (r : Written) → repackRefusal s v input (length out) ≡ o
       → r ≡ written o (length (packedTransfers s v input)) → after ≡ lentAfter o (packed s v input) out → Repacked s v input out after r
   unfolding repackAnswer repackAfter
-  answered o after r e f g = record { answer = rw e f; memory = rw e g; numbers = rw (e, f) refl }
+  answered o after r e f g = record { is = rw e f; leaves = rw e g; says = rw (e, f) refl }
 
   pub bad-width : widthCheck (s .width) .found ≡ true → Repacked s v input out out (Refused Width)
   bad-width h = refused Width (rw h refl)

@@ -8,7 +8,7 @@ ghost use mathlib.Core.Path.{_≡_};
 ghost use mathlib.Core.Bool.{false};
 ghost use lib.ListN.{length};
 ghost use Rattle.stream.specs.Checks.{widthCheck, lengthCheck};
-ghost use Rattle.repack.specs.Repacked.{Repacked};
+ghost use Rattle.stream.specs.Answers.{Repacked};
 
 // The widths and the length have passed their tests. The two arrays hold the take's items, one code each, and its
 // stretches, one entry each; nothing is written to `out` before all records are read and the answer is known to fit.
