@@ -1,8 +1,13 @@
 // Runs paper 01's bench cases through the library's calls and prints what each answers, a line an answer. What it must
 // print is in the file stdout, typed from the paper. The starred cases are also proved of the definitions (specs/Starred).
 mod bursts;
+mod streams;
 
 fn main() {
+    streams::packed();
+    streams::three_pairs();
+    streams::findings();
+    streams::bounds();
     bursts::beats();
     bursts::wrap();
     bursts::boundary();

@@ -1,0 +1,151 @@
+// The stream cases S1 and S3 to S7, the bounds of a take, and each finding. The output is lent 24 octets EE, and all of them
+// are printed, so that what is not written shows.
+use refusal::Refusal;
+use stream::Shape;
+use stream::Verdict;
+use stream::Written;
+
+fn number(key: &[u8], n: u64) {
+    io::write_all(1, key);
+    io::print_decimal(1, n);
+}
+
+fn refused(r: Refusal) {
+    let code = refusal::code_of(r);
+    number(b" refusal=", code.0 as u64);
+    number(b" place=", code.1 as u64);
+    number(b" rule=", code.2 as u64);
+}
+
+fn octets(s: &[u8]) {
+    let mut i = 0;
+    while i < s.len() {
+        io::write_all(1, b" ");
+        io::print_hex(1, wide(s[i]), 2);
+        i += 1;
+    }
+}
+
+fn wide(x: u8) -> u64 {
+    x as u64
+}
+
+fn written(w: Written) {
+    match w {
+        Written::Records(n) => number(b" records=", n as u64),
+        Written::Refused(r) => refused(r),
+    }
+}
+
+// Repacks from width w to width v.
+fn repack_to(name: &[u8], w: usize, v: usize, input: &[u8]) {
+    let mut out = [0xEEu8; 24];
+    let answer = repack::repack(Shape { width: w }, v, input, &mut out);
+    io::write_all(1, name);
+    written(answer);
+    octets(&out);
+    io::write_all(1, b"\n");
+}
+
+// Judges a take.
+fn judge(name: &[u8], w: usize, capture: &[u8]) {
+    io::write_all(1, name);
+    match handshake::judge(Shape { width: w }, capture) {
+        Verdict::Clean(n) => number(b" clean=", n as u64),
+        Verdict::Broken(cycle, rule) => {
+            number(b" cycle=", cycle as u64);
+            number(b" rule=", rule as u64);
+        }
+        Verdict::Refused(r) => refused(r),
+    }
+    io::write_all(1, b"\n");
+}
+
+// S1, S3, S4, S5, S6
+pub fn packed() {
+    repack_to(b"S1", 4, 4, b"\x01\x01\x02\x0D\x00\x09\x00\x11\x22\x33\x44");
+    repack_to(
+        b"S3",
+        1,
+        1,
+        b"\x00\x00\x00\x01\x00\x01\x00\xAA\x01\x00\x00\x00\x00\x00\x00\x00",
+    );
+    repack_to(
+        b"S4",
+        1,
+        1,
+        b"\x01\x00\x00\x00\x00\x00\x00\x00\x01\x00\x00\x00\x00\x00\x00\x00",
+    );
+    repack_to(b"S5", 1, 1, b"\x00\x00\x00\x00\x00\x00\x00\x00");
+    repack_to(b"S6", 1, 1, b"");
+}
+
+// S7: TIDs 1, 2, 1 are three records at every width.
+pub fn three_pairs() {
+    let input =
+        b"\x00\x01\x00\x01\x00\x01\x00\x07\x00\x02\x00\x01\x00\x01\x00\x08\x00\x01\x00\x01\x00\x01\x00\x09";
+    let mut v = 1;
+    while v <= 16 {
+        let mut out = [0xEEu8; 69];
+        let answer = repack::repack(Shape { width: 1 }, v, input, &mut out);
+        number(b"S7 width=", v as u64);
+        written(answer);
+        io::write_all(1, b"\n");
+        v += 1;
+    }
+}
+
+// R1 to R4, and a reset that ends a wait.
+pub fn findings() {
+    judge(
+        b"R1",
+        1,
+        b"\x08\x00\x00\x00\x00\x00\x00\x00\x02\x00\x00\x00\x00\x00\x00\x00",
+    );
+    judge(
+        b"R2",
+        1,
+        b"\x0A\x00\x00\x01\x00\x01\x00\x07\x08\x00\x00\x01\x00\x01\x00\x07",
+    );
+    judge(
+        b"R3",
+        1,
+        b"\x0A\x05\x00\x01\x00\x01\x00\x07\x0E\x06\x00\x01\x00\x01\x00\x07",
+    );
+    judge(
+        b"R4",
+        1,
+        b"\x08\x00\x00\x00\x00\x00\x00\x00\x0A\x00\x00\x00\x00\x01\x00\x00",
+    );
+    judge(
+        b"RESET",
+        1,
+        b"\x0A\x05\x00\x01\x00\x01\x00\x07\x00\x00\x00\x00\x00\x00\x00\x00\x08\x00\x00\x00\x00\x00\x00\x00",
+    );
+}
+
+// A take of 65,536 octets at widths 1 and 9, and one record more; widths 0, 16 and 17; each field's bound.
+pub fn bounds() {
+    let long = [0u8; 65552];
+    judge(b"TAKE", 1, &long[..65536]);
+    judge(b"TAKE", 9, &long[..65536]);
+    judge(b"TAKE", 1, &long[..65544]);
+    judge(b"TAKE", 9, &long[..65552]);
+    judge(b"TAKE", 1, &long[..65535]);
+    judge(b"WIDTH", 0, b"");
+    judge(b"WIDTH", 16, b"");
+    judge(b"WIDTH", 17, b"");
+    judge(
+        b"FIELD",
+        1,
+        b"\x0F\xFF\x0F\x01\x00\x01\x00\xFF\x00\x00\x10\x00\x00\x00\x00\x00",
+    );
+    repack_to(b"FIELD", 1, 1, b"\x02\x00\x00\x00\x00\x01\x00\x00");
+    repack_to(b"RESERVED", 1, 1, b"\x00\x00\x00\x00\x00\x01\x00\x00");
+    repack_to(
+        b"ROOM",
+        1,
+        16,
+        b"\x00\x00\x00\x01\x00\x01\x00\xAA\x00\x01\x00\x01\x00\x01\x00\xAA",
+    );
+}
