@@ -7,7 +7,7 @@ use stream::Written;
 ghost use mathlib.Core.Path.{_≡_};
 ghost use lib.ListN.{length};
 ghost use Rattle.stream.specs.Handshake.{baseLevel};
-ghost use Rattle.stream.specs.Answers.{refusalValues, verdictValues, writtenValues, lookupValues, judgeAnswer, fillAnswer, fillAfter, repackAnswer, repackAfter};
+ghost use Rattle.stream.specs.Answers.{refusalValues, verdictValues, writtenValues, lookupValues, judgeAnswer, harvestAnswer, harvestAfter, fillAnswer, fillAfter, repackAnswer, repackAfter};
 ghost use Rattle.capi.specs.Shows.{ShowsValues, ShowsPart, shape};
 
 // What a stream call answers: the refusal's number, or 0; its place, or the broken cycle; the rule; the count of transfers
@@ -63,6 +63,15 @@ pub extern "C" fn urd_judge(width: usize, capture: &[u8]) -> StreamAnswer
     ensures { λ a. ⌜ ShowsValues a (verdictValues (judgeAnswer (shape width) (now (capture .entry)))) ⌝ }
 {
     of_verdict(handshake::judge(Shape { width }, capture))
+}
+
+// Writes the transfers of a clean take of cycle records into a lent output.
+#[no_mangle]
+pub extern "C" fn urd_harvest(width: usize, capture: &[u8], out: &mut [u8]) -> StreamAnswer
+    ensures { λ a. ⌜ ShowsValues a (writtenValues (harvestAnswer (shape width) (now (capture .entry)) (length (now (out .entry))))) ⌝ }
+    ensures { λ a. ⌜ now (out .exit) ≡ harvestAfter (shape width) (now (capture .entry)) (now (out .entry)) ⌝ }
+{
+    of_written(harvest::harvest(Shape { width }, capture, out))
 }
 
 // Clears TLAST in a lent take.

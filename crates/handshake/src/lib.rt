@@ -62,7 +62,7 @@ fn waiting(flags: u32) -> bool
 }
 
 // The transfers of a cycle with these flags: 1 where all three are high, else 0.
-fn transfers(flags: u32) -> usize
+pub fn transfers(flags: u32) -> usize
     ensures { λ r. ⌜ r ≡ bitOf (bit 3 flags && bit 1 flags && bit 2 flags) ⌝ }
 {
     if flags / 8 % 2 != 1 {

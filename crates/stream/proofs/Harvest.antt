@@ -68,7 +68,7 @@ reserved-kept s (f ∷ r) t e = r4-reads s (f ∷ r) t e
 octets-kept : (c : List ℕ) → Octets c → Octets (asTransfer c)
 octets-kept c h = (bit-octet (tlast c), octets-drop 1 c h)
 
-length-kept : (n : ℕ) (c : List ℕ) → 0 < n → length c ≡ n → length (asTransfer c) ≡ n
+pub length-kept : (n : ℕ) (c : List ℕ) → 0 < n → length c ≡ n → length (asTransfer c) ≡ n
 length-kept n [] h e = absurd (omega arith)
 length-kept n (f ∷ r) h e = e
 
@@ -97,7 +97,7 @@ fit s (c ∷ cs) z o g = go (transferred c) refl (fit s cs (z .1) (o .1) (g .2))
     go false e r = rw e r
     go true e r = rw e (fit-more s c (handshakes cs) (z .0) (o .0) (g .0) (g .1) e r)
 
-fewer : (cs : List (List ℕ)) → length (handshakes cs) ≤ length cs
+pub fewer : (cs : List (List ℕ)) → length (handshakes cs) ≤ length cs
 fewer [] = omega arith
 fewer (c ∷ cs) = go (transferred c) refl (fewer cs)
   where

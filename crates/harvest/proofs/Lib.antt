@@ -1,0 +1,4 @@
+pub mod Copied
+pub mod Cycle
+pub mod Fill
+pub mod Answer
