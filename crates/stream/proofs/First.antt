@@ -32,6 +32,11 @@ module _ {X : Type 0} where
   none-append [] ds h k = k
   none-append (c ∷ cs) ds h k = let e = first-none c cs h in none-first c (cs ++ ds) (e .0) (none-append cs ds (e .1) k)
 
+  -- checks that find nothing can be left out
+  pub passed : (cs ds : List (Check X)) → first cs ≡ none → first (cs ++ ds) ≡ first ds
+  passed [] ds e = refl
+  passed (c ∷ cs) ds e = let h = first-none c cs e in rw (h .0) (passed cs ds (h .1))
+
   -- what is found stands in the list, and nothing before it finds anything
   pub first-some : (cs : List (Check X)) (x : X) → first cs ≡ some x → FoundAt X cs x
   first-some [] x e = let z : _≡_ {A = ℕ} 0 1 = cc in absurd (omega arith)

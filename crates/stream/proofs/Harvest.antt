@@ -5,23 +5,24 @@ use mathlib.Core.Bool.{Bool, true, false, _&&_, _||_}
 use mathlib.Core.List.{List, [], _∷_, _++_, map}
 use mathlib.Core.Option.{Option, none, some}
 use Prim.Native.Nat.{ℕ, zero, suc, _+_, _*_, _%_, _^_, _≤_, _<_}
-use native.Mathlib.Nat.{mul-mod-left, mul-le-mul-right, div-mul-le-self}
+use borrow.Author.Tests.{le-ltb, eq-eqb}
+use native.Mathlib.Nat.{le-trans, mul-mod-left, mul-le-mul-right, div-mul-le-self}
 use native.Mathlib.Omega.{arith}
 use lib.Dec.{leb, ltb}
 use lib.ListN.{length, drop, length-map, length-append}
 use Rattle.refusal.specs.declared.Refusal.the-variants.{Field}
 use Rattle.stream.specs.declared.Shape.{Shape}
-use Rattle.stream.specs.Layout.{bitOf, flags, tlast, tvalid, aresetn, tready, pairOf, tkeep, tstrb, laneTypes, anyReserved, size, records, recordCount, joined}
-use Rattle.stream.specs.Checks.{Check, check, first, fieldFault, reservedFault, transferFlags, cycleFlags, transferChecks, cycleChecks, widthCheck, lengthCheck, roomCheck}
+use Rattle.stream.specs.Layout.{bitOf, flags, tlast, tvalid, aresetn, tready, pairOf, tkeep, tstrb, laneTypes, anyReserved, size, records, recordCount, joined, packed}
+use Rattle.stream.specs.Checks.{Check, check, first, fieldFault, reservedFault, transferFlags, cycleFlags, captureMost, transferChecks, cycleChecks, widthCheck, lengthCheck, roomCheck}
 use Rattle.stream.specs.Handshake.{r4, Finding, findings, transferred, handshakes, asTransfer, harvested}
 use Rattle.stream.specs.Answers.{judgeChecks, uncleanCheck, harvestRefusal}
 use Rattle.stream.specs.Legal.{Octets, Legal}
-use Rattle.stream.specs.Promises.{rule, HarvestLegal}
+use Rattle.stream.specs.Promises.{rule, HarvestLegal, HarvestRepacks}
 use Rattle.stream.proofs.Bools.{and-left, neither}
-use Rattle.stream.proofs.First.{first-none, none-first, append-none}
+use Rattle.stream.proofs.First.{first-none, none-first, append-none, passed}
 use Rattle.stream.proofs.Records.{size-pos, Sized, length-pieces, length-joined, records-joined, records-sized}
 use Rattle.stream.proofs.Legal.{bit-octet, bit-low, octets-append, octets-drop, EachOctets, pieces-octets, Faultless, of-faultless}
-use Rattle.stream.proofs.Repack.{width-fits}
+use Rattle.stream.proofs.Repack.{width-fits, fits-width, length-fits}
 use Rattle.stream.proofs.Findings.{none-here}
 
 -- ---- what is known of each cycle of a take that harvest accepts
@@ -108,7 +109,8 @@ fewer (c ∷ cs) = go (transferred c) refl (fewer cs)
 -- ---- harvest
 
 -- what the checks of harvest let through
-harvest-good : (s : Shape) (xs : List ℕ) (room : ℕ) → harvestRefusal s xs room ≡ none → (widthCheck (s .width) .found ≡ false) × Good s (records s xs)
+harvest-good : (s : Shape) (xs : List ℕ) (room : ℕ) → harvestRefusal s xs room ≡ none
+    → (widthCheck (s .width) .found ≡ false) × Good s (records s xs) × (lengthCheck s xs .found ≡ false)
 harvest-good s xs room e =
     let rules = map uncleanCheck (findings s 0 none (records s xs)) in
     let roomy = roomCheck (harvested s xs) room ∷ [] in
@@ -116,7 +118,7 @@ harvest-good s xs room e =
     let w = first-none (widthCheck (s .width)) (lengthCheck s xs ∷ cycleChecks s 0 (records s xs)) (j .0) in
     let l = first-none (lengthCheck s xs) (cycleChecks s 0 (records s xs)) (w .1) in
     let u = append-none rules roomy (j .1) in
-    (w .0, good s none (records s xs) 0 0 (l .1) (unclean-none (findings s 0 none (records s xs)) (u .0)))
+    (w .0, good s none (records s xs) 0 0 (l .1) (unclean-none (findings s 0 none (records s xs)) (u .0)), l .0)
 
 pub harvestLegal : HarvestLegal
 harvestLegal s xs room o e =
@@ -141,3 +143,17 @@ harvestLegal s xs room o e =
         div-mul-le-self (length xs) (size s),
       ),
     )
+
+-- a whole number of records, no longer than a take, passes the check of a length
+length-passes : (s : Shape) (xs : List ℕ) → length xs ≤ captureMost → length xs % size s ≡ 0 → lengthCheck s xs .found ≡ false
+length-passes s xs h w = rw (le-ltb captureMost (length xs) h, eq-eqb (length xs % size s) 0 w) refl
+
+pub harvestRepacks : HarvestRepacks
+harvestRepacks s xs room v lent o e w =
+    let g = harvest-good s xs room e in
+    let l = harvestLegal s xs room o e in
+    let ys = harvested s xs in
+    let short : length (harvested s xs) ≤ captureMost = le-trans (l .1) (length-fits s xs (g .2) .0) in
+    let long = length-passes s ys short (l .0 .whole) in
+    rw (g .0, fits-width v (record { low = w .0; high = w .1 }), long)
+    (passed (transferChecks s 0 (records s ys)) (roomCheck (packed s v ys) lent ∷ []) (l .0 .faultless))

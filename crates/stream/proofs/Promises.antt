@@ -6,7 +6,8 @@ use mathlib.Core.List.{List, [], _∷_, map}
 use borrow.Author.Tests.{eqb-true, eqb-false, eq-eqb, ne-eqb, ltb-true, lt-ltb, leb-false, not-true}
 use lib.Dec.{eqb, ltb}
 use Prim.Native.Nat.{ℕ, zero, suc, _+_, _-_, _*_, _/_, _%_, _^_, _≤_, _<_}
-use native.Mathlib.Nat.{div-one, div-div-eq-div-mul, pow-suc, mul-comm, suc-mul, zero-mul, div-add-mod', mul-le-mul-right, div-mul-le-self}
+use lib.Pow.{pow-pos, pow-mono, shr-shr}
+use native.Mathlib.Nat.{le-trans, one-mul, mod-le, le-div-iff-mul-le, div-one, div-div-eq-div-mul, pow-suc, mul-comm, suc-mul, zero-mul, div-add-mod', mul-le-mul-right, div-mul-le-self}
 use native.Mathlib.Omega.{arith}
 use lib.ListN.{length, getD, take, drop, length-map, length-append, length-drop}
 use lib.Seq.{length-take-le}
@@ -17,7 +18,7 @@ use Rattle.stream.specs.Packed.{pack, spread, sliceTransfer, slices}
 use Rattle.stream.specs.Layout.{bit, odd, size, tkeep, tstrb, atWidth, nullLane, laneType, typesOf, Kept, dataOctets, recordCount, records, transferOf, transfers, octets, streamItems, packed, slicedTransfers, sliced}
 use Rattle.stream.specs.Checks.{widthCheck, lengthCheck, indexCheck}
 use Rattle.stream.specs.Answers.{dataRefusal, dataPart}
-use Rattle.stream.specs.Promises.{DataOctets, FirstInOrder, WidthExactly, LengthExactly, ByteTypes, RepackingKeeps, PackedLegal, PackedLength, PackedFull, PackedOnly, Hold, Joins, Canonical, Keeps, LaneKeeping, Findings, HarvestLegal}
+use Rattle.stream.specs.Promises.{SetAbove, FieldBits, DataOctets, FirstInOrder, WidthExactly, LengthExactly, ByteTypes, RepackingKeeps, PackedLegal, PackedLength, PackedFull, PackedOnly, Hold, Joins, Canonical, Keeps, LaneKeeping, Findings, HarvestLegal, HarvestRepacks}
 use Rattle.stream.proofs.Bools.{or-split}
 use Rattle.stream.proofs.First.{first-some, some-first, first-none}
 use Rattle.stream.proofs.Repack.{WidthFits, width-fits}
@@ -28,7 +29,7 @@ use Rattle.stream.proofs.Legal.{packed-legal, sliced-legal, wide-transf
 use Rattle.stream.proofs.Full.{packed-full}
 use Rattle.stream.proofs.Only.{packed-only}
 use Rattle.stream.proofs.Findings.{judges}
-use Rattle.stream.proofs.Harvest.{harvestLegal as harvest-legal}
+use Rattle.stream.proofs.Harvest.{harvestLegal as harvest-legal, harvestRepacks as harvest-repacks}
 
 -- ---- refusals
 
@@ -56,6 +57,36 @@ bit-zero n = rw (div-one n) refl
 
 bit-suc : (x n : ℕ) → bit (suc x) n ≡ bit x (n / 2)
 bit-suc x n = rw (pow-suc 2 x, mul-comm (2 ^ x) 2, ← div-div-eq-div-mul n 2 (2 ^ x)) refl
+
+-- a number above 0 has a bit that is set; f bounds how far up
+some-bit : (f n : ℕ) → 0 < n → n ≤ f → SetAbove 0 n
+some-bit zero n h k = absurd (omega arith)
+some-bit (suc f) n h k = go (some-bit f (n / 2)) (odd n) refl
+  where
+    up : SetAbove 0 (n / 2) → SetAbove 0 n
+    up s = record { place = suc (s .place); above = omega arith; high = bit-suc (s .place) n ∙ s .high }
+
+    go : (0 < n / 2 → n / 2 ≤ f → SetAbove 0 (n / 2)) → (b : Bool) → odd n ≡ b → SetAbove 0 n
+    go half true e = record { place = 0; above = omega arith; high = bit-zero n ∙ e }
+    go half false e = let even = eqb-false (n % 2) 1 e in up (half (omega arith) (omega arith))
+
+pub fieldBits : FieldBits
+fieldBits n m = (found, bounded)
+  where
+    found : 2 ^ n ≤ m → SetAbove n m
+    found h =
+        let some' = some-bit (m / 2 ^ n) (m / 2 ^ n) (le-div-iff-mul-le (pow-pos n) .1 (rw (one-mul (2 ^ n)) h)) (omega arith) in
+        record {
+          place = n + some' .place;
+          above = omega arith;
+          high = ap (λ (x : ℕ). eqb (x % 2) 1) (sym (shr-shr m n (some' .place))) ∙ some' .high;
+        }
+
+    bounded : SetAbove n m → 2 ^ n ≤ m
+    bounded s =
+        let one : m / 2 ^ s .place % 2 ≡ 1 = eqb-true (m / 2 ^ s .place % 2) 1 (s .high) in
+        let up : 1 ≤ m / 2 ^ s .place = omega (arith, mod-le (m / 2 ^ s .place) 2) in
+        le-trans (pow-mono (s .above)) (rw (one-mul (2 ^ s .place)) at (le-div-iff-mul-le (pow-pos (s .place)) .0 up))
 
 types-at : (w x k t : ℕ) → x < w → getD (typesOf w k t) x nullLane ≡ laneType (bit x k) (bit x t)
 types-at zero x k t h = absurd (omega arith)
@@ -159,3 +190,6 @@ findings = judges
 
 pub harvestLegal : HarvestLegal
 harvestLegal = harvest-legal
+
+pub harvestRepacks : HarvestRepacks
+harvestRepacks = harvest-repacks

@@ -1,21 +1,22 @@
 -- What is proved of the definitions, a statement each. Words in quotes are paper 01's or, where it is said, a demand's.
 -- Demand 3 has a page of its own. The proofs are in proofs/Promises.
 use mathlib.Core.Path.{_≡_}
-use mathlib.Core.Bool.{Bool, true, false, not, _&&_, _||_}
+use mathlib.Core.Bool.{Bool, true, false, not, _&&_, _||_, cond}
 use mathlib.Core.List.{List, [], _∷_, _++_, map}
 use mathlib.Core.Option.{Option, none, some}
-use Prim.Native.Nat.{ℕ, zero, suc, _+_, _-_, _*_, _/_, _%_, _≤_, _<_}
+use Prim.Native.Nat.{ℕ, zero, suc, _+_, _-_, _*_, _/_, _%_, _^_, _≤_, _<_}
 use mathlib.Core.Logic.{_⊎_, _↔_, _≢_}
-use lib.Dec.{eqb}
+use lib.Dec.{eqb, ltb}
 use lib.ListN.{length, getD}
 use Rattle.refusal.specs.declared.Refusal.{Refusal}
+use Rattle.refusal.specs.declared.Refusal.the-variants.{Room}
 use Rattle.stream.specs.declared.Shape.{Shape}
 use Rattle.stream.specs.Items.{samePair, Transfer, Item, kept, items}
 use Rattle.stream.specs.Packed.{fitted, pack, settled, held, parted}
 use Rattle.stream.specs.Layout.{bit, tkeep, tstrb, size, atWidth, LaneType, nullLane, laneType, laneTypes, Kept, records, transfers, streamItems, packedTransfers, packed, slicedTransfers, sliced}
 use Rattle.stream.specs.Checks.{Check, first, widthCheck, lengthCheck}
 use Rattle.stream.specs.Handshake.{r1, r2, r3, r4, Finding, firstFinding, harvested}
-use Rattle.stream.specs.Answers.{harvestRefusal, dataRefusal, dataPart}
+use Rattle.stream.specs.Answers.{repackRefusal, harvestRefusal, dataRefusal, dataPart}
 use Rattle.stream.specs.Legal.{Octets, Legal}
 
 -- a width that is not refused
@@ -45,6 +46,16 @@ WidthExactly = (w : ℕ) → (widthCheck w .found ≡ true) ↔ ((w ≡ 0) ⊎ (
 -- 2: "input is over 65,536 octets or no whole number of records"
 abbrev pub LengthExactly : Type 0
 LengthExactly = (s : Shape) (xs : List ℕ) → (lengthCheck s xs .found ≡ true) ↔ ((65536 < length xs) ⊎ (length xs % size s ≢ 0))
+
+-- 3: "a bit that must be zero is set". `fieldFault` asks it of octet 0 and of both masks as 2 ^ n ≤ m: that is so exactly
+-- where some bit at or above n is set.
+pub record SetAbove (n m : ℕ) : Type 0 where
+  pub place : ℕ
+  pub above : n ≤ place
+  pub high : bit place m ≡ true
+
+abbrev pub FieldBits : Type 0
+FieldBits = (n m : ℕ) → (2 ^ n ≤ m) ↔ SetAbove n m
 
 -- ---- byte types
 
@@ -175,3 +186,10 @@ abbrev pub HarvestLegal : Type 0
 HarvestLegal =
     (s : Shape) (xs : List ℕ) (room : ℕ) → Octets xs → harvestRefusal s xs room ≡ none
     → Legal s (harvested s xs) × (length (harvested s xs) ≤ length xs)
+
+-- So repacking what was harvested is refused for a bad output width or for want of room, and for nothing else: never 2, 3
+-- or 4.
+abbrev pub HarvestRepacks : Type 0
+HarvestRepacks =
+    (s : Shape) (xs : List ℕ) (room v lent : ℕ) → Octets xs → harvestRefusal s xs room ≡ none → Width v
+    → repackRefusal s v (harvested s xs) lent ≡ cond (ltb lent (length (packed s v (harvested s xs)))) (some Room) none
