@@ -1,10 +1,11 @@
 # The commands of the project. `make` alone lists them.
-.PHONY: help test run check fmt clean
+.PHONY: help test run check bench fmt clean
 
 help:
 	@echo "make test    the whole gate: prove every crate, refuse every must-fail edit, run every test"
 	@echo "make run     print the refusal table through the library's own function"
 	@echo "make check   prove every crate and run its programs, without the must-fail edits"
+	@echo "make bench   measure repack against plain Rust, a line a case; it takes some seconds and is no part of the gate"
 	@echo "make fmt     lay out every .rt and .antt file"
 	@echo "make clean   remove everything that was built"
 
@@ -17,6 +18,9 @@ run: need-rt
 
 check: need-rt
 	rt check
+
+bench: need-rt
+	@sh bench/run
 
 fmt: need-rt
 	rt fmt
