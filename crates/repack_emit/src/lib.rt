@@ -112,12 +112,12 @@ fn put_all(out: &mut [u8], items: &[u16], table: &[u32], t: Shape)
 {
     let mut to = 0;
     let mut from = 0;
-    let mut k = 0;
-    while k < table.len() {
-        let e = table[k];
+    let mut entry = 0;
+    while entry < table.len() {
+        let e = table[entry];
         to = put_stretch(out, to, &items[from..], e, t);
         from += (e % 65536) as usize;
-        k += 1;
+        entry += 1;
     }
 }
 

@@ -23,7 +23,8 @@ use Rattle.scratch.specs.Codes.{keptOf, sifted, pairCode, pairFrom}
 use Rattle.scratch.specs.Stands.{keptAt, Stands}
 use Rattle.scratch.proofs.Codes.{sifted-kept}
 use Rattle.scratch.proofs.Stands.{gather-stands}
-use Rattle.repack_parse.specs.Read.{Few, Gathered, Turned, Ended, Added, Ready}
+use Rattle.repack_gather.specs.Gather.{Gathered}
+use Rattle.repack_parse.specs.Read.{Few, Turned, Ended, Added, Ready}
 use Rattle.repack_parse.proofs.Faults.{Fields, fields-of}
 
 -- a record has an octet for each lane behind its header

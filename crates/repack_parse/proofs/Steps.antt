@@ -12,12 +12,11 @@ use Rattle.stream.specs.Packed.{Stretch, cut}
 use Rattle.stream.specs.Layout.{bit, odd, Kept}
 use Rattle.stream.proofs.Cut.{cut-ended}
 use Rattle.scratch.specs.declared.Open.{Open}
-use Rattle.scratch.specs.Codes.{keptOf, sifted, pairFrom, entryOf, stretchesOf, total}
+use Rattle.scratch.specs.Codes.{keptOf, pairFrom, entryOf, stretchesOf, total}
 use Rattle.scratch.specs.Stands.{closedAt, pairedAt, keptAt, Stands}
 use Rattle.scratch.proofs.Codes.{stretches-more}
 use Rattle.scratch.proofs.Stands.{opened, made, close-stands, turn-stands, gather-stands, all-closed, pairs-differ, cut-apart, cut-last}
-use Rattle.repack_parse.specs.Read.{dataCode, Gathered, Turned, Ended, Finished}
-use Rattle.repack_parse.proofs.Lanes.{sifted-full}
+use Rattle.repack_parse.specs.Read.{Turned, Ended, Finished}
 
 -- ---- closing
 
@@ -125,10 +124,3 @@ finish-close items table st all s b m n h =
     finished items (set table (st .closed) (entryOf (st .items - st .start) 0 (st .pair))) (closedAt st (st .pair)) all refl
     (closed-stands table st s b m (take (st .items) items) [] [] all 0 (st .pair) (omega arith)
     (cut-last (pairFrom (st .pair)) (opened st (take (st .items) items)) (some-open table st s b m (take (st .items) items) n (h .kept))) h)
-
--- ---- a record whose lanes are all data
-
-pub gathered-all : (lanes items after : List ℕ) (at r full : ℕ) → full ≡ 2 ^ length lanes - 1 → r ≡ at + length lanes
-    → length after ≡ length items → take r after ≡ take at items ++ map dataCode lanes → Gathered full full lanes items at after r
-gathered-all lanes items after at r full f n l e =
-    record { same = l; beyond = omega arith; within = omega arith; is = e ∙ rw f (rw (sifted-full (length lanes) lanes refl) refl) }

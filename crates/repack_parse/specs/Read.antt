@@ -16,27 +16,16 @@ use Rattle.record.specs.declared.Fault.{Fault}
 use Rattle.record.specs.declared.Fault.the-variants.{Sound, Field, Reserved}
 use Rattle.record.specs.Header.{headerFault}
 use Rattle.scratch.specs.declared.Open.{Open}
-use Rattle.scratch.specs.Codes.{sifted, pairFrom, stretchesOf, total}
+use Rattle.scratch.specs.Codes.{pairFrom, stretchesOf, total}
 use Rattle.scratch.specs.Stands.{Stands}
 use Rattle.repack_parse.specs.declared.Next.{Next}
 use Rattle.repack_parse.specs.declared.Next.the-variants.{Read, Refused as NotRead}
 use Rattle.repack_parse.specs.declared.Parsed.{Parsed}
 use Rattle.repack_parse.specs.declared.Parsed.the-variants.{Stretches, Refused}
 
--- a data lane's code
-abbrev pub dataCode : ℕ → ℕ
-dataCode d = d + 256
-
 -- the fault of a header, FIELD before RESERVED
 abbrev pub judged : Header → Shape → Fault
 judged h s = cond (headerFault transferFlags s h) Field (cond (anyReserved (typesOf (s .width) (h .keep) (h .strb))) Reserved Sound)
-
--- the codes of a record's kept lanes stand behind those before them, up to place r
-pub record Gathered (keep strb : ℕ) (lanes items : List ℕ) (at : ℕ) (after : List ℕ) (r : ℕ) : Type 0 where
-  pub same : length after ≡ length items
-  pub beyond : at ≤ r
-  pub within : r ≤ at + length lanes
-  pub is : take r after ≡ take at items ++ sifted (length lanes) keep strb lanes
 
 -- Room in the table: while k records are read there are at most k stretches, and fewer while bytes are open.
 abbrev pub Few : Open → ℕ → ℕ → Type 0

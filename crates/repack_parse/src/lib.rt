@@ -7,86 +7,37 @@ use scratch::Open;
 use stream::Shape;
 ghost use mathlib.Core.Path.{_≡_};
 ghost use mathlib.Core.Bool.{false};
-ghost use mathlib.Core.List.{List, [], _++_, map};
+ghost use mathlib.Core.List.{List, []};
 ghost use Rattle.stream.specs.Packed.{Stretch};
-ghost use Prim.Native.Nat.{ℕ, _+_, _*_, _-_, _%_, _≤_, _<_};
+ghost use Prim.Native.Nat.{ℕ, _-_, _%_, _≤_, _<_};
 ghost use lib.ListN.{length, take, set};
 ghost use Rattle.stream.specs.Layout.{size, Kept};
 ghost use Rattle.stream.specs.Checks.{transferFlags};
 ghost use Rattle.record.specs.Header.{headerOf, headerFault};
 ghost use Rattle.scratch.specs.Codes.{entryOf};
 ghost use Rattle.scratch.specs.Stands.{closedAt, pairedAt, Stands};
-ghost use Rattle.repack_parse.specs.Read.{dataCode, judged, Gathered, Few, Turned, Ended, Added, Ready, Finished, NextIs, ParsedIs};
+ghost use Rattle.repack_parse.specs.Read.{judged, Turned, Ended, Added, Ready, Finished, NextIs, ParsedIs};
 
-// What reading one record gives, and what reading a take gives: so many stretches.
+// What reading one record gives: how far the take has been read, or the record's fault.
 pub enum Next {
     Read(Open),
     Refused(Refusal),
 }
 
+// What reading a take gives: so many stretches in the table, or the first fault.
 pub enum Parsed {
     Stretches(usize),
     Refused(Refusal),
 }
 
+// A record's octet as a wider number.
 fn widen(x: u8) -> u32
     ensures { λ r. ⌜ r ≡ x ⌝ }
 {
     x as u32
 }
 
-fn octet_of(x: u8) -> u16
-    ensures { λ r. ⌜ (r ≡ x) × (r < 256) ⌝ }
-{
-    x as u16
-}
-
-// The codes of the lanes that TKEEP keeps, from place `at` on; answers the place after them.
-fn sift(items: &mut [u16], at: usize, lanes: &[u8], keep: u32, strb: u32) -> usize
-    requires { ⌜ at + length (now lanes) ≤ length (now items) ⌝ }
-    ensures { λ r. ⌜ Gathered keep strb (now (lanes .entry)) (now (items .entry)) at (now (items .exit)) r ⌝ }
-{
-    let mut n = at;
-    let mut k = keep;
-    let mut t = strb;
-    let mut j = 0;
-    while j < lanes.len() {
-        items[n] = octet_of(lanes[j]) + 256 * ((t % 2) as u16);
-        n += (k % 2) as usize;
-        k = k / 2;
-        t = t / 2;
-        j += 1;
-    }
-    n
-}
-
-// The same where every lane is data.
-fn copy_all(items: &mut [u16], at: usize, lanes: &[u8]) -> usize
-    requires { ⌜ at + length (now lanes) ≤ length (now items) ⌝ }
-    ensures { λ r. ⌜ (r ≡ at + length (now (lanes .entry))) × (length (now (items .exit)) ≡ length (now (items .entry))) × (take r (now (items .exit)) ≡ take at (now (items .entry)) ++ map dataCode (now (lanes .entry))) ⌝ }
-{
-    let mut j = 0;
-    while j < lanes.len() {
-        items[at + j] = octet_of(lanes[j]) + 256;
-        j += 1;
-    }
-    at + j
-}
-
-fn gather(items: &mut [u16], at: usize, lanes: &[u8], keep: u32, strb: u32) -> usize
-    requires { ⌜ (length (now lanes) ≤ 16) × (at + length (now lanes) ≤ length (now items)) ⌝ }
-    ensures { λ r. ⌜ Gathered keep strb (now (lanes .entry)) (now (items .entry)) at (now (items .exit)) r ⌝ }
-{
-    let full = (1u32 << lanes.len()) - 1;
-    if keep == full {
-        if strb == full {
-            return copy_all(items, at, lanes);
-        }
-    }
-    sift(items, at, lanes, keep, strb)
-}
-
-// The open stretch closed: one table entry more.
+// The open stretch is closed: one table entry more. An end is behind it where `last` is 1.
 fn close(table: &mut [u32], st: Open, last: u32) -> Open
     requires { ⌜ (st .start ≤ st .items) × (st .items < 65536) × (st .closed < length (now table)) × (st .pair < 4096) × (last ≤ 1) ⌝ }
     ensures { λ r. ⌜ (r ≡ closedAt st (st .pair)) × (now (table .exit) ≡ set (now (table .entry)) (st .closed) (entryOf (st .items - st .start) last (st .pair))) ⌝ }
@@ -101,6 +52,7 @@ fn close(table: &mut [u32], st: Open, last: u32) -> Open
     }
 }
 
+// The same state with another pair.
 fn turned(st: Open, pair: u32) -> Open
     ensures { λ r. ⌜ r ≡ pairedAt st pair ⌝ }
 {
@@ -126,6 +78,7 @@ fn turn(table: &mut [u32], st: Open, pair: u32) -> Open
     turned(close(table, st, 0), pair)
 }
 
+// After a record's lanes: TLAST closes the open stretch with an end.
 fn end(table: &mut [u32], st: Open, flags: u32) -> Open
     requires { ⌜ (st .start ≤ st .items) × (st .items < 65536) × (st .closed < length (now table)) × (st .pair < 4096) × (flags < 2) ⌝ }
     ensures { λ r. ⌜ Ended flags (now (table .entry)) st (now (table .exit)) r ⌝ }
@@ -136,6 +89,7 @@ fn end(table: &mut [u32], st: Open, flags: u32) -> Open
     close(table, st, 1)
 }
 
+// One record more, which has no fault. A record with no item changes nothing, whatever its pair.
 fn add(s: Shape, rec: &[u8], h: Header, items: &mut [u16], table: &mut [u32], st: Open) -> Open
     requires { ⌜ (h ≡ headerOf (now rec)) × (length (now rec) ≡ size s) × (headerFault transferFlags s h ≡ false) × Ready s (now items) (now table) st ⌝ }
     ensures { λ r. ⌜ Added s (now (rec .entry)) (now (items .entry)) (now (table .entry)) st (now (items .exit)) (now (table .exit)) r ⌝ }
@@ -145,7 +99,7 @@ fn add(s: Shape, rec: &[u8], h: Header, items: &mut [u16], table: &mut [u32], st
     }
     let o = turn(table, st, widen(h.tid) + 256 * widen(h.tdest));
     let e = 7 + s.width;
-    let n = gather(items, o.items, &rec[7..e], h.keep, h.strb);
+    let n = repack_gather::gather(items, o.items, &rec[7..e], h.keep, h.strb);
     let p = Open {
         items: n,
         start: o.start,
@@ -155,6 +109,7 @@ fn add(s: Shape, rec: &[u8], h: Header, items: &mut [u16], table: &mut [u32], st
     end(table, p, h.flags)
 }
 
+// The record's fault, FIELD before RESERVED.
 fn judge(h: Header, s: Shape) -> Fault
     requires { ⌜ s .width ≤ 16 ⌝ }
     ensures { λ r. ⌜ r ≡ judged h s ⌝ }
@@ -168,6 +123,7 @@ fn judge(h: Header, s: Shape) -> Fault
     Fault::Sound
 }
 
+// Judges and adds record k.
 fn read_record(
     s: Shape,
     rec: &[u8],
@@ -188,6 +144,7 @@ fn read_record(
     }
 }
 
+// After the last record: what is still open is closed without an end. Answers the number of stretches.
 fn finish(table: &mut [u32], st: Open) -> usize
     requires { ⌜ (st .start ≤ st .items) × (st .items < 65536) × (st .closed < length (now table)) × (st .pair < 4096) ⌝ }
     ensures { λ r. ⌜ ((items : List ℕ) (all : List (Stretch Kept)) → Stands (take (st .items) items) (take (st .closed) (now (table .entry))) st [] all → Finished r items (now (table .exit)) all) ⌝ }
@@ -198,6 +155,7 @@ fn finish(table: &mut [u32], st: Open) -> usize
     close(table, st, 0).closed
 }
 
+// Reads a take whose widths and length have passed their tests: item codes into `items`, one entry a stretch into `table`.
 pub fn parse(s: Shape, input: &[u8], items: &mut [u16], table: &mut [u32]) -> Parsed
     requires { ⌜ (1 ≤ s .width) × (s .width ≤ 16) × (length (now input) ≤ 65536) × (length (now input) % size s ≡ 0) ⌝ }
     requires { ⌜ (length (now items) ≡ 45600) × (length (now table) ≡ 8193) ⌝ }

@@ -9,10 +9,10 @@ use Rattle.repack_emit.proofs.put_all.Statement.{statement}
 use Rattle.repack_emit.proofs.put_all.Tie as tie
 
 abbrev Inv-loop : tie.InvT-loop
-Inv-loop out₀ items table t to₀ from₀ k₀ out to from k = Packing (t .width) items table out₀ out to from k
+Inv-loop out₀ items table t to₀ from₀ entry₀ out to from entry = Packing (t .width) items table out₀ out to from entry
 
 abbrev μ-loop : tie.MeasureT-loop
-μ-loop out₀ items table t to₀ from₀ k₀ out to from k = length table - k
+μ-loop out₀ items table t to₀ from₀ entry₀ out to from entry = length table - entry
 
 loop-holds : tie.Need-loop-holds Inv-loop μ-loop
 loop-holds c = packing-starts (c .before .before .before .args .t .width) (c .before .before .before .args .items .now) (c .before .before .before .args .table .now) (c .before .before .before .args .out .now) (c .before .before .before .pre .2) (c .before .before .before .pre .3)
@@ -41,18 +41,18 @@ put-stretch-requires c κs =
     let l = c .before .before .before .before .loop in (
       c .before .before .before .before .before .before .before .before .pre .0,
       c .before .before .before .before .before .before .before .before .pre .1,
-      rw (lent-items (a .items .now) (l .from)) (packing-holds (c .before .before .before .before .before .before .before .before .args .t .width) (c .before .before .before .before .before .before .before .before .args .items .now) (c .before .before .before .before .before .before .before .before .args .table .now) (c .before .before .before .before .before .before .before .before .args .out .now) (c .before .before .before .before .loop .out) (c .before .before .before .before .loop .to) (c .before .before .before .before .loop .from) (c .before .before .before .before .loop .k) (c .before .before .before .before .loop .inv) (c .before .before .before .loop-test .taken)),
-      rw (lent-items (a .items .now) (l .from)) (packing-room (c .before .before .before .before .before .before .before .before .args .t .width) (c .before .before .before .before .before .before .before .before .args .items .now) (c .before .before .before .before .before .before .before .before .args .table .now) (c .before .before .before .before .before .before .before .before .args .out .now) (c .before .before .before .before .loop .out) (c .before .before .before .before .loop .to) (c .before .before .before .before .loop .from) (c .before .before .before .before .loop .k) (c .before .before .before .before .loop .inv) (c .before .before .before .loop-test .taken)),
+      rw (lent-items (a .items .now) (l .from)) (packing-holds (c .before .before .before .before .before .before .before .before .args .t .width) (c .before .before .before .before .before .before .before .before .args .items .now) (c .before .before .before .before .before .before .before .before .args .table .now) (c .before .before .before .before .before .before .before .before .args .out .now) (c .before .before .before .before .loop .out) (c .before .before .before .before .loop .to) (c .before .before .before .before .loop .from) (c .before .before .before .before .loop .entry) (c .before .before .before .before .loop .inv) (c .before .before .before .loop-test .taken)),
+      rw (lent-items (a .items .now) (l .from)) (packing-room (c .before .before .before .before .before .before .before .before .args .t .width) (c .before .before .before .before .before .before .before .before .args .items .now) (c .before .before .before .before .before .before .before .before .args .table .now) (c .before .before .before .before .before .before .before .before .args .out .now) (c .before .before .before .before .loop .out) (c .before .before .before .before .loop .to) (c .before .before .before .before .loop .from) (c .before .before .before .before .loop .entry) (c .before .before .before .before .loop .inv) (c .before .before .before .loop-test .taken)),
     )
 
 cast-from : tie.Need-cast-from Inv-loop μ-loop
 cast-from c = search needs
 
 add-from : tie.Need-add-from Inv-loop μ-loop
-add-from c = omega (arith, packing-from (c .before .before .before .before .before .before .before .before .before .before .before .args .t .width) (c .before .before .before .before .before .before .before .before .before .before .before .args .items .now) (c .before .before .before .before .before .before .before .before .before .before .before .args .table .now) (c .before .before .before .before .before .before .before .before .before .before .before .args .out .now) (c .before .before .before .before .before .before .before .loop .out) (c .before .before .before .before .before .before .before .loop .to) (c .before .before .before .before .before .before .before .loop .from) (c .before .before .before .before .before .before .before .loop .k) (c .before .before .before .before .before .before .before .loop .inv) (c .before .before .before .before .before .before .loop-test .taken), c .before .before .before .before .before .before .before .before .before .before .before .good)
+add-from c = omega (arith, packing-from (c .before .before .before .before .before .before .before .before .before .before .before .args .t .width) (c .before .before .before .before .before .before .before .before .before .before .before .args .items .now) (c .before .before .before .before .before .before .before .before .before .before .before .args .table .now) (c .before .before .before .before .before .before .before .before .before .before .before .args .out .now) (c .before .before .before .before .before .before .before .loop .out) (c .before .before .before .before .before .before .before .loop .to) (c .before .before .before .before .before .before .before .loop .from) (c .before .before .before .before .before .before .before .loop .entry) (c .before .before .before .before .before .before .before .loop .inv) (c .before .before .before .before .before .before .loop-test .taken), c .before .before .before .before .before .before .before .before .before .before .before .good)
 
-add-k : tie.Need-add-k Inv-loop μ-loop
-add-k c = search needs
+add-entry : tie.Need-add-entry Inv-loop μ-loop
+add-entry c = search needs
 
 loop-less : tie.Need-loop-less Inv-loop μ-loop
 loop-less c = search needs
@@ -61,14 +61,14 @@ loop-again : tie.Need-loop-again Inv-loop μ-loop
 loop-again c =
     let a = c .before .before .before .before .before .before .before .before .before .before .before .args in
     let l = c .before .before .before .before .before .before .before .loop in
-    packing-next (c .before .before .before .before .before .before .before .before .before .before .before .args .t .width) (c .before .before .before .before .before .before .before .before .before .before .before .args .items .now) (c .before .before .before .before .before .before .before .before .before .before .before .args .table .now) (c .before .before .before .before .before .before .before .before .before .before .before .args .out .now) (c .before .before .before .before .before .before .before .loop .out) (c .before .before .before .before .before .before .before .loop .to) (c .before .before .before .before .before .before .before .loop .from) (c .before .before .before .before .before .before .before .loop .k) (c .before .before .before .before .before .before .before .loop .inv) (c .before .before .before .before .before .before .loop-test .taken) (c .before .before .put-stretch .last .0) (c .before .before .put-stretch .result)
+    packing-next (c .before .before .before .before .before .before .before .before .before .before .before .args .t .width) (c .before .before .before .before .before .before .before .before .before .before .before .args .items .now) (c .before .before .before .before .before .before .before .before .before .before .before .args .table .now) (c .before .before .before .before .before .before .before .before .before .before .before .args .out .now) (c .before .before .before .before .before .before .before .loop .out) (c .before .before .before .before .before .before .before .loop .to) (c .before .before .before .before .before .before .before .loop .from) (c .before .before .before .before .before .before .before .loop .entry) (c .before .before .before .before .before .before .before .loop .inv) (c .before .before .before .before .before .before .loop-test .taken) (c .before .before .put-stretch .last .0) (c .before .before .put-stretch .result)
     (rw (lent-items (a .items .now) (l .from)) at (c .before .before .put-stretch .ensures .1))
 
 same-length : tie.Need-same-length Inv-loop μ-loop
 same-length c = c .before .loop .inv .writing .same
 
 returns : tie.Need-returns Inv-loop μ-loop
-returns c = packing-done (c .before .before .before .before .before .args .t .width) (c .before .before .before .before .before .args .items .now) (c .before .before .before .before .before .args .table .now) (c .before .before .before .before .before .args .out .now) (c .before .loop .out) (c .before .loop .to) (c .before .loop .from) (c .before .loop .k) (c .before .loop .inv) (c .loop-test .left)
+returns c = packing-done (c .before .before .before .before .before .args .t .width) (c .before .before .before .before .before .args .items .now) (c .before .before .before .before .before .args .table .now) (c .before .before .before .before .before .args .out .now) (c .before .loop .out) (c .before .loop .to) (c .before .loop .from) (c .before .loop .entry) (c .before .loop .inv) (c .loop-test .left)
 
 pub put-all-spec : {M : Type 1} → statement M
 put-all-spec =
@@ -86,7 +86,7 @@ put-all-spec =
     put-stretch-requires
     cast-from
     add-from
-    add-k
+    add-entry
     loop-less
     loop-again
     same-length

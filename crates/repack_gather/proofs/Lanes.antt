@@ -13,7 +13,7 @@ use lib.ListN.{length, getD, take, drop, set, length-append, length-set, length-
 use lib.Seq.{take-suc-set, take-set-le, drop-cons, getD-drop, drop-drop, drop-length}
 use Rattle.stream.specs.Layout.{odd}
 use Rattle.scratch.specs.Codes.{itemCode, sifted}
-use Rattle.repack_parse.specs.Read.{dataCode, Gathered}
+use Rattle.repack_gather.specs.Gather.{dataCode, Gathered}
 
 -- ---- every lane is data
 
@@ -94,3 +94,10 @@ pub sift-done : (items lanes whole : List ℕ) (n k t j : ℕ) → length lanes 
 sift-done items lanes whole n k t j h e =
     let none : length lanes - j ≡ 0 = omega arith in
     sym (append-nil (take n items)) ∙ (rw none at e)
+
+-- ---- a record whose lanes are all data
+
+pub gathered-all : (lanes items after : List ℕ) (at r full : ℕ) → full ≡ 2 ^ length lanes - 1 → r ≡ at + length lanes
+    → length after ≡ length items → take r after ≡ take at items ++ map dataCode lanes → Gathered full full lanes items at after r
+gathered-all lanes items after at r full f n l e =
+    record { same = l; beyond = omega arith; within = omega arith; is = e ∙ rw f (rw (sifted-full (length lanes) lanes refl) refl) }

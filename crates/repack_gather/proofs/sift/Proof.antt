@@ -1,4 +1,4 @@
--- `repack_parse::sift` meets its contract: lane by lane, what is left to keep gets shorter. Assumes nothing.
+-- `repack_gather::sift` meets its contract: lane by lane, what is left to keep gets shorter. Assumes nothing.
 use mathlib.Core.Path.{_≡_, refl, _∙_}
 use mathlib.Core.List.{_++_, map}
 use Prim.Native.Nat.{_+_, _-_, _*_, _%_, _≤_}
@@ -7,9 +7,9 @@ use native.Mathlib.Nat.{add-zero}
 use lib.ListN.{length, take, drop, length-set}
 use borrow.Author.Needs.{needs}
 use Rattle.scratch.specs.Codes.{sifted}
-use Rattle.repack_parse.proofs.Lanes.{sift-start, sift-step, sift-done}
-use Rattle.repack_parse.proofs.sift.Statement.{statement}
-use Rattle.repack_parse.proofs.sift.Tie as tie
+use Rattle.repack_gather.proofs.Lanes.{sift-start, sift-step, sift-done}
+use Rattle.repack_gather.proofs.sift.Statement.{statement}
+use Rattle.repack_gather.proofs.sift.Tie as tie
 
 abbrev Inv-loop : tie.InvT-loop
 Inv-loop items₀ at lanes keep strb n₀ k₀ t₀ j₀ items n k t j =

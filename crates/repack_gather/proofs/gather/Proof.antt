@@ -1,5 +1,5 @@
--- `repack_parse::gather` meets its contract: the bulk copy keeps what the lane loop would. Assumes nothing.
-use Rattle.repack_parse.proofs.Steps.{gathered-all}
+-- `repack_gather::gather` meets its contract: the bulk copy keeps what the lane loop would. Assumes nothing.
+use Rattle.repack_gather.proofs.Lanes.{gathered-all}
 use Rattle.record.proofs.Field.{shifted}
 use native.Mathlib.Omega.{arith}
 use lib.Pow.{pow-pos}
@@ -7,8 +7,8 @@ use lib.ListN.{length}
 use mathlib.Core.Path.{_≡_, refl}
 use Prim.Native.Nat.{_-_, _^_, _*_, _%_}
 use borrow.Author.Needs.{needs}
-use Rattle.repack_parse.proofs.gather.Statement.{statement}
-use Rattle.repack_parse.proofs.gather.Tie as tie
+use Rattle.repack_gather.proofs.gather.Statement.{statement}
+use Rattle.repack_gather.proofs.gather.Tie as tie
 
 cast-full : tie.Need-cast-full
 cast-full c = search needs

@@ -1,4 +1,4 @@
--- `repack_parse::copy_all` meets its contract: lane by lane, what is left to keep gets shorter. Assumes nothing.
+-- `repack_gather::copy_all` meets its contract: lane by lane, what is left to keep gets shorter. Assumes nothing.
 use mathlib.Core.Path.{_≡_, refl, _∙_}
 use mathlib.Core.List.{_++_, map}
 use Prim.Native.Nat.{_+_, _-_, _≤_}
@@ -6,10 +6,10 @@ use native.Mathlib.Omega.{arith}
 use native.Mathlib.Nat.{add-zero}
 use lib.ListN.{length, take, drop, length-set}
 use borrow.Author.Needs.{needs}
-use Rattle.repack_parse.specs.Read.{dataCode}
-use Rattle.repack_parse.proofs.Lanes.{copy-step, copy-done}
-use Rattle.repack_parse.proofs.copy_all.Statement.{statement}
-use Rattle.repack_parse.proofs.copy_all.Tie as tie
+use Rattle.repack_gather.specs.Gather.{dataCode}
+use Rattle.repack_gather.proofs.Lanes.{copy-step, copy-done}
+use Rattle.repack_gather.proofs.copy_all.Statement.{statement}
+use Rattle.repack_gather.proofs.copy_all.Tie as tie
 
 abbrev Inv-loop : tie.InvT-loop
 Inv-loop items₀ at lanes j₀ items j =
