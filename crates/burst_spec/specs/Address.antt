@@ -1,6 +1,6 @@
--- Where the beats of a burst lie (paper 01, 'Bursts'; source 004, A3.4.1), over natural numbers: no address wraps here.
+-- Where the beats of a burst lie (paper 01, 'Bursts'; source 004, A3.4.1), over natural numbers, so no address overflows.
 -- Which bursts are allowed is in Checks; Arm's pseudo code, which decides, is in Transfer.
--- The letters are paper 01's: s the start address, b the bytes in a beat, n the beats.
+-- s, b and n are paper 01's S, B and N: the start address, the bytes in a beat, the beats; a is any address.
 use mathlib.Core.Bool.{Bool, cond}
 use Prim.Native.Nat.{ℕ, zero, suc, _+_, _-_, _*_, _/_, _%_, _^_}
 use lib.Dec.{eqb}
@@ -35,7 +35,8 @@ unfoldable pub incrAddress : ℕ → ℕ → ℕ → ℕ
 incrAddress s b zero = s
 incrAddress s b (suc k) = aligned s b + suc k * b
 
--- "an address that reaches lowest + B*N becomes lowest": whether the address a does
+-- "an address that reaches lowest + B*N becomes lowest": whether the address a does. A3.4.2 tests >= here; since 11
+-- refuses an unaligned start, no address passes the boundary without reaching it, and the law of proofs/Transfer holds.
 abbrev pub wraps : ℕ → ℕ → ℕ → ℕ → Bool
 wraps s b n a = eqb a (wrapBoundary s b n + b * n)
 
@@ -45,8 +46,8 @@ wrapAddress s b n zero = s
 wrapAddress s b n (suc k) =
     cond (wraps s b n (wrapAddress s b n k + b)) (wrapBoundary s b n) (wrapAddress s b n k + b)
 
--- The address of beat k by kind. "FIXED: every beat at S." A burst of the reserved kind is never accepted and has no
--- beats; its line is there because every kind has one.
+-- The address of beat k by kind. "FIXED: every beat at S, with the same lanes." A burst of the reserved kind is refused
+-- before anything reads its line here.
 unfoldable pub addressBy : Kind → ℕ → ℕ → ℕ → ℕ → ℕ
 addressBy Fixed s b n k = s
 addressBy Incr s b n k = incrAddress s b k

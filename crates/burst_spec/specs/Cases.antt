@@ -1,11 +1,11 @@
 -- Paper 01's cases B1 to B4 and worked entries for each refusal, each bound and the top of memory: what is asked of which
--- burst, and the row that must be answered. One statement covers the whole list (proofs/Cases). Numbers are typed from the
--- paper; nothing here is computed by the definitions, but for the kind of a kind's number.
+-- burst, and the row that must be answered. One statement covers the whole list (proofs/Cases). B1 to B4 are typed from the
+-- paper, the other entries worked by hand; of the definitions only the kind of a kind's number is used here.
 use mathlib.Core.List.{List, [], _∷_, _++_, map}
 use Prim.Native.Nat.{ℕ}
 use lib.IntN.{ℤ, pos, negsuc}
 use Rattle.burst_spec.specs.declared.Burst.{Burst}
-use Rattle.burst_spec.specs.Answers.{burstOf, judgement, beatAnswer, stepAnswer, Row, acceptedRow, beatRow, stepRow, judgementShows, beatShows, stepShows}
+use Rattle.burst_spec.specs.Answers.{burstOf, judgement, beatAnswer, stepAnswer, Row, judgementShows, beatShows, stepShows}
 
 -- a question about a burst
 pub data Question : Type 0 where
@@ -27,21 +27,28 @@ answerTo (step k) x = stepShows (stepAnswer x k)
 abbrev pub computed : Case → Case
 computed c = record { burst = c .burst; question = c .question; row = answerTo (c .question) (c .burst) }
 
+-- rows as they are typed here: a refusal's number, or a beat's address, lower and upper lane, or a step
 abbrev pub refusedRow : ℕ → Row
 refusedRow number = record { number = number; place = 0; rule = 0; address = 0; lower = 0; upper = 0; step = pos 0 }
 
+abbrev beatTyped : ℕ → ℕ → ℕ → Row
+beatTyped address lower upper = record { number = 0; place = 0; rule = 0; address = address; lower = lower; upper = upper; step = pos 0 }
+
+abbrev stepTyped : ℤ → Row
+stepTyped by = record { number = 0; place = 0; rule = 0; address = 0; lower = 0; upper = 0; step = by }
+
 module _ (x : Burst) where
   abbrev accepts : Case
-  accepts = record { burst = x; question = judge; row = acceptedRow }
+  accepts = record { burst = x; question = judge; row = refusedRow 0 }
 
   abbrev refuses : ℕ → Case
   refuses number = record { burst = x; question = judge; row = refusedRow number }
 
   abbrev hasBeat : ℕ → ℕ → ℕ → ℕ → Case
-  hasBeat k address lower upper = record { burst = x; question = beat k; row = beatRow address lower upper }
+  hasBeat k address lower upper = record { burst = x; question = beat k; row = beatTyped address lower upper }
 
   abbrev hasStep : ℕ → ℤ → Case
-  hasStep k by = record { burst = x; question = step k; row = stepRow by }
+  hasStep k by = record { burst = x; question = step k; row = stepTyped by }
 
   abbrev noBeat : ℕ → ℕ → Case
   noBeat k number = record { burst = x; question = beat k; row = refusedRow number }
@@ -76,16 +83,24 @@ b3 =
 abbrev pub b4 : List Case
 b4 = accepts (burstOf 0xFF2 3 2 1 4) ∷ refuses (burstOf 0xFF2 4 2 1 4) 12 ∷ []
 
--- Each refusal where those after it would be given too, and where it alone is.
+-- Each refusal, some where a later one would be given too, and each bound from outside.
 abbrev pub refusals : List Case
 refusals =
     refuses (burstOf 0xFF1 256 8 3 3) 7 ∷ refuses (burstOf 0 0 0 1 0) 7 ∷ refuses (burstOf 0 0 0 1 256) 7
     ∷ refuses (burstOf 0xFF1 256 8 3 4) 8 ∷ refuses (burstOf 0xFF1 256 3 3 4) 8 ∷ refuses (burstOf 0 0 8 1 128) 8
     ∷ refuses (burstOf 0xFF1 256 2 3 4) 9 ∷ refuses (burstOf 0 0 0 3 1) 9 ∷ refuses (burstOf 0 0 0 7 1) 9
-    ∷ refuses (burstOf 0xFF1 2 2 2 4) 10 ∷ refuses (burstOf 0 16 0 0 1) 10 ∷ refuses (burstOf 0xFF1 256 0 1 1) 10
+    ∷ refuses (burstOf 0 0 0 4 1) 9 ∷ refuses (burstOf 0 0 0 5 1) 9 ∷ refuses (burstOf 0 0 0 6 1) 9
+    ∷ refuses (burstOf 0 0 0 1 512) 7 ∷ refuses (burstOf 0 0 0 2 1) 10 ∷ refuses (burstOf 0xFF1 2 2 2 4) 10 ∷ refuses (burstOf 0 16 0 0 1) 10 ∷ refuses (burstOf 0xFF1 256 0 1 1) 10
     ∷ refuses (burstOf 0xFF6 3 2 2 4) 11 ∷ refuses (burstOf 0x32 3 2 2 4) 11
     ∷ noBeat (burstOf 0xFF2 4 2 1 4) 5 12 ∷ noStep (burstOf 0xFF2 4 2 1 4) 4 12
     ∷ noBeat (burstOf 0x1002 2 2 1 4) 3 13 ∷ noStep (burstOf 0x1002 2 2 1 4) 2 13 ∷ noStep (burstOf 0 0 0 1 1) 0 13
+    ∷ []
+
+-- Each bus and each size is allowed somewhere, and so is each start that is aligned to its own beat.
+abbrev pub allowed : List Case
+allowed =
+    accepts (burstOf 0x1001 255 4 1 16) ∷ accepts (burstOf 0 1 5 1 32) ∷ accepts (burstOf 0 1 6 1 64) ∷ accepts (burstOf 0 1 7 1 128)
+    ∷ accepts (burstOf 0 1 0 1 1) ∷ accepts (burstOf 0 1 1 1 2) ∷ accepts (burstOf 0 1 3 1 8) ∷ accepts (burstOf 2 1 1 2 2)
     ∷ []
 
 -- The ends of what is allowed: beats by kind, the step's -1,920 and 128, a burst that fills a block, and bursts that end at
@@ -101,4 +116,4 @@ ends =
     ∷ []
 
 abbrev pub burstCases : List Case
-burstCases = b1 ++ (b2 ++ (b3 ++ (b4 ++ (refusals ++ ends))))
+burstCases = b1 ++ (b2 ++ (b3 ++ (b4 ++ (refusals ++ (allowed ++ ends)))))

@@ -69,7 +69,7 @@ misaligned Wrap s b = not (eqb (s % b) 0)
 misaligned Reserved s b = false
 
 -- 12 FENCE, the 4KB rule: "some byte from a beat's address to its highest lane lies in another 4,096-byte block than S."
--- Here byte j of the beat at address a, counted from its address on.
+-- Here a is the beat's address, and j counts its bytes from that address on.
 abbrev pub outside : ℕ → ℕ → Bool
 outside s a = not (eqb (a / 4096) (s / 4096))
 

@@ -6,7 +6,7 @@ use Rattle.burst_spec.specs.declared.Burst.{Burst}
 use Rattle.burst_spec.specs.Address.{bytes}
 use Rattle.burst_spec.specs.Checks.{busAllowed, tooWide, isReserved, countRefused, misaligned, crosses}
 
--- A power of two: what an address is rounded to. A beat, a bus, a wrapping burst and a 4KB block each have so many bytes.
+-- A power of two: what an address is rounded to. A beat, a bus, a wrapping burst and a 4KB block each have a power of two of bytes.
 pub record Power (x : ℕ) : Type 0 where
   pub log : ℕ
   pub is : x ≡ 2 ^ log

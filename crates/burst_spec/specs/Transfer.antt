@@ -47,7 +47,8 @@ loopAt m s b n (suc k) = advance m s b n (loopAt m s b n k)
 abbrev pub low-byte : ℕ → Loop → ℕ
 low-byte bus l = l .addr - l .addr / bus * bus
 
--- Upper_Byte_Lane, if aligned: Lower_Byte_Lane + Number_Bytes - 1; else: Aligned_Address + Number_Bytes - 1 less the same
+-- Upper_Byte_Lane, if aligned: Lower_Byte_Lane + Number_Bytes - 1; else: Aligned_Address + Number_Bytes - 1
+-- - (INT(addr/Data_Bus_Bytes)) * Data_Bus_Bytes
 abbrev pub high-byte : ℕ → ℕ → ℕ → Loop → ℕ
 high-byte s b bus l =
     cond (l .aligned) (low-byte bus l + b - 1) (s / b * b + b - 1 - l .addr / bus * bus)
