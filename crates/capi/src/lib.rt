@@ -8,6 +8,7 @@ mod stream_calls;
 
 use refusal::Refusal;
 pub use stream_calls::urd_data_octets;
+pub use stream_calls::urd_downsize;
 pub use stream_calls::urd_fill_in;
 pub use stream_calls::urd_harvest;
 pub use stream_calls::urd_judge;

@@ -7,7 +7,7 @@ use stream::Written;
 ghost use mathlib.Core.Path.{_≡_};
 ghost use lib.ListN.{length};
 ghost use Rattle.stream.specs.Handshake.{baseLevel};
-ghost use Rattle.stream.specs.Answers.{refusalValues, verdictValues, writtenValues, lookupValues, judgeAnswer, harvestAnswer, harvestAfter, fillAnswer, fillAfter, repackAnswer, repackAfter};
+ghost use Rattle.stream.specs.Answers.{refusalValues, verdictValues, writtenValues, lookupValues, judgeAnswer, harvestAnswer, harvestAfter, fillAnswer, fillAfter, repackAnswer, repackAfter, downsizeAnswer, downsizeAfter};
 ghost use Rattle.capi.specs.Shows.{ShowsValues, ShowsPart, shape};
 
 // What a stream call answers: the refusal's number, or 0; its place, or the broken cycle; the rule; the count of transfers
@@ -90,6 +90,15 @@ pub extern "C" fn urd_repack(width: usize, v: usize, input: &[u8], out: &mut [u8
     ensures { λ a. ⌜ now (out .exit) ≡ repackAfter (shape width) v (now (input .entry)) (now (out .entry)) ⌝ }
 {
     of_written(repack::repack(Shape { width }, v, input, out))
+}
+
+// Slices a take of transfer records to width v, lane by lane, into a lent output.
+#[no_mangle]
+pub extern "C" fn urd_downsize(width: usize, v: usize, input: &[u8], out: &mut [u8]) -> StreamAnswer
+    ensures { λ a. ⌜ ShowsValues a (writtenValues (downsizeAnswer (shape width) v (now (input .entry)) (length (now (out .entry))))) ⌝ }
+    ensures { λ a. ⌜ now (out .exit) ≡ downsizeAfter (shape width) v (now (input .entry)) (now (out .entry)) ⌝ }
+{
+    of_written(downsize::downsize(Shape { width }, v, input, out))
 }
 
 // Where the data octets of a record stand in a take: the refusal's number, or 0 with their offset and their number.

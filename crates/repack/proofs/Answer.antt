@@ -1,10 +1,9 @@
 -- The ladder of repack's refusals, a law for each way the code returns. Assumes nothing.
 use mathlib.Core.Path.{_≡_, refl, sym, ap, _∙_, subst}
-use mathlib.Core.Bool.{Bool, true, false, not, cond}
+use mathlib.Core.Bool.{true, false, not}
 use mathlib.Core.List.{List, [], _∷_, _++_}
 use mathlib.Core.Option.{Option, none, some}
 use Prim.Native.Nat.{ℕ, _≤_, _<_, _%_}
-use native.Mathlib.Omega.{arith}
 use borrow.Author.Tests.{ltb-false, eqb-true, not-false}
 use lib.Dec.{ltb, eqb}
 use lib.ListN.{length, take, drop}
@@ -16,31 +15,14 @@ use Rattle.stream.specs.declared.Written.{Written}
 use Rattle.stream.specs.declared.Written.the-variants.{Refused}
 use Rattle.stream.specs.Packed.{Stretch, cut, packStretches}
 use Rattle.stream.specs.Layout.{size, records, streamItems, octets, packedTransfers, packed}
-use Rattle.stream.specs.Checks.{Check, check, first, widthCheck, captureMost, lengthCheck, transferChecks, roomCheck}
+use Rattle.stream.specs.Checks.{first, widthCheck, captureMost, lengthCheck, transferChecks, roomCheck}
 use Rattle.stream.specs.Answers.{Repacked, written, lentAfter, repackRefusal, repackAnswer, repackAfter, writtenValues}
 use Rattle.stream.proofs.Bools.{neither}
+use Rattle.stream.proofs.First.{append-found, append-passed}
 use Rattle.stream.proofs.Repack.{WidthFits, width-fits}
 use Rattle.scratch.specs.Codes.{stretchesOf}
 use Rattle.repack_parse.specs.Read.{Taken}
 use Rattle.repack_emit.specs.Write.{Emitted}
-
--- ---- a refusal that comes first is the answer
-
-append-found : (cs ds : List (Check Refusal)) (f : Refusal) → first cs ≡ some f → first (cs ++ ds) ≡ some f
-append-found [] ds f e = let z : _≡_ {A = ℕ} 0 1 = cc in absurd (omega arith)
-append-found (c ∷ cs) ds f e = go (c .found) refl (append-found cs ds f)
-  where
-    go : (b : Bool) → c .found ≡ b → (first cs ≡ some f → first (cs ++ ds) ≡ some f) → first ((c ∷ cs) ++ ds) ≡ some f
-    go true h ih = rw h (rw h at e)
-    go false h ih = rw h (ih (rw h at e))
-
-append-passed : (cs ds : List (Check Refusal)) → first cs ≡ none → first (cs ++ ds) ≡ first ds
-append-passed [] ds e = refl
-append-passed (c ∷ cs) ds e = go (c .found) refl (append-passed cs ds)
-  where
-    go : (b : Bool) → c .found ≡ b → (first cs ≡ none → first (cs ++ ds) ≡ first ds) → first ((c ∷ cs) ++ ds) ≡ first ds
-    go true h ih = let z : some (c .gives) ≡ none = rw h at e in let y : _≡_ {A = ℕ} 0 1 = cc in absurd (omega arith)
-    go false h ih = rw h (ih (rw h at e))
 
 module _ (s : Shape) (v : ℕ) (input out : List ℕ) where
   -- the answer and the memory of a refusal, and of any outcome

@@ -54,7 +54,7 @@ module _ (s : Shape) (xs : List ℕ) (whole : length xs % size s ≡ 0) (some : 
 -- ---- faults
 
 -- a record without fault leaves the faults to those after it, and a record's fault is the first
-checks-after : (s : Shape) (k : ℕ) (r : List ℕ) (rs : List (List ℕ)) → first (transferChecks s k (r ∷ [])) ≡ none
+pub checks-after : (s : Shape) (k : ℕ) (r : List ℕ) (rs : List (List ℕ)) → first (transferChecks s k (r ∷ [])) ≡ none
     → first (transferChecks s k (r ∷ rs)) ≡ first (transferChecks s (suc k) rs)
 checks-after s k r rs e = go (fieldFault transferFlags s r) (reservedFault s r) e
   where
@@ -64,7 +64,7 @@ checks-after s k r rs e = go (fieldFault transferFlags s r) (reservedFault s r) 
     go false true h = let z : _≡_ {A = ℕ} 0 1 = cc in absurd (omega arith)
     go false false h = refl
 
-checks-found : (s : Shape) (k : ℕ) (r : List ℕ) (rs : List (List ℕ)) (f : Refusal) → first (transferChecks s k (r ∷ [])) ≡ some f
+pub checks-found : (s : Shape) (k : ℕ) (r : List ℕ) (rs : List (List ℕ)) (f : Refusal) → first (transferChecks s k (r ∷ [])) ≡ some f
     → first (transferChecks s k (r ∷ rs)) ≡ some f
 checks-found s k r rs f e = go (fieldFault transferFlags s r) (reservedFault s r) e
   where

@@ -32,10 +32,18 @@ module _ {X : Type 0} where
   none-append [] ds h k = k
   none-append (c ∷ cs) ds h k = let e = first-none c cs h in none-first c (cs ++ ds) (e .0) (none-append cs ds (e .1) k)
 
-  -- checks that find nothing can be left out
-  pub passed : (cs ds : List (Check X)) → first cs ≡ none → first (cs ++ ds) ≡ first ds
-  passed [] ds e = refl
-  passed (c ∷ cs) ds e = let h = first-none c cs e in rw (h .0) (passed cs ds (h .1))
+  -- a check of the front list that finds something is the first, and where none does the others decide
+  pub append-found : (cs ds : List (Check X)) (x : X) → first cs ≡ some x → first (cs ++ ds) ≡ some x
+  append-found [] ds x e = let z : _≡_ {A = ℕ} 0 1 = cc in absurd (omega arith)
+  append-found (c ∷ cs) ds x e = go (c .found) refl (append-found cs ds x)
+    where
+      go : (b : Bool) → c .found ≡ b → (first cs ≡ some x → first (cs ++ ds) ≡ some x) → first ((c ∷ cs) ++ ds) ≡ some x
+      go true h ih = rw h (rw h at e)
+      go false h ih = rw h (ih (rw h at e))
+
+  pub append-passed : (cs ds : List (Check X)) → first cs ≡ none → first (cs ++ ds) ≡ first ds
+  append-passed [] ds e = refl
+  append-passed (c ∷ cs) ds e = let k = first-none c cs e in rw (k .0) (append-passed cs ds (k .1))
 
   -- what is found stands in the list, and nothing before it finds anything
   pub first-some : (cs : List (Check X)) (x : X) → first cs ≡ some x → FoundAt X cs x

@@ -19,7 +19,7 @@ use Rattle.stream.specs.Answers.{judgeChecks, uncleanCheck, harvestRefus
 use Rattle.stream.specs.Legal.{Octets, Legal}
 use Rattle.stream.specs.Promises.{rule, HarvestLegal, HarvestRepacks}
 use Rattle.stream.proofs.Bools.{and-left, neither}
-use Rattle.stream.proofs.First.{first-none, none-first, append-none, passed}
+use Rattle.stream.proofs.First.{first-none, none-first, append-none, append-passed}
 use Rattle.stream.proofs.Records.{size-pos, Sized, length-pieces, length-joined, records-joined, records-sized}
 use Rattle.stream.proofs.Legal.{bit-octet, bit-low, octets-append, octets-drop, EachOctets, pieces-octets, Faultless, of-faultless}
 use Rattle.stream.proofs.Repack.{width-fits, fits-width, length-fits}
@@ -156,4 +156,4 @@ harvestRepacks s xs room v lent o e w =
     let short : length (harvested s xs) ≤ captureMost = le-trans (l .1) (length-fits s xs (g .2) .0) in
     let long = length-passes s ys short (l .0 .whole) in
     rw (g .0, fits-width v (record { low = w .0; high = w .1 }), long)
-    (passed (transferChecks s 0 (records s ys)) (roomCheck (packed s v ys) lent ∷ []) (l .0 .faultless))
+    (append-passed (transferChecks s 0 (records s ys)) (roomCheck (packed s v ys) lent ∷ []) (l .0 .faultless))
