@@ -1,4 +1,4 @@
-// The stream cases S1 and S3 to S7, the bounds of a take, and each finding. The output is lent 24 octets EE, and all of them
+// The stream cases S1 to S7, the bounds of a take, and each finding. The output is lent 24 octets EE, and all of them
 // are printed, so that what is not written shows.
 use refusal::Refusal;
 use stream::Shape;
@@ -47,6 +47,16 @@ fn repack_to(name: &[u8], w: usize, v: usize, input: &[u8]) {
     io::write_all(1, b"\n");
 }
 
+// Slices from width w to width v, lane by lane.
+fn downsize_to(name: &[u8], w: usize, v: usize, input: &[u8]) {
+    let mut out = [0xEEu8; 24];
+    let answer = downsize::downsize(Shape { width: w }, v, input, &mut out);
+    io::write_all(1, name);
+    written(answer);
+    octets(&out);
+    io::write_all(1, b"\n");
+}
+
 // Judges a take.
 fn judge(name: &[u8], w: usize, capture: &[u8]) {
     io::write_all(1, name);
@@ -61,9 +71,10 @@ fn judge(name: &[u8], w: usize, capture: &[u8]) {
     io::write_all(1, b"\n");
 }
 
-// S1, S3, S4, S5, S6
+// S1 to S6
 pub fn packed() {
     repack_to(b"S1", 4, 4, b"\x01\x01\x02\x0D\x00\x09\x00\x11\x22\x33\x44");
+    downsize_to(b"S2", 4, 2, b"\x01\x01\x02\x0D\x00\x09\x00\x11\x22\x33\x44");
     repack_to(
         b"S3",
         1,
@@ -141,6 +152,7 @@ pub fn bounds() {
         b"\x0F\xFF\x0F\x01\x00\x01\x00\xFF\x00\x00\x10\x00\x00\x00\x00\x00",
     );
     repack_to(b"FIELD", 1, 1, b"\x02\x00\x00\x00\x00\x01\x00\x00");
+    downsize_to(b"RATIO", 4, 3, b"");
     repack_to(b"RESERVED", 1, 1, b"\x00\x00\x00\x00\x00\x01\x00\x00");
     repack_to(
         b"ROOM",

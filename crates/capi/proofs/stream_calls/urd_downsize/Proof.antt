@@ -1,0 +1,25 @@
+-- `capi::urd_downsize` meets its contract: it shows what the call answers, and leaves what the call leaves. Assumes nothing.
+use mathlib.Core.Path.{sym}
+use Rattle.stream.specs.Answers.{writtenValues}
+use Rattle.capi.proofs.Told.{shown}
+use borrow.Author.Needs.{needs}
+use Rattle.capi.proofs.stream_calls.urd_downsize.Statement.{statement}
+use Rattle.capi.proofs.stream_calls.urd_downsize.Tie as tie
+
+downsize-requires : tie.Need-downsize-requires
+downsize-requires c κs = search needs
+
+of-written-requires : tie.Need-of-written-requires
+of-written-requires c κs = search needs
+
+same-length : tie.Need-same-length
+same-length c = search needs
+
+returns : tie.Need-returns
+returns c = (
+  shown writtenValues (c .of-written .result) (sym (c .before .before .before .downsize .ensures .is)) (c .of-written .ensures),
+  c .before .before .before .downsize .ensures .leaves,
+)
+
+pub urd-downsize-spec : {M : Type 1} → statement M
+urd-downsize-spec = tie.close (tie.spec downsize-requires of-written-requires same-length returns)
