@@ -5,7 +5,7 @@ help:
 	@echo "make test    the whole gate: prove every crate, refuse every must-fail edit, run every test"
 	@echo "make run     print the refusal table through the library's own function"
 	@echo "make check   prove every crate and run its programs, without the must-fail edits"
-	@echo "make bench   measure repack against plain Rust, a line a case; it takes some seconds and is no part of the gate"
+	@echo "make bench   measure repack, judge and harvest against plain Rust; it takes some seconds and is no part of the gate"
 	@echo "make fmt     lay out every .rt and .antt file"
 	@echo "make clean   remove everything that was built"
 

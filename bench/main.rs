@@ -1,11 +1,14 @@
 //! The library's repack against the yardstick, in one process. First all must agree, in the answer and in the whole of
 //! the lent output: on edge cases, on random takes and on every take that is measured. Then the times, a line a case;
 //! `rust_us` is the fastest yardstick shape in that case. With the word `shapes`, each shape's time stands below.
+//! cycles.rs does the same for judge and harvest.
+mod cycles;
 mod yardstick;
 use std::{hint::black_box, time::Instant};
 use yardstick::{Answer, Converter, SHAPES};
 
 #[repr(C)]
+#[derive(Clone, Copy, PartialEq, Eq, Debug)]
 pub struct StreamAnswer { refusal: u32, rule: u32, place: u64, count: u64 }
 
 unsafe extern "C" {
@@ -146,5 +149,6 @@ fn main() {
         }
         worst = worst.max(ours / best);
     }
-    println!("worst={worst:.2}");
+    println!("repack: worst={worst:.2}");
+    cycles::run();
 }

@@ -29,19 +29,22 @@ fn answer(counted: Counted) -> Answer {
 const LAST: u64 = 1;
 const PAIR: u64 = 0xFFFF << 8;
 const KEEP: u64 = 0xFFFF << 24;
-const HEAD: u64 = !0 >> 8;
+pub const HEAD: u64 = !0 >> 8;
 
-fn eight(octets: &[u8]) -> u64 { u64::from_le_bytes(octets[..8].try_into().unwrap()) }
-fn keep_of(head: u64) -> usize { (head >> 24 & 0xFFFF) as usize }
-fn strb_of(head: u64) -> usize { (head >> 40 & 0xFFFF) as usize }
+pub fn eight(octets: &[u8]) -> u64 { u64::from_le_bytes(octets[..8].try_into().unwrap()) }
+pub fn keep_of(head: u64) -> usize { (head >> 24 & 0xFFFF) as usize }
+pub fn strb_of(head: u64) -> usize { (head >> 40 & 0xFFFF) as usize }
 
 /// TKEEP and TSTRB of a record with n data lanes from lane 0 on.
 const fn filled(n: usize) -> u64 { ((1 << n) - 1) * (1 << 24 | 1 << 40) }
 
-/// The bits of a transfer's header that must be zero at width w.
-const fn zeros(w: usize) -> u64 { 0xFE | 0xF0 << 16 | (filled(16) ^ filled(w)) }
+/// TKEEP and TSTRB of the lanes that a width does not have.
+pub const fn unused_lanes(w: usize) -> u64 { filled(16) ^ filled(w) }
 
-fn refuse_if(bad: bool, refusal: u32, place: usize) -> Result<(), (u32, usize)> {
+/// The bits of a transfer's header that must be zero at width w.
+const fn zeros(w: usize) -> u64 { 0xFE | 0xF0 << 16 | unused_lanes(w) }
+
+pub fn refuse_if(bad: bool, refusal: u32, place: usize) -> Result<(), (u32, usize)> {
     if bad { Err((refusal, place)) } else { Ok(()) }
 }
 
