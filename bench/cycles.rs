@@ -178,5 +178,5 @@ pub fn run() {
         println!("{name} w={w} cycles={cycles} rust_us={rust:.1} ours_us={mine:.1} ratio={:.2}", mine / rust);
         worst = worst.max(mine / rust);
     }
-    println!("judge and harvest: worst={worst:.2}");
+    println!("judge and harvest: worst {worst:.2}");
 }

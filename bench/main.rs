@@ -1,7 +1,7 @@
 //! The library's repack against the yardstick, in one process. First all must agree, in the answer and in the whole of
 //! the lent output: on edge cases, on random takes and on every take that is measured. Then the times, a line a case;
 //! `rust_us` is the fastest yardstick shape in that case. With the word `shapes`, each shape's time stands below.
-//! cycles.rs does the same for judge and harvest.
+//! cycles.rs does the same for judge and harvest, before repack's lines.
 mod cycles;
 mod yardstick;
 use std::{hint::black_box, time::Instant};
@@ -128,6 +128,7 @@ fn measure(all: &[(&str, Converter)], w: usize, v: usize, take: &[u8], out: &mut
 fn main() {
     let shapes = std::env::args().any(|word| word == "shapes");
     let all = [&SHAPES[..], &[("ours", ours)]].concat();
+    cycles::run();
     check(&all);
     let mut cases = Vec::new();
     for i in 0..81 {
@@ -137,7 +138,7 @@ fn main() {
         agree_at_rooms(&all, w, v, &take);
         cases.push((w, v, lanes, tlast, take));
     }
-    println!("the library and {} yardstick shapes write the same octets in every case", SHAPES.len());
+    println!("repack: the library and {} yardstick shapes write the same octets in every case", SHAPES.len());
     let (mut out, mut worst) = (vec![0; 45_584 * 8], 0f64); // room for the longest answer, width 16 to 1
     for (w, v, lanes, tlast, take) in &cases {
         let times = measure(&all, *w, *v, take, &mut out);
@@ -149,6 +150,5 @@ fn main() {
         }
         worst = worst.max(ours / best);
     }
-    println!("repack: worst={worst:.2}");
-    cycles::run();
+    println!("worst={worst:.2}");
 }
