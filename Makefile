@@ -9,6 +9,7 @@ help:
 	@echo "make fmt     lay out every .rt and .antt file"
 	@echo "make clean   remove everything that was built"
 
+# tests/gate runs rt ci over every crate of crates.txt, then the tests outside the crates, and sums up.
 test: need-rt
 	@sh tests/gate
 
