@@ -1,10 +1,12 @@
 # The commands of the project. `make` alone lists them.
-.PHONY: help test run check bench fmt clean
+.PHONY: help test run check lib soak bench fmt clean
 
 help:
 	@echo "make test    the whole gate: prove every crate, refuse every must-fail edit, run every test"
 	@echo "make run     print the refusal table through the library's own function"
 	@echo "make check   prove every crate and run its programs, without the must-fail edits"
+	@echo "make lib     build/lib/liburdhvasolk.a and .so for C and Python; their header is include/urdhvasolk.h"
+	@echo "make soak SECONDS=n   compare library and second program for n seconds; SEED=s begins at that seed"
 	@echo "make bench   measure repack, judge and harvest against plain Rust; it takes some seconds and is no part of the gate"
 	@echo "make fmt     lay out every .rt and .antt file"
 	@echo "make clean   remove everything that was built"
@@ -19,6 +21,13 @@ run: need-rt
 
 check: need-rt
 	rt check
+
+lib: need-rt
+	@sh bindings/build
+
+# a difference gives exit status 1, and prints the command that repeats it
+soak: need-rt
+	@sh tests/second/soak "$(SECONDS)" "$(SEED)"
 
 bench: need-rt
 	@sh bench/run
