@@ -216,17 +216,28 @@ static void b6(void)
 
 /* ---- what no bench case shows ---- */
 
-/* crates/capi has the same fields in the same order, #[repr(C)]; tests/bindings compares the texts. */
+/* A field's offset and its octets. */
+#define IS(type, field, offset, octets) check(offsetof(type, field) == (offset) && sizeof(((type *)0)->field) == (octets), #type "." #field)
+
+/* crates/capi has the same fields in the same order, #[repr(C)]; tests/bindings compares the texts too. */
 static void layout(void)
 {
-    check(sizeof(size_t) == 8, "size_t");
-    check(sizeof(urd_burst_answer) == 24 && offsetof(urd_burst_answer, refusal) == 0 && offsetof(urd_burst_answer, lower) == 4
-          && offsetof(urd_burst_answer, upper) == 8 && offsetof(urd_burst_answer, step) == 12
-          && offsetof(urd_burst_answer, address) == 16, "urd_burst_answer");
-    check(sizeof(urd_stream_answer) == 24 && offsetof(urd_stream_answer, refusal) == 0 && offsetof(urd_stream_answer, rule) == 4
-          && offsetof(urd_stream_answer, place) == 8 && offsetof(urd_stream_answer, count) == 16, "urd_stream_answer");
-    check(sizeof(urd_part_answer) == 24 && offsetof(urd_part_answer, refusal) == 0 && offsetof(urd_part_answer, start) == 8
-          && offsetof(urd_part_answer, length) == 16, "urd_part_answer");
+    urd_burst_answer ones;
+    memset(&ones, 0xFF, sizeof ones);
+    check(ones.step == -1, "step is signed");
+    check(sizeof(size_t) == 8 && sizeof(urd_burst_answer) == 24 && sizeof(urd_stream_answer) == 24 && sizeof(urd_part_answer) == 24, "sizes");
+    IS(urd_burst_answer, refusal, 0, 4);
+    IS(urd_burst_answer, lower, 4, 4);
+    IS(urd_burst_answer, upper, 8, 4);
+    IS(urd_burst_answer, step, 12, 4);
+    IS(urd_burst_answer, address, 16, 8);
+    IS(urd_stream_answer, refusal, 0, 4);
+    IS(urd_stream_answer, rule, 4, 4);
+    IS(urd_stream_answer, place, 8, 8);
+    IS(urd_stream_answer, count, 16, 8);
+    IS(urd_part_answer, refusal, 0, 4);
+    IS(urd_part_answer, start, 8, 8);
+    IS(urd_part_answer, length, 16, 8);
 }
 
 static void fill_in(void)
