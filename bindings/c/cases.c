@@ -224,7 +224,7 @@ static void layout(void)
 {
     urd_burst_answer ones;
     memset(&ones, 0xFF, sizeof ones);
-    check(ones.step == -1, "step is signed");
+    check((int64_t)ones.step == -1, "step is signed");
     check(sizeof(size_t) == 8 && sizeof(urd_burst_answer) == 24 && sizeof(urd_stream_answer) == 24 && sizeof(urd_part_answer) == 24, "sizes");
     IS(urd_burst_answer, refusal, 0, 4);
     IS(urd_burst_answer, lower, 4, 4);
