@@ -13,8 +13,17 @@ use lib.ListN.{length, getD, take, drop, length-drop, length-take, drop-of-lengt
 use lib.Seq.{drop-cons, drop-drop, take-nil, take-all, length-take-le}
 use borrow.Author.Tests.{eq-eqb, ne-eqb, le-leb, lt-leb, leb-true, eqb-true, eqb-false}
 use Rattle.setup.specs.Grammar.{Line, text, line, firstLine, after, entry, lineOf, nothingLeft, Word, isWord, oneOf, modes, tlasts, isDigit, number, sheetOf}
-use Rattle.setup.specs.Reading.{LineEnd, Begins, EndSays}
+use Rattle.setup.specs.Reading.{LineEnd, Begins, yes, no, Ended, EndSays, ends, no-end, NumberSays, numeral, no-numeral, Reads, NumberLineSays, number-read, number-refused, ModeLineSays, mode-read, mode-refused, TlastLineSays, tlast-read, tlast-refused}
+use Rattle.setup.specs.declared.End.{End}
 use Rattle.setup.specs.declared.End.the-variants.{At, Missing}
+use Rattle.setup.specs.declared.Decimal.{Decimal}
+use Rattle.setup.specs.declared.Decimal.the-variants.{Is, Missing as NoNumber}
+use Rattle.setup.specs.declared.NumberLine.{NumberLine}
+use Rattle.setup.specs.declared.NumberLine.the-variants.{Read as NumberLine·Read, Refused as NumberLine·Refused}
+use Rattle.setup.specs.declared.ModeLine.{ModeLine}
+use Rattle.setup.specs.declared.ModeLine.the-variants.{Read as ModeLine·Read, Refused as ModeLine·Refused}
+use Rattle.setup.specs.declared.TlastLine.{TlastLine}
+use Rattle.setup.specs.declared.TlastLine.the-variants.{Read as TlastLine·Read, Refused as TlastLine·Refused}
 use Rattle.setup.specs.declared.Mode.{Mode}
 use Rattle.setup.specs.declared.Tlast.{Tlast}
 use Rattle.setup.specs.declared.Setup.{Setup}
@@ -49,8 +58,8 @@ found-end xs n l h e =
       unended = λ k. absurd (omega arith);
     }
 
-pub no-end : (xs : List ℕ) (n : ℕ) → n ≤ length xs → length xs ≤ n → NoneBefore xs n → LineEnd xs n
-no-end xs n l m h =
+pub unended-end : (xs : List ℕ) (n : ℕ) → n ≤ length xs → length xs ≤ n → NoneBefore xs n → LineEnd xs n
+unended-end xs n l m h =
     let e : n ≡ length xs = omega arith in
     record { within = l; ended = λ k. absurd (omega arith); unended = λ k. line-unended xs (rw e at h) }
 
@@ -63,10 +72,13 @@ either-none : (b : Bool) (o : Option (List ℕ)) → o ≡ none → either b o �
 either-none true o e = e
 either-none false o e = refl
 
-pub after-short : (word xs : List ℕ) → length xs < length word → after word xs ≡ none
+after-short : (word xs : List ℕ) → length xs < length word → after word xs ≡ none
 after-short [] xs l = absurd (omega arith)
 after-short (w ∷ word) [] l = refl
 after-short (w ∷ word) (x ∷ xs) l = either-none (eqb w x) (after word xs) (after-short word xs (le-of-suc-le-suc l))
+
+pub too-short : (word xs : List ℕ) → length xs < length word → Begins word xs false
+too-short word xs l = no (after-short word xs l)
 
 -- what is left to compare from place i on
 abbrev pub Left : List ℕ → List ℕ → ℕ → Type 0
@@ -86,12 +98,12 @@ module _ (word xs : List ℕ) (i : ℕ) (l : i < length word) (m : length word �
   left-more e = rw (add-one i) (rw (eq-eqb (getD word i 0) (getD xs i 0) e) at step)
 
   pub left-differs : (getD word i 0 ≡ getD xs i 0 → ⊥) → Begins word xs false
-  left-differs e = sym (rw (ne-eqb (getD word i 0) (getD xs i 0) e) at step)
+  left-differs e = no (sym (rw (ne-eqb (getD word i 0) (getD xs i 0) e) at step))
 
 pub left-none : (word xs : List ℕ) (i : ℕ) → length word ≤ length xs → i ≤ length word → length word ≤ i → Left word xs i → Begins word xs true
 left-none word xs i m l k h =
     let e : i ≡ length word = omega arith in
-    (m, sym h ∙ ap (λ (ys : List ℕ). after ys (drop i xs)) (drop-of-length-le word k) ∙ ap (λ (n : ℕ). some (drop n xs)) e)
+    yes m (sym h ∙ ap (λ (ys : List ℕ). after ys (drop i xs)) (drop-of-length-le word k) ∙ ap (λ (n : ℕ). some (drop n xs)) e)
 
 -- ---- a word that is a whole value
 
@@ -104,22 +116,26 @@ nothing-left xs n e =
 something-left : (xs : List ℕ) (n : ℕ) → n < length xs → nothingLeft (some (drop n xs)) ≡ false
 something-left xs n l = rw (drop-cons xs n 0 l)
 
-module _ (spelt value : List ℕ) where
-  word-yes : Begins spelt value true → length value ≡ length spelt → isWord spelt value ≡ true
-  word-yes b e = ap nothingLeft (b .1) ∙ nothing-left value (length spelt) e
+module _ (spelt value : List ℕ) (l : length spelt ≤ length value) (f : after spelt value ≡ some (drop (length spelt) value)) where
+  same-length : (b : Bool) → eqb (length value) (length spelt) ≡ b → b ≡ isWord spelt value
+  same-length true e = sym (ap nothingLeft f ∙ nothing-left value (length spelt) (eqb-true (length value) (length spelt) e))
+  same-length false e =
+      let ne : length value ≡ length spelt → ⊥ = eqb-false (length value) (length spelt) e in
+      sym (ap nothingLeft f ∙ something-left value (length spelt) (omega (arith, l, ne)))
 
-  word-longer : Begins spelt value true → (length value ≡ length spelt → ⊥) → isWord spelt value ≡ false
-  word-longer b e = ap nothingLeft (b .1) ∙ something-left value (length spelt) (omega (arith, b .0, e))
+begun-word : {spelt value : List ℕ} → Begins spelt value true → eqb (length value) (length spelt) ≡ isWord spelt value
+begun-word {spelt} {value} (yes l f) = same-length spelt value l f (eqb (length value) (length spelt)) refl
 
-  pub word-no : Begins spelt value false → isWord spelt value ≡ false
-  word-no b = ap nothingLeft b
+unbegun-word : {spelt value : List ℕ} → Begins spelt value false → false ≡ isWord spelt value
+unbegun-word (no f) = sym (ap nothingLeft f)
 
-  same-length : (b : Bool) → eqb (length value) (length spelt) ≡ b → Begins spelt value true → b ≡ isWord spelt value
-  same-length true e b = sym (word-yes b (eqb-true (length value) (length spelt) e))
-  same-length false e b = sym (word-longer b (eqb-false (length value) (length spelt) e))
+-- what `begins` answered, by each of its two answers
+module _ {spelt value : List ℕ} {b : Bool} where
+  pub is-word : b ≡ true → Begins spelt value b → eqb (length value) (length spelt) ≡ isWord spelt value
+  is-word e h = begun-word (subst (Begins spelt value) e h)
 
-  pub is-word : Begins spelt value true → eqb (length value) (length spelt) ≡ isWord spelt value
-  is-word b = same-length (eqb (length value) (length spelt)) refl b
+  pub no-word : b ≡ false → Begins spelt value b → false ≡ isWord spelt value
+  no-word e h = unbegun-word (subst (Begins spelt value) e h)
 
 -- ---- the line at a place
 
@@ -149,7 +165,7 @@ module _ (key xs : List ℕ) (from : ℕ) (l : from ≤ length xs) (n : ℕ) (h 
   rest-length = ap length rest-is ∙ length-drop from xs
 
   pub no-line : n ≡ length rest → EndSays key xs from Missing
-  no-line e = subst (λ (ys : List ℕ). entry key ys ≡ none) rest-is (entry-unended key rest (h .unended e))
+  no-line e = no-end (subst (λ (ys : List ℕ). entry key ys ≡ none) rest-is (entry-unended key rest (h .unended e)))
 
   module _ (m : n ≡ length rest → ⊥) where
     inside : n < length rest
@@ -158,10 +174,14 @@ module _ (key xs : List ℕ) (from : ℕ) (l : from ≤ length xs) (n : ℕ) (h 
     pub line-length : n ≡ length (take n rest)
     line-length = sym (length-take-le n rest (h .within))
 
-    pub other-key : Begins key (take n rest) false → EndSays key xs from Missing
-    other-key b =
-        subst (λ (ys : List ℕ). entry key ys ≡ none) rest-is
-        (entry-differs key rest (take n rest) (drop (n + 1) rest) (h .ended inside) b)
+    other-start : Begins key (take n rest) false → EndSays key xs from Missing
+    other-start (no f) =
+        no-end
+        (subst (λ (ys : List ℕ). entry key ys ≡ none) rest-is
+        (entry-differs key rest (take n rest) (drop (n + 1) rest) (h .ended inside) f))
+
+    pub other-key : {b : Bool} → b ≡ false → Begins key (take n rest) b → EndSays key xs from Missing
+    other-key e b = other-start (subst (Begins key (take n rest)) e b)
 
     value : length key ≤ n → drop (length key) (take n rest) ≡ take (from + n - (from + length key)) (drop (from + length key) xs)
     value k =
@@ -177,27 +197,46 @@ module _ (key xs : List ℕ) (from : ℕ) (l : from ≤ length xs) (n : ℕ) (h 
         let same : from + (n + 1) ≡ from + n + 1 = omega arith in
         ap (drop (n + 1)) rest-is ∙ drop-drop (n + 1) from xs ∙ ap (λ (j : ℕ). drop j xs) same
 
-    pub line-found : Begins key (take n rest) true → EndSays key xs from (At (from + n))
-    line-found b =
-        let k : length key ≤ n = omega (arith, b .0, line-length) in (
-          omega arith,
-          omega (arith, inside, rest-length),
-          subst (λ (ys : List ℕ). entry key ys ≡ some (line (take (from + n - (from + length key)) (drop (from + length key) xs)) (drop (from + n + 1) xs))) rest-is
-              (entry-found key rest (take n rest) (drop (n + 1) rest) (drop (length key) (take n rest)) (h .ended inside) (b .1)
-              ∙ ap₂ (λ (v r : List ℕ). some (line v r)) (value k) next),
-        )
+    key-start : Begins key (take n rest) true → EndSays key xs from (At (from + n))
+    key-start (yes l f) =
+        let k : length key ≤ n = omega (arith, l, line-length) in
+        ends {n = from + n}
+        (record {
+          fits = omega arith;
+          inside = omega (arith, inside, rest-length);
+          is =
+              subst (λ (ys : List ℕ). entry key ys ≡ some (line (take (from + n - (from + length key)) (drop (from + length key) xs)) (drop (from + n + 1) xs))) rest-is
+              (entry-found key rest (take n rest) (drop (n + 1) rest) (drop (length key) (take n rest)) (h .ended inside) f
+              ∙ ap₂ (λ (v r : List ℕ). some (line v r)) (value k) next);
+        })
+
+    pub line-found : {b : Bool} → b ≡ true → Begins key (take n rest) b → EndSays key xs from (At (from + n))
+    line-found e b = key-start (subst (Begins key (take n rest)) e b)
 
 -- ---- what a reader makes of a line
 
-module _ {A : Type 0} (key ys : List ℕ) (reader : List ℕ → Option A) where
-  pub line-missing : entry key ys ≡ none → lineOf key reader ys ≡ none
-  line-missing e = rw e
+end-of : {key xs : List ℕ} {from n : ℕ} → EndSays key xs from (At n) → Ended key xs from n
+end-of (ends h) = h
 
-  pub line-refused : (w r : List ℕ) → entry key ys ≡ some (line w r) → reader w ≡ none → lineOf key reader ys ≡ none
-  line-refused w r e f = rw (e, f)
+missing-of : {key xs : List ℕ} {from : ℕ} → EndSays key xs from Missing → entry key (drop from xs) ≡ none
+missing-of (no-end h) = h
 
-  pub line-read : (w r : List ℕ) (v : A) → entry key ys ≡ some (line w r) → reader w ≡ some v → lineOf key reader ys ≡ some (line v r)
-  line-read w r v e f = rw (e, f)
+module _ {key xs : List ℕ} {from : ℕ} {e : End} where
+  pub has-end : {n : ℕ} → e ≡ At n → EndSays key xs from e → Ended key xs from n
+  has-end p h = end-of (subst (EndSays key xs from) p h)
+
+  pub no-value : {A : Type 0} (reader : List ℕ → Option A) → e ≡ Missing → EndSays key xs from e → lineOf key reader (drop from xs) ≡ none
+  no-value reader p h = rw (missing-of (subst (EndSays key xs from) p h))
+
+module _ {A : Type 0} (reader : List ℕ → Option A) {key xs : List ℕ} {from n : ℕ} (h : Ended key xs from n) where
+  abbrev found : List ℕ
+  found = take (n - (from + length key)) (drop (from + length key) xs)
+
+  pub line-refused : reader found ≡ none → lineOf key reader (drop from xs) ≡ none
+  line-refused e = rw (h .is, e)
+
+  pub line-read : {v : A} → reader found ≡ some v → Reads (lineOf key reader (drop from xs)) xs v (n + 1)
+  line-read e = record { within = omega (arith, h .inside); is = rw (h .is, e) }
 
 -- ---- one of two words
 
@@ -244,41 +283,95 @@ two-octets (x ∷ []) e = absurd (omega arith)
 two-octets (x ∷ y ∷ []) e = refl
 two-octets (x ∷ y ∷ z ∷ v) e = absurd (omega arith)
 
-pub no-number : (v : List ℕ) → (length v ≡ 1 → ⊥) → (length v ≡ 2 → ⊥) → number v ≡ none
+no-number : (v : List ℕ) → (length v ≡ 1 → ⊥) → (length v ≡ 2 → ⊥) → number v ≡ none
 no-number [] e f = refl
 no-number (x ∷ []) e f = absurd (e refl)
 no-number (x ∷ y ∷ []) e f = absurd (f refl)
 no-number (x ∷ y ∷ z ∷ v) e f = refl
 
+pub other-length : (v : List ℕ) → (length v ≡ 1 → ⊥) → (length v ≡ 2 → ⊥) → NumberSays v NoNumber
+other-length v e f = no-numeral (no-number v e f)
+
+numeral-of : {value : List ℕ} {n : ℕ} → NumberSays value (Is n) → number value ≡ some n
+numeral-of (numeral h) = h
+
+no-numeral-of : {value : List ℕ} → NumberSays value NoNumber → number value ≡ none
+no-numeral-of (no-numeral h) = h
+
+module _ {value : List ℕ} {d : Decimal} where
+  pub is-number : {n : ℕ} → d ≡ Is n → NumberSays value d → number value ≡ some n
+  is-number p h = numeral-of (subst (NumberSays value) p h)
+
+  pub not-number : d ≡ NoNumber → NumberSays value d → number value ≡ none
+  not-number p h = no-numeral-of (subst (NumberSays value) p h)
+
 -- ---- the sheet, line by line
 
-module _ (xs : List ℕ) where
-  pub first-refused : lineOf (text "width_in=") number xs ≡ none → Refused ≡ sheetOf xs
+number-read-of : {key xs : List ℕ} {from v n : ℕ} → NumberLineSays key xs from (NumberLine·Read v n) → Reads (lineOf key number (drop from xs)) xs v n
+number-read-of (number-read h) = h
+
+number-refused-of : {key xs : List ℕ} {from : ℕ} → NumberLineSays key xs from NumberLine·Refused → lineOf key number (drop from xs) ≡ none
+number-refused-of (number-refused h) = h
+
+mode-read-of : {xs : List ℕ} {from : ℕ} {v : Mode} {n : ℕ} → ModeLineSays xs from (ModeLine·Read v n) → Reads (lineOf (text "mode=") (oneOf modes) (drop from xs)) xs v n
+mode-read-of (mode-read h) = h
+
+mode-refused-of : {xs : List ℕ} {from : ℕ} → ModeLineSays xs from ModeLine·Refused → lineOf (text "mode=") (oneOf modes) (drop from xs) ≡ none
+mode-refused-of (mode-refused h) = h
+
+tlast-read-of : {xs : List ℕ} {from : ℕ} {v : Tlast} {n : ℕ} → TlastLineSays xs from (TlastLine·Read v n) → Reads (lineOf (text "tlast=") (oneOf tlasts) (drop from xs)) xs v n
+tlast-read-of (tlast-read h) = h
+
+tlast-refused-of : {xs : List ℕ} {from : ℕ} → TlastLineSays xs from TlastLine·Refused → lineOf (text "tlast=") (oneOf tlasts) (drop from xs) ≡ none
+tlast-refused-of (tlast-refused h) = h
+
+module _ {key xs : List ℕ} {from : ℕ} {l : NumberLine} where
+  pub read-number : {v n : ℕ} → l ≡ NumberLine·Read v n → NumberLineSays key xs from l → Reads (lineOf key number (drop from xs)) xs v n
+  read-number p h = number-read-of (subst (NumberLineSays key xs from) p h)
+
+  pub refused-number : l ≡ NumberLine·Refused → NumberLineSays key xs from l → lineOf key number (drop from xs) ≡ none
+  refused-number p h = number-refused-of (subst (NumberLineSays key xs from) p h)
+
+module _ {xs : List ℕ} {from : ℕ} {l : ModeLine} where
+  pub read-mode : {v : Mode} {n : ℕ} → l ≡ ModeLine·Read v n → ModeLineSays xs from l → Reads (lineOf (text "mode=") (oneOf modes) (drop from xs)) xs v n
+  read-mode p h = mode-read-of (subst (ModeLineSays xs from) p h)
+
+  pub refused-mode : l ≡ ModeLine·Refused → ModeLineSays xs from l → lineOf (text "mode=") (oneOf modes) (drop from xs) ≡ none
+  refused-mode p h = mode-refused-of (subst (ModeLineSays xs from) p h)
+
+module _ {xs : List ℕ} {from : ℕ} {l : TlastLine} where
+  pub read-tlast : {v : Tlast} {n : ℕ} → l ≡ TlastLine·Read v n → TlastLineSays xs from l → Reads (lineOf (text "tlast=") (oneOf tlasts) (drop from xs)) xs v n
+  read-tlast p h = tlast-read-of (subst (TlastLineSays xs from) p h)
+
+  pub refused-tlast : l ≡ TlastLine·Refused → TlastLineSays xs from l → lineOf (text "tlast=") (oneOf tlasts) (drop from xs) ≡ none
+  refused-tlast p h = tlast-refused-of (subst (TlastLineSays xs from) p h)
+
+pub first-refused : (xs : List ℕ) → lineOf (text "width_in=") number xs ≡ none → Refused ≡ sheetOf xs
+unfolding sheetOf
+first-refused xs e = rw e
+
+module _ {xs : List ℕ} {a second : ℕ} (p : Reads (lineOf (text "width_in=") number xs) xs a second) where
+  pub second-refused : lineOf (text "width_out=") number (drop second xs) ≡ none → Refused ≡ sheetOf xs
   unfolding sheetOf
-  first-refused e = rw e
+  second-refused e = rw (p .is, e)
 
-  module _ (a second : ℕ) (p : lineOf (text "width_in=") number xs ≡ some (line a (drop second xs))) where
-    pub second-refused : lineOf (text "width_out=") number (drop second xs) ≡ none → Refused ≡ sheetOf xs
+  module _ {b third : ℕ} (q : Reads (lineOf (text "width_out=") number (drop second xs)) xs b third) where
+    pub third-refused : lineOf (text "mode=") (oneOf modes) (drop third xs) ≡ none → Refused ≡ sheetOf xs
     unfolding sheetOf
-    second-refused e = rw (p, e)
+    third-refused e = rw (p .is, q .is, e)
 
-    module _ (b third : ℕ) (q : lineOf (text "width_out=") number (drop second xs) ≡ some (line b (drop third xs))) where
-      pub third-refused : lineOf (text "mode=") (oneOf modes) (drop third xs) ≡ none → Refused ≡ sheetOf xs
+    module _ {m : Mode} {fourth : ℕ} (r : Reads (lineOf (text "mode=") (oneOf modes) (drop third xs)) xs m fourth) where
+      pub fourth-refused : lineOf (text "tlast=") (oneOf tlasts) (drop fourth xs) ≡ none → Refused ≡ sheetOf xs
       unfolding sheetOf
-      third-refused e = rw (p, q, e)
+      fourth-refused e = rw (p .is, q .is, r .is, e)
 
-      module _ (m : Mode) (fourth : ℕ) (r : lineOf (text "mode=") (oneOf modes) (drop third xs) ≡ some (line m (drop fourth xs))) where
-        pub fourth-refused : lineOf (text "tlast=") (oneOf tlasts) (drop fourth xs) ≡ none → Refused ≡ sheetOf xs
+      module _ {t : Tlast} {end : ℕ} (s : Reads (lineOf (text "tlast=") (oneOf tlasts) (drop fourth xs)) xs t end) where
+        pub end-refused : end < length xs → Refused ≡ sheetOf xs
         unfolding sheetOf
-        fourth-refused e = rw (p, q, r, e)
+        end-refused l = rw (p .is, q .is, r .is, s .is, drop-cons xs end 0 l)
 
-        module _ (t : Tlast) (end : ℕ) (s : lineOf (text "tlast=") (oneOf tlasts) (drop fourth xs) ≡ some (line t (drop end xs))) where
-          pub end-refused : end < length xs → Refused ≡ sheetOf xs
-          unfolding sheetOf
-          end-refused l = rw (p, q, r, s, drop-cons xs end 0 l)
-
-          pub sheet-read : length xs ≤ end → Read (record { «width_in» = a; «width_out» = b; mode = m; tlast = t }) ≡ sheetOf xs
-          unfolding sheetOf
-          sheet-read l =
-              let gone : drop end xs ≡ [] = drop-of-length-le xs l in
-              rw (p, q, r, s, gone)
+        pub sheet-read : length xs ≤ end → Read (record { «width_in» = a; «width_out» = b; mode = m; tlast = t }) ≡ sheetOf xs
+        unfolding sheetOf
+        sheet-read l =
+            let gone : drop end xs ≡ [] = drop-of-length-le xs l in
+            rw (p .is, q .is, r .is, s .is, gone)

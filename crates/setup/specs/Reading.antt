@@ -5,6 +5,8 @@ use mathlib.Core.Option.{Option, none, some}
 use mathlib.Core.Path.{_≡_}
 use Prim.Native.Nat.{ℕ, _+_, _-_, _≤_, _<_}
 use lib.ListN.{length, take, drop}
+use Rattle.setup.specs.declared.Mode.{Mode}
+use Rattle.setup.specs.declared.Tlast.{Tlast}
 use Rattle.setup.specs.declared.End.{End}
 use Rattle.setup.specs.declared.End.the-variants.{At as End·At, Missing as End·Missing}
 use Rattle.setup.specs.declared.Decimal.{Decimal}
@@ -24,33 +26,37 @@ pub record LineEnd (xs : List ℕ) (n : ℕ) : Type 0 where
   pub unended : n ≡ length xs → firstLine xs ≡ none
 
 -- whether a word begins a text, and what then follows it
-abbrev pub Begins : List ℕ → List ℕ → Bool → Type 0
-Begins word xs true = (length word ≤ length xs) × (after word xs ≡ some (drop (length word) xs))
-Begins word xs false = after word xs ≡ none
+pub data Begins (word xs : List ℕ) : Bool → Type 0 where
+  yes : length word ≤ length xs → after word xs ≡ some (drop (length word) xs) → Begins word xs true
+  no : after word xs ≡ none → Begins word xs false
 
--- the line at a place ends at n, and its value stands after the key
-abbrev pub EndSays : List ℕ → List ℕ → ℕ → End → Type 0
-EndSays key xs from (End·At n) =
-    (from + length key ≤ n) × (n < length xs)
-    × (entry key (drop from xs) ≡ some (line (take (n - (from + length key)) (drop (from + length key) xs)) (drop (n + 1) xs)))
-EndSays key xs from End·Missing = entry key (drop from xs) ≡ none
+-- the line at a place ends at n, and its value stands between the key and n
+pub record Ended (key xs : List ℕ) (from n : ℕ) : Type 0 where
+  pub fits : from + length key ≤ n
+  pub inside : n < length xs
+  pub is : entry key (drop from xs) ≡ some (line (take (n - (from + length key)) (drop (from + length key) xs)) (drop (n + 1) xs))
 
-abbrev pub NumberSays : List ℕ → Decimal → Type 0
-NumberSays value (Is n) = number value ≡ some n
-NumberSays value Decimal·Missing = number value ≡ none
+pub data EndSays (key xs : List ℕ) (from : ℕ) : End → Type 0 where
+  ends : {n : ℕ} → Ended key xs from n → EndSays key xs from (End·At n)
+  no-end : entry key (drop from xs) ≡ none → EndSays key xs from End·Missing
 
--- the line at a place is read, and the next one starts at n; or it is not as it should be
-abbrev pub Reads : {A : Type 0} → Option (Line A) → List ℕ → A → ℕ → Type 0
-Reads found xs v n = (n ≤ length xs) × (found ≡ some (line v (drop n xs)))
+pub data NumberSays (value : List ℕ) : Decimal → Type 0 where
+  numeral : {n : ℕ} → number value ≡ some n → NumberSays value (Is n)
+  no-numeral : number value ≡ none → NumberSays value Decimal·Missing
 
-abbrev pub NumberLineSays : List ℕ → List ℕ → ℕ → NumberLine → Type 0
-NumberLineSays key xs from (NumberLine·Read v n) = Reads (lineOf key number (drop from xs)) xs v n
-NumberLineSays key xs from NumberLine·Refused = lineOf key number (drop from xs) ≡ none
+-- a line is read as v, and the next one starts at n
+pub record Reads {A : Type 0} (found : Option (Line A)) (xs : List ℕ) (v : A) (n : ℕ) : Type 0 where
+  pub within : n ≤ length xs
+  pub is : found ≡ some (line v (drop n xs))
 
-abbrev pub ModeLineSays : List ℕ → ℕ → ModeLine → Type 0
-ModeLineSays xs from (ModeLine·Read v n) = Reads (lineOf (text "mode=") (oneOf modes) (drop from xs)) xs v n
-ModeLineSays xs from ModeLine·Refused = lineOf (text "mode=") (oneOf modes) (drop from xs) ≡ none
+pub data NumberLineSays (key xs : List ℕ) (from : ℕ) : NumberLine → Type 0 where
+  number-read : {v n : ℕ} → Reads (lineOf key number (drop from xs)) xs v n → NumberLineSays key xs from (NumberLine·Read v n)
+  number-refused : lineOf key number (drop from xs) ≡ none → NumberLineSays key xs from NumberLine·Refused
 
-abbrev pub TlastLineSays : List ℕ → ℕ → TlastLine → Type 0
-TlastLineSays xs from (TlastLine·Read v n) = Reads (lineOf (text "tlast=") (oneOf tlasts) (drop from xs)) xs v n
-TlastLineSays xs from TlastLine·Refused = lineOf (text "tlast=") (oneOf tlasts) (drop from xs) ≡ none
+pub data ModeLineSays (xs : List ℕ) (from : ℕ) : ModeLine → Type 0 where
+  mode-read : {v : Mode} → {n : ℕ} → Reads (lineOf (text "mode=") (oneOf modes) (drop from xs)) xs v n → ModeLineSays xs from (ModeLine·Read v n)
+  mode-refused : lineOf (text "mode=") (oneOf modes) (drop from xs) ≡ none → ModeLineSays xs from ModeLine·Refused
+
+pub data TlastLineSays (xs : List ℕ) (from : ℕ) : TlastLine → Type 0 where
+  tlast-read : {v : Tlast} → {n : ℕ} → Reads (lineOf (text "tlast=") (oneOf tlasts) (drop from xs)) xs v n → TlastLineSays xs from (TlastLine·Read v n)
+  tlast-refused : lineOf (text "tlast=") (oneOf tlasts) (drop from xs) ≡ none → TlastLineSays xs from TlastLine·Refused

@@ -3,7 +3,7 @@ use mathlib.Core.Path.{refl}
 use Prim.Native.Nat.{_≤_, _-_}
 use native.Mathlib.Omega.{arith}
 use lib.ListN.{length}
-use Rattle.setup.proofs.Laws.{Left, after-short, left-more, left-differs, left-none}
+use Rattle.setup.proofs.Laws.{Left, too-short, left-more, left-differs, left-none}
 use Rattle.setup.proofs.begins.Statement.{statement}
 use Rattle.setup.proofs.begins.Tie as tie
 
@@ -14,7 +14,7 @@ abbrev μ-loop : tie.MeasureT-loop
 μ-loop text word i₀ i = length word - i
 
 returns : tie.Need-returns Inv-loop μ-loop
-returns c = after-short (c .before .args .word .now) (c .before .args .text .now) (omega arith)
+returns c = too-short (c .before .args .word .now) (c .before .args .text .now) (omega arith)
 
 loop-holds : tie.Need-loop-holds Inv-loop μ-loop
 loop-holds c = (omega arith, omega arith, refl)

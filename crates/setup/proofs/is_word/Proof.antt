@@ -1,8 +1,5 @@
 -- `setup::is_word` meets its contract: the word, and as many octets as it has. Assumes nothing.
-use mathlib.Core.Bool.{Bool}
-use mathlib.Core.Path.{sym, subst}
-use Rattle.setup.specs.Reading.{Begins}
-use Rattle.setup.proofs.Laws.{is-word, word-no}
+use Rattle.setup.proofs.Laws.{is-word, no-word}
 use borrow.Author.Needs.{needs}
 use Rattle.setup.proofs.is_word.Statement.{statement}
 use Rattle.setup.proofs.is_word.Tie as tie
@@ -11,10 +8,10 @@ begins-requires : tie.Need-begins-requires
 begins-requires c κs = search needs
 
 returns : tie.Need-returns
-returns c = is-word (c .before .before .before .before .args .word .now) (c .before .before .before .before .args .value .now) (subst (λ (b : Bool). Begins (c .before .before .before .before .args .word .now) (c .before .before .before .before .args .value .now) b) (c .if1 .taken) (c .before .begins .ensures))
+returns c = is-word (c .if1 .taken) (c .before .begins .ensures)
 
 returns-2 : tie.Need-returns-2
-returns-2 c = sym (word-no (c .before .before .before .before .args .word .now) (c .before .before .before .before .args .value .now) (subst (λ (b : Bool). Begins (c .before .before .before .before .args .word .now) (c .before .before .before .before .args .value .now) b) (c .if1 .left) (c .before .begins .ensures)))
+returns-2 c = no-word (c .if1 .left) (c .before .begins .ensures)
 
 pub is-word-spec : {M : Type 1} → statement M
 is-word-spec = tie.close (tie.spec begins-requires returns returns-2)

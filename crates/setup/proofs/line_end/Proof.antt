@@ -3,7 +3,7 @@ use Prim.Native.Nat.{_≤_, _-_}
 use native.Mathlib.Omega.{arith}
 use borrow.Author.Count.{below-more}
 use lib.ListN.{length}
-use Rattle.setup.proofs.Laws.{NoneBefore, found-end, no-end}
+use Rattle.setup.proofs.Laws.{NoneBefore, found-end, unended-end}
 use Rattle.setup.proofs.line_end.Statement.{statement}
 use Rattle.setup.proofs.line_end.Tie as tie
 
@@ -32,7 +32,7 @@ loop-again : tie.Need-loop-again Inv-loop μ-loop
 loop-again c = (omega arith, below-more _ _ (c .before .before .before .loop .inv .1) (c .if1 .left))
 
 returns-2 : tie.Need-returns-2 Inv-loop μ-loop
-returns-2 c = no-end (c .before .before .args .text .now) (c .before .loop .i) (omega arith) (omega arith) (c .before .loop .inv .1)
+returns-2 c = unended-end (c .before .before .args .text .now) (c .before .loop .i) (omega arith) (omega arith) (c .before .loop .inv .1)
 
 pub line-end-spec : {M : Type 1} → statement M
 line-end-spec =

@@ -4,7 +4,7 @@ use mathlib.Core.Path.{sym, subst}
 use Prim.Native.Nat.{ℕ}
 use native.Mathlib.Omega.{arith}
 use Rattle.setup.specs.Reading.{NumberSays}
-use Rattle.setup.proofs.Laws.{one-octet, two-octets, no-number}
+use Rattle.setup.proofs.Laws.{one-octet, two-octets, other-length}
 use borrow.Author.Needs.{needs}
 use Rattle.setup.proofs.number.Statement.{statement}
 use Rattle.setup.proofs.number.Tie as tie
@@ -31,7 +31,7 @@ returns-2 : tie.Need-returns-2
 returns-2 c = subst (λ (v : List ℕ). NumberSays v (c .two-digits .result)) (sym (two-octets (c .before .before .before .before .before .before .args .value .now) (omega arith))) (c .two-digits .ensures)
 
 returns-3 : tie.Need-returns-3
-returns-3 c = no-number (c .before .before .before .args .value .now) (c .before .if1 .left) (c .if2 .left)
+returns-3 c = other-length (c .before .before .before .args .value .now) (c .before .if1 .left) (c .if2 .left)
 
 pub number-spec : {M : Type 1} → statement M
 number-spec =

@@ -1,5 +1,7 @@
 -- `setup::one_digit` meets its contract. Assumes nothing.
 use mathlib.Core.Path.{sym, _∙_}
+use Prim.Native.Nat.{_-_}
+use Rattle.setup.specs.Reading.{numeral, no-numeral}
 use Rattle.setup.proofs.Laws.{digit-range}
 use borrow.Author.Needs.{needs}
 use Rattle.setup.proofs.one_digit.Statement.{statement}
@@ -15,10 +17,10 @@ cast-t4 : tie.Need-cast-t4
 cast-t4 c = search needs
 
 returns : tie.Need-returns
-returns c = rw (sym (c .before .is-digit .ensures) ∙ c .if1 .taken)
+returns c = numeral {n = c .before .before .args .x - 48} (rw (sym (c .before .is-digit .ensures) ∙ c .if1 .taken))
 
 returns-2 : tie.Need-returns-2
-returns-2 c = rw (sym (c .before .is-digit .ensures) ∙ c .if1 .left)
+returns-2 c = no-numeral (rw (sym (c .before .is-digit .ensures) ∙ c .if1 .left))
 
 pub one-digit-spec : {M : Type 1} → statement M
 one-digit-spec = tie.close (tie.spec is-digit-requires sub-t3 cast-t4 returns returns-2)

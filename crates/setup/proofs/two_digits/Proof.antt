@@ -1,13 +1,15 @@
 -- `setup::two_digits` meets its contract: no zero in front, and two digits. Assumes nothing.
 use mathlib.Core.Path.{sym, _∙_}
-use borrow.Author.Tests.{ne-eqb}
+use Prim.Native.Nat.{_+_, _-_, _*_}
+use borrow.Author.Tests.{eq-eqb, ne-eqb}
+use Rattle.setup.specs.Reading.{numeral, no-numeral}
 use Rattle.setup.proofs.Laws.{digit-range}
 use borrow.Author.Needs.{needs}
 use Rattle.setup.proofs.two_digits.Statement.{statement}
 use Rattle.setup.proofs.two_digits.Tie as tie
 
 returns : tie.Need-returns
-returns c = search needs
+returns c = no-numeral (rw (eq-eqb (c .before .args .x) 48 (c .if1 .taken)))
 
 is-digit-requires : tie.Need-is-digit-requires
 is-digit-requires c κs = search needs
@@ -34,13 +36,13 @@ add-t11 : tie.Need-add-t11
 add-t11 c = search needs
 
 returns-2 : tie.Need-returns-2
-returns-2 c = rw (ne-eqb (c .before .before .before .before .before .args .x) 48 (c .before .before .before .before .if1 .left), (sym (c .before .before .before .is-digit .ensures) ∙ c .before .before .if2 .taken), (sym (c .before .is-digit2 .ensures) ∙ c .if3 .taken))
+returns-2 c = numeral {n = 10 * (c .before .before .before .before .before .args .x - 48) + (c .before .before .before .before .before .args .y - 48)} (rw (ne-eqb (c .before .before .before .before .before .args .x) 48 (c .before .before .before .before .if1 .left), sym (c .before .before .before .is-digit .ensures) ∙ c .before .before .if2 .taken, sym (c .before .is-digit2 .ensures) ∙ c .if3 .taken))
 
 returns-3 : tie.Need-returns-3
-returns-3 c = rw (ne-eqb (c .before .before .before .before .before .args .x) 48 (c .before .before .before .before .if1 .left), (sym (c .before .before .before .is-digit .ensures) ∙ c .before .before .if2 .taken), (sym (c .before .is-digit2 .ensures) ∙ c .if3 .left))
+returns-3 c = no-numeral (rw (ne-eqb (c .before .before .before .before .before .args .x) 48 (c .before .before .before .before .if1 .left), sym (c .before .before .before .is-digit .ensures) ∙ c .before .before .if2 .taken, sym (c .before .is-digit2 .ensures) ∙ c .if3 .left))
 
 returns-4 : tie.Need-returns-4
-returns-4 c = rw (ne-eqb (c .before .before .before .args .x) 48 (c .before .before .if1 .left), (sym (c .before .is-digit .ensures) ∙ c .if2 .left))
+returns-4 c = no-numeral (rw (ne-eqb (c .before .before .before .args .x) 48 (c .before .before .if1 .left), sym (c .before .is-digit .ensures) ∙ c .if2 .left))
 
 pub two-digits-spec : {M : Type 1} → statement M
 two-digits-spec =

@@ -1,9 +1,4 @@
 -- `setup::value_end` meets its contract: the line that a LF ends, and the key in front of it. Assumes nothing.
-use mathlib.Core.Bool.{Bool}
-use mathlib.Core.Path.{subst}
-use Prim.Native.Nat.{_-_}
-use lib.ListN.{length, take, drop}
-use Rattle.setup.specs.Reading.{Begins}
 use Rattle.setup.proofs.Laws.{no-line, line-length, line-found, other-key}
 use borrow.Author.Needs.{needs}
 use Rattle.setup.proofs.value_end.Statement.{statement}
@@ -34,10 +29,10 @@ add-t13 : tie.Need-add-t13
 add-t13 c = search needs
 
 returns-2 : tie.Need-returns-2
-returns-2 c = line-found (c .before .before .before .before .before .before .before .before .args .key .now) (c .before .before .before .before .before .before .before .before .args .text .now) (c .before .before .before .before .before .before .before .before .args .from) (c .before .before .before .before .before .before .before .before .pre) (c .before .before .before .before .line-end .result) (c .before .before .before .before .line-end .ensures) (c .before .before .before .if1 .left) (subst (λ (t : Bool). Begins (c .before .before .before .before .before .before .before .before .args .key .now) (take (c .before .before .before .before .line-end .result) (take (length (c .before .before .before .before .before .before .before .before .args .text .now) - c .before .before .before .before .before .before .before .before .args .from) (drop (c .before .before .before .before .before .before .before .before .args .from) (c .before .before .before .before .before .before .before .before .args .text .now)))) t) (c .if2 .taken) (c .before .begins .ensures))
+returns-2 c = line-found (c .before .before .before .before .before .before .before .before .args .key .now) (c .before .before .before .before .before .before .before .before .args .text .now) (c .before .before .before .before .before .before .before .before .args .from) (c .before .before .before .before .before .before .before .before .pre) (c .before .before .before .before .line-end .result) (c .before .before .before .before .line-end .ensures) (c .before .before .before .if1 .left) (c .if2 .taken) (c .before .begins .ensures)
 
 returns-3 : tie.Need-returns-3
-returns-3 c = other-key (c .before .before .before .before .before .before .before .before .args .key .now) (c .before .before .before .before .before .before .before .before .args .text .now) (c .before .before .before .before .before .before .before .before .args .from) (c .before .before .before .before .before .before .before .before .pre) (c .before .before .before .before .line-end .result) (c .before .before .before .before .line-end .ensures) (c .before .before .before .if1 .left) (subst (λ (t : Bool). Begins (c .before .before .before .before .before .before .before .before .args .key .now) (take (c .before .before .before .before .line-end .result) (take (length (c .before .before .before .before .before .before .before .before .args .text .now) - c .before .before .before .before .before .before .before .before .args .from) (drop (c .before .before .before .before .before .before .before .before .args .from) (c .before .before .before .before .before .before .before .before .args .text .now)))) t) (c .if2 .left) (c .before .begins .ensures))
+returns-3 c = other-key (c .before .before .before .before .before .before .before .before .args .key .now) (c .before .before .before .before .before .before .before .before .args .text .now) (c .before .before .before .before .before .before .before .before .args .from) (c .before .before .before .before .before .before .before .before .pre) (c .before .before .before .before .line-end .result) (c .before .before .before .before .line-end .ensures) (c .before .before .before .if1 .left) (c .if2 .left) (c .before .begins .ensures)
 
 pub value-end-spec : {M : Type 1} → statement M
 value-end-spec =
