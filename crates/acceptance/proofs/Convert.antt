@@ -52,7 +52,7 @@ pub result-long : (m : Mode) (s : Shape) (v : ℕ) (xs : List ℕ) → length (c
 result-long Pack s v xs = length-packed s v xs
 result-long Lanes s v xs = length-octets (atWidth s v) (slicedTransfers s v xs) (wide-slices (s .width) v (transfers s xs))
 
-result-fits : (m : Mode) (s : Shape) (v : ℕ) (xs : List ℕ) (room : ℕ) → convertRefusal m s v xs room ≡ none → length (convertResult m s v xs) ≤ room
+pub result-fits : (m : Mode) (s : Shape) (v : ℕ) (xs : List ℕ) (room : ℕ) → convertRefusal m s v xs room ≡ none → length (convertResult m s v xs) ≤ room
 result-fits Pack s v xs room e = repacks-of s v xs room e .fits
 result-fits Lanes s v xs room e =
     let end = roomCheck (sliced s v xs) room ∷ [] in

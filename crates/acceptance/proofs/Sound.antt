@@ -16,7 +16,7 @@ use Rattle.stream.specs.declared.Written.the-variants.{Records}
 use Rattle.stream.specs.Layout.{size, records, joined}
 use Rattle.stream.specs.Handshake.{transferred, handshakes, asTransfer, transferCount, harvested}
 use Rattle.stream.specs.Answers.{judgeAnswer, harvestRefusal, harvestAnswer, harvestAfter, Harvested}
-use Rattle.stream.proofs.Records.{size-pos, Sized, length-joined, records-sized}
+use Rattle.stream.proofs.Records.{size-pos, Sized, length-joined, records-joined, records-sized}
 use Rattle.stream.proofs.Harvest.{length-kept}
 use Rattle.harvest.proofs.Answer.{clean-width, clean-short, harvest-written}
 use Rattle.acceptance.specs.Steps.{Whole}
@@ -36,6 +36,11 @@ pub harvested-long : (s : Shape) (xs : List ℕ) → length (harvested s xs) ≡
 harvested-long s xs =
     length-joined (size s) (map asTransfer (handshakes (records s xs))) (kept-sized (size s) (records s xs) (size-pos s) (records-sized s xs))
     ∙ ap (λ (n : ℕ). n * size s) (length-map (handshakes (records s xs)) asTransfer)
+
+pub harvested-count : (s : Shape) (xs : List ℕ) → length (records s (harvested s xs)) ≡ transferCount s xs
+harvested-count s xs =
+    ap {B = ℕ} length (records-joined s (map asTransfer (handshakes (records s xs))) (kept-sized (size s) (records s xs) (size-pos s) (records-sized s xs)))
+    ∙ length-map (handshakes (records s xs)) asTransfer
 
 -- ---- a clean take
 
