@@ -261,7 +261,7 @@ digit-below x l = rw (lt-leb 48 x l)
 pub digit-above : (x : ℕ) → 48 ≤ x → 57 < x → isDigit x ≡ false
 digit-above x l h = rw (le-leb 48 x l) (lt-leb x 57 h)
 
-both : (a b : Bool) → (a && b) ≡ true → (a ≡ true) × (b ≡ true)
+pub both : (a b : Bool) → (a && b) ≡ true → (a ≡ true) × (b ≡ true)
 both true b e = (refl, e)
 both false b e = let z : _≡_ {A = ℕ} 0 1 = cc in absurd (omega arith)
 
