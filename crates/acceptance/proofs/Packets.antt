@@ -13,7 +13,7 @@ use Rattle.stream.specs.declared.Shape.{Shape}
 use Rattle.stream.specs.Layout.{bit, bitOf, tlast, size, records, recordCount}
 use Rattle.stream.proofs.Records.{size-pos, FirstRecord, first-record}
 use Rattle.acceptance.specs.Report.{lasts, packetCount}
-use Rattle.acceptance.specs.Steps.{Whole}
+use Rattle.acceptance.specs.Steps.{WholeRecords}
 
 -- TLAST as a number is the lowest bit of octet 0
 low-bit : (n : ℕ) → bitOf (bit 0 n) ≡ n % 2
@@ -31,7 +31,7 @@ pub record Counting (s : Shape) (xs : List ℕ) (at n : ℕ) : Type 0 where
   pub same : n + packetCount s (drop at xs) ≡ packetCount s xs
 
 -- for the shape of the records, or another one with records of the same size
-pub counting-start : (s t : Shape) (xs : List ℕ) → size t ≡ size s → Whole s xs → Counting t xs 0 0
+pub counting-start : (s t : Shape) (xs : List ℕ) → size t ≡ size s → WholeRecords s xs → Counting t xs 0 0
 counting-start s t xs e w = record { within = omega arith; whole = rw e (w .whole); few = omega arith; same = omega arith }
 
 module _ (s : Shape) (xs : List ℕ) (at n : ℕ) (c : Counting s xs at n) (l : at < length xs) where

@@ -5,7 +5,7 @@ use mathlib.Core.Logic.{_≢_}
 use mathlib.Core.List.{List, [], _∷_, _++_, map}
 use mathlib.Core.Option.{Option, none, some}
 use Prim.Native.Nat.{ℕ, suc, _+_, _*_, _/_, _%_, _≤_, _<_}
-use native.Mathlib.Nat.{mul-div-cancel}
+use native.Mathlib.Nat.{le-trans, mul-div-cancel}
 use native.Mathlib.Omega.{arith}
 use borrow.Author.Tests.{le-ltb, eq-eqb, eqb-true, eqb-false, not-false}
 use lib.Dec.{eqb, ltb}
@@ -23,7 +23,7 @@ use Rattle.stream.specs.Checks.{Check, first, shapeChecks, ratioCheck, lengthCh
 use Rattle.stream.specs.Handshake.{Finding, firstFinding, transferCount, handshakes, asTransfer, harvested, withLast, filledIn, baseLevel}
 use Rattle.stream.specs.Answers.{verdict, written, lentAfter, judgeChecks, judgeAnswer, harvestRefusal, fillRefusal, fillAfter, repackRefusal, downsizeRefusal}
 use Rattle.stream.specs.Legal.{Octets, Legal}
-use Rattle.stream.proofs.First.{first-none, append-passed}
+use Rattle.stream.proofs.First.{first-none, append-found, append-passed}
 use Rattle.stream.proofs.Legal.{octets-append, octets-drop, EachOctets, pieces-octets}
 use Rattle.stream.proofs.Records.{length-pieces, size-pos}
 use Rattle.stream.proofs.Promises.{repackingKeeps, laneKeeping, harvestLegal, harvestRepacks, packedLegal}
@@ -34,17 +34,18 @@ use Rattle.setup.specs.declared.Tlast.{Tlast}
 use Rattle.setup.specs.declared.Tlast.the-variants.{Wired, Absent}
 use Rattle.setup.specs.declared.Sheet.{Sheet}
 use Rattle.setup.specs.declared.Sheet.the-variants.{Read, Refused as NoSheet}
-use Rattle.setup.specs.Grammar.{sheetOf}
+use Rattle.setup.specs.Grammar.{sheetOf, text as ascii}
 use Rattle.acceptance.specs.declared.Tally.{Tally}
 use Rattle.acceptance.specs.declared.Verdict.{Verdict}
 use Rattle.acceptance.specs.declared.Verdict.the-variants.{Clean, Broken, Refused}
 use Rattle.acceptance.specs.Report.{Outcome, refused, shapeOf, prepared, cyclesOf, transfersOf, packetCount, convertAnswer, convertResult, tally, converted, convertedTransfers, judged, captureOutcome, ratioChecks, setupChecks, unless, setupOutcome, sheetOutcome, outcomeOf, Whole, whole, reportOf, front}
-use Rattle.acceptance.specs.Promises.{OctetsOf, outShape, ReportsSetup, isClean, WritesNothing, OnlyWhenClean, CleanTally, CleanTallies, shows, RefusalsShown, NeverReservedNorUnclean, PackNeverRatio}
+use Rattle.acceptance.specs.Promises.{OctetsOf, outShape, ReportsSetup, isClean, WritesNothing, OnlyWhenClean, CleanTally, CleanTallies, shows, RefusalsShown, NeverReservedNorUnclean, PackNeverRatio, orderedChecks, resultOf, inOrder, ReportInOrder, TextShort}
 use Rattle.acceptance.specs.Steps.{Passes}
 use Rattle.acceptance.proofs.Passed.{sound-in, sound-out, sound-ratio, fits-in, fits-out}
 use Rattle.acceptance.proofs.Convert.{convertRefusal, convertCount, answer-is, result-long, result-fits, not-written, IsWritten, is-written}
 use Rattle.acceptance.proofs.Sound.{harvested-long, harvested-count, short, accepted, long as sound-long, whole as sound-whole}
 use Rattle.acceptance.proofs.Ends.{same-ends}
+use Rattle.acceptance.proofs.Told.{two-short, three-short}
 
 pub reportsSetup : ReportsSetup
 unfolding reportOf
@@ -382,3 +383,77 @@ cleanTallies u capture room t o e =
     subst (λ (x : Tally). CleanTally u capture room (setupOutcome u (some capture) room .result) x) (sym (r .is))
     (subst (λ (xs : List ℕ). CleanTally u capture room xs (tally (r .count) (packetCount (shapeOf u) (transfersOf u capture)) (r .number)))
     (sym (result-is u capture room t r)) (tallied u capture room t r o))
+
+-- ---- 01's order
+
+-- what judging leaves to be seen
+settles : (l : Option Refusal) (f : Option Finding) (n : ℕ) (next : ℕ → Outcome) (o : Option Refusal) (t : Tally)
+    → (l ≡ none → f ≡ none → next n .verdict ≡ inOrder none none o t) → judged (verdict l f n) next .verdict ≡ inOrder l f o t
+settles (some r) f n next o t h = refl
+settles none (some f) n next o t h = refl
+settles none none n next o t h = h refl refl
+
+-- what converting leaves to be seen
+ends-in : (o : Option Refusal) (n p m k : ℕ) (result : List ℕ) → m ≡ k → converted (written o m) n p result .verdict ≡ inOrder none none o (tally n p k)
+ends-in (some r) n p m k result e = refl
+ends-in none n p m k result e = ap (λ (x : ℕ). Clean (tally n p x)) e
+
+result-count : (m : Mode) (s : Shape) (v : ℕ) (xs : List ℕ) → convertCount m s v xs ≡ length (records (atWidth s v) (convertResult m s v xs))
+result-count m s v xs =
+    sym
+    (length-pieces (size (atWidth s v)) (recordCount (atWidth s v) (convertResult m s v xs)) (convertResult m s v xs)
+    ∙ ap (λ (n : ℕ). n / size (atWidth s v)) (result-long m s v xs)
+    ∙ mul-div-cancel (convertCount m s v xs) (size-pos (atWidth s v)))
+
+module _ (u : Setup) (capture : List ℕ) (o : Octets capture) (room : ℕ) where
+  abbrev cycles : List ℕ
+  cycles = cyclesOf u capture
+
+  abbrev counted : Tally
+  counted =
+      tally (transferCount (shapeOf u) cycles) (packetCount (shapeOf u) (transfersOf u capture))
+      (length (records (outShape u) (resultOf u capture)))
+
+  abbrev roomy : Option Refusal
+  roomy = first (roomCheck (resultOf u capture) room ∷ [])
+
+  abbrev left : List (Check Refusal)
+  left = lengthCheck (shapeOf u) cycles ∷ cycleChecks (shapeOf u) 0 (records (shapeOf u) cycles)
+
+  judge-is : Passes u → judgeAnswer (shapeOf u) cycles ≡ verdict (first left) (firstFinding (shapeOf u) cycles) (transferCount (shapeOf u) cycles)
+  unfolding judgeAnswer
+  judge-is p = rw (sound-in u p) refl
+
+  room-last : Passes u → (n : ℕ) → judgeAnswer (shapeOf u) cycles ≡ Sound n
+      → convertedTransfers u (transfersOf u capture) room n .verdict ≡ inOrder none none roomy (tally n (packetCount (shapeOf u) (transfersOf u capture)) (length (records (outShape u) (resultOf u capture))))
+  room-last p n clean =
+      let ts = transfersOf u capture in
+      ap (λ (w : Written). converted w n (packetCount (shapeOf u) ts) (resultOf u capture) .verdict)
+      (answer-is (u .mode) (shapeOf u) (u .«width_out») ts room
+      ∙ ap (λ (x : Option Refusal). written x (convertCount (u .mode) (shapeOf u) (u .«width_out») ts)) (only-room u p capture o n clean (u .mode) (sound-ratio u p) room))
+      ∙ ends-in roomy n (packetCount (shapeOf u) ts) (convertCount (u .mode) (shapeOf u) (u .«width_out») ts) (length (records (outShape u) (resultOf u capture)))
+      (resultOf u capture) (result-count (u .mode) (shapeOf u) (u .«width_out») ts)
+
+  in-order : (f : Option Refusal) → first (setupChecks u) ≡ f
+      → unless f (captureOutcome u (some capture) room) .verdict ≡ inOrder (first (orderedChecks u cycles)) (firstFinding (shapeOf u) cycles) roomy counted
+  in-order (some r) k = ap (λ (x : Option Refusal). inOrder x (firstFinding (shapeOf u) cycles) roomy counted) (sym (append-found (setupChecks u) left r k))
+  in-order none k =
+      ap (λ (j : Judgement). judged j (convertedTransfers u (transfersOf u capture) room) .verdict) (judge-is k)
+      ∙ settles (first left) (firstFinding (shapeOf u) cycles) (transferCount (shapeOf u) cycles) (convertedTransfers u (transfersOf u capture) room) roomy counted
+      (λ a b. room-last k (transferCount (shapeOf u) cycles)
+      (judge-is k ∙ ap (λ (x : Option Refusal). verdict x (firstFinding (shapeOf u) cycles) (transferCount (shapeOf u) cycles)) a
+      ∙ ap (λ (x : Option Finding). verdict none x (transferCount (shapeOf u) cycles)) b))
+      ∙ ap (λ (x : Option Refusal). inOrder x (firstFinding (shapeOf u) cycles) roomy counted) (sym (append-passed (setupChecks u) left k))
+
+pub reportInOrder : ReportInOrder
+reportInOrder u capture room o = in-order u capture o room (first (setupChecks u)) refl
+
+-- ---- the longest text
+
+pub textShort : TextShort
+textShort (Clean t) h =
+    three-short (ascii "verdict=clean\n") (ascii "transfers=") (ascii "packets=") (ascii "records=") (t .transfers) (t .packets) (t .records) (h .0) (h .1) (h .2)
+textShort (Broken cycle rule) h =
+    le-trans (two-short (ascii "verdict=broken\n") (ascii "cycle=") (ascii "rule=") cycle rule (h .0) (h .1)) (omega arith)
+textShort (Refused r) h =
+    le-trans (two-short (ascii "verdict=refused\n") (ascii "refusal=") (ascii "at=") (codeOf r .0) (codeOf r .1) (h .0) (h .1)) (omega arith)

@@ -19,7 +19,7 @@ use Rattle.stream.specs.Answers.{judgeAnswer, harvestRefusal, harvestAnswer, ha
 use Rattle.stream.proofs.Records.{size-pos, Sized, length-joined, records-joined, records-sized}
 use Rattle.stream.proofs.Harvest.{length-kept}
 use Rattle.harvest.proofs.Answer.{clean-width, clean-short, harvest-written}
-use Rattle.acceptance.specs.Steps.{Whole}
+use Rattle.acceptance.specs.Steps.{WholeRecords}
 use Rattle.acceptance.proofs.Convert.{IsWritten, is-written}
 
 -- ---- how long what is harvested is
@@ -82,5 +82,5 @@ module _ (s : Shape) (xs : List ℕ) (n : ℕ) (clean : judgeAnswer s xs ≡ Cle
         pub part-long : n * z ≡ length (take (n * z) after)
         part-long = long ∙ sym (ap length part-is)
 
-        pub part-whole : Whole s (take (n * z) after)
-        part-whole = subst (Whole s) (sym part-is) (record { width = width-16; whole = whole })
+        pub part-whole : WholeRecords s (take (n * z) after)
+        part-whole = subst (WholeRecords s) (sym part-is) (record { width = width-16; whole = whole })

@@ -1,16 +1,18 @@
 -- What is proved of the report, a statement each. Words in quotes are paper 01's. The proofs are in proofs/Promises.
 use mathlib.Core.Path.{_≡_}
 use mathlib.Core.Bool.{Bool, true, false}
-use mathlib.Core.List.{List, []}
+use mathlib.Core.List.{List, [], _∷_, _++_}
 use mathlib.Core.Logic.{_≢_}
 use mathlib.Core.Option.{Option, none, some}
-use Prim.Native.Nat.{ℕ, _*_, _≤_}
+use Prim.Native.Nat.{ℕ, _*_, _^_, _≤_, _<_}
 use lib.ListN.{length}
 use Rattle.refusal.specs.Code.{codeOf}
 use Rattle.refusal.specs.declared.Refusal.{Refusal}
 use Rattle.refusal.specs.declared.Refusal.the-variants.{Width, Length, Field, Reserved, Room, Ratio, Bus, Size, Kind, Count, Align, Boundary, Index, Unclean, Setup as BadSheet}
 use Rattle.stream.specs.declared.Shape.{Shape}
 use Rattle.stream.specs.Layout.{size, records, streamItems}
+use Rattle.stream.specs.Checks.{Check, first, lengthCheck, cycleChecks, roomCheck}
+use Rattle.stream.specs.Handshake.{Finding, firstFinding, transferCount}
 use Rattle.stream.specs.Legal.{Octets, Legal}
 use Rattle.setup.specs.declared.Setup.{Setup}
 use Rattle.setup.specs.declared.Mode.{Mode}
@@ -20,7 +22,7 @@ use Rattle.setup.specs.Grammar.{sheetOf}
 use Rattle.acceptance.specs.declared.Tally.{Tally}
 use Rattle.acceptance.specs.declared.Verdict.{Verdict}
 use Rattle.acceptance.specs.declared.Verdict.the-variants.{Clean, Broken, Refused}
-use Rattle.acceptance.specs.Report.{shapeOf, transfersOf, packetCount, Outcome, setupOutcome, whole, reportOf, front}
+use Rattle.acceptance.specs.Report.{shapeOf, cyclesOf, transfersOf, packetCount, convertResult, tally, setupChecks, setupOutcome, textOf, whole, reportOf, front}
 
 -- every number of a take that could be read is an octet
 abbrev pub OctetsOf : Option (List ℕ) → Type 0
@@ -108,3 +110,37 @@ abbrev pub PackNeverRatio : Type 0
 PackNeverRatio =
     (sheet : List ℕ) (u : Setup) → sheetOf sheet ≡ Read u → u .mode ≡ Pack
     → (capture : Option (List ℕ)) (room : ℕ) (r : Refusal) → OctetsOf capture → reportOf (some sheet) capture room .verdict ≡ Refused r → codeOf r .0 ≢ 6
+
+-- ---- 01's order as one list: "WIDTH of either width, RATIO in lanes mode, LENGTH, FIELD, a broken verdict, and ROOM last".
+-- For a sheet and a take that were read, the verdict is the first of these that is there, or else clean.
+
+abbrev pub orderedChecks : Setup → List ℕ → List (Check Refusal)
+orderedChecks u cycles = setupChecks u ++ lengthCheck (shapeOf u) cycles ∷ cycleChecks (shapeOf u) 0 (records (shapeOf u) cycles)
+
+abbrev pub resultOf : Setup → List ℕ → List ℕ
+resultOf u capture = convertResult (u .mode) (shapeOf u) (u .«width_out») (transfersOf u capture)
+
+abbrev pub inOrder : Option Refusal → Option Finding → Option Refusal → Tally → Verdict
+inOrder (some r) finding room t = Refused r
+inOrder none (some f) room t = Broken (f .cycle) (f .rule)
+inOrder none none (some r) t = Refused r
+inOrder none none none t = Clean t
+
+abbrev pub ReportInOrder : Type 0
+ReportInOrder =
+    (u : Setup) (capture : List ℕ) (room : ℕ) → Octets capture
+    → setupOutcome u (some capture) room .verdict
+    ≡ inOrder (first (orderedChecks u (cyclesOf u capture))) (firstFinding (shapeOf u) (cyclesOf u capture))
+    (first (roomCheck (resultOf u capture) room ∷ []))
+    (tally (transferCount (shapeOf u) (cyclesOf u capture)) (packetCount (shapeOf u) (transfersOf u capture))
+    (length (records (outShape u) (resultOf u capture))))
+
+-- ---- a text with numbers of 64 bits has at most 103 octets
+
+abbrev pub Fits64 : Verdict → Type 0
+Fits64 (Clean t) = (t .transfers < 2 ^ 64) × (t .packets < 2 ^ 64) × (t .records < 2 ^ 64)
+Fits64 (Broken cycle rule) = (cycle < 2 ^ 64) × (rule < 2 ^ 64)
+Fits64 (Refused r) = (codeOf r .0 < 2 ^ 64) × (codeOf r .1 < 2 ^ 64)
+
+abbrev pub TextShort : Type 0
+TextShort = (v : Verdict) → Fits64 v → length (textOf v) ≤ 103

@@ -42,6 +42,6 @@ pub record Converts (m : Mode) (s : Shape) (v : ℕ) (transfers before after : L
   pub leaves : after ≡ convertAfter m s v transfers before
 
 -- whole records of a width that has passed its test
-pub record Whole (s : Shape) (xs : List ℕ) : Type 0 where
+pub record WholeRecords (s : Shape) (xs : List ℕ) : Type 0 where
   pub width : s .width ≤ 16
   pub whole : length xs % size s ≡ 0

@@ -19,7 +19,7 @@ ghost use Rattle.stream.specs.Checks.{first, widthCheck, ratioCheck, lengthChec
 ghost use Rattle.stream.specs.Handshake.{harvested};
 ghost use Rattle.stream.specs.Answers.{judgeAnswer};
 ghost use Rattle.acceptance.specs.Report.{contents, shapeOf, prepared, packetCount, refused, ratioChecks, setupChecks, judged, convertedTransfers, captureOutcome, setupOutcome, outcomeOf};
-ghost use Rattle.acceptance.specs.Steps.{Came, checkedOf, Passes, Converts, Whole};
+ghost use Rattle.acceptance.specs.Steps.{Came, checkedOf, Passes, Converts, WholeRecords};
 
 // The verdict, and how many octets of result stand at the front of the lent output.
 pub struct Found {
@@ -79,7 +79,7 @@ fn prepare(wire: Tlast, s: Shape, capture: &mut [u8])
 
 // How many of these transfer records have TLAST.
 fn packets(s: Shape, transfers: &[u8]) -> usize
-    requires { ⌜ Whole s (now transfers) ⌝ }
+    requires { ⌜ WholeRecords s (now transfers) ⌝ }
     ensures { λ r. ⌜ r ≡ packetCount s (now (transfers .entry)) ⌝ }
 {
     let size = record::record_size(s);
@@ -104,7 +104,7 @@ fn convert(mode: Mode, s: Shape, v: usize, transfers: &[u8], out: &mut [u8]) -> 
 
 // The outcome of `count` harvested transfers: clean, or ROOM.
 fn of_transfers(u: Setup, count: usize, transfers: &[u8], out: &mut [u8]) -> Found
-    requires { ⌜ Passes u × Whole (shapeOf u) (now transfers) ⌝ }
+    requires { ⌜ Passes u × WholeRecords (shapeOf u) (now transfers) ⌝ }
     ensures { λ f. ⌜ Came (convertedTransfers u (now (transfers .entry)) (length (now (out .entry))) count) (now (out .entry)) (now (out .exit)) f ⌝ }
 {
     let s = Shape { width: u.width_in };
