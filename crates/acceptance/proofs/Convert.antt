@@ -3,16 +3,16 @@
 use mathlib.Core.Path.{_≡_, refl, sym, ap, ap₂, _∙_, subst}
 use mathlib.Core.List.{List, [], _∷_, _++_}
 use mathlib.Core.Option.{Option, none, some}
-use Prim.Native.Nat.{ℕ, _+_, _*_, _≤_, _<_}
+use Prim.Native.Nat.{ℕ, _*_, _≤_}
 use native.Mathlib.Omega.{arith}
 use borrow.Author.Tests.{ltb-false}
-use lib.ListN.{length, drop}
+use lib.ListN.{length}
 use Rattle.refusal.specs.declared.Refusal.{Refusal}
 use Rattle.stream.specs.declared.Shape.{Shape}
 use Rattle.stream.specs.declared.Written.{Written}
 use Rattle.stream.specs.declared.Written.the-variants.{Records, Refused as NotWritten}
-use Rattle.stream.specs.Layout.{size, atWidth, records, transfers, packed, packedTransfers, sliced, slicedTransfers}
-use Rattle.stream.specs.Checks.{first, shapeChecks, ratioCheck, lengthCheck, transferChecks, roomCheck}
+use Rattle.stream.specs.Layout.{size, atWidth, records, transfers, packedTransfers, sliced, slicedTransfers}
+use Rattle.stream.specs.Checks.{shapeChecks, ratioCheck, lengthCheck, transferChecks, roomCheck}
 use Rattle.stream.specs.Answers.{written, lentAfter, repackRefusal, repackAnswer, repackAfter, downsizeRefusal, downsizeAnswer, downsizeAfter, Repacked, Downsized}
 use Rattle.stream.proofs.First.{first-none, append-none}
 use Rattle.stream.proofs.Pack.{wide-slices}
@@ -23,7 +23,7 @@ use Rattle.setup.specs.declared.Mode.{Mode}
 use Rattle.setup.specs.declared.Mode.the-variants.{Pack, Lanes}
 use Rattle.acceptance.specs.declared.Verdict.the-variants.{Clean, Refused}
 use Rattle.acceptance.specs.declared.outcome.Found.{Found}
-use Rattle.acceptance.specs.Report.{Outcome, shapeOf, packetCount, convertAnswer, convertResult, tally, converted, convertedTransfers, front}
+use Rattle.acceptance.specs.Report.{shapeOf, packetCount, convertAnswer, convertResult, tally, converted, convertedTransfers}
 use Rattle.acceptance.specs.Steps.{Came, Converts, convertAfter}
 
 -- ---- one answer for both modes

@@ -6,8 +6,8 @@ use mathlib.Core.List.{List, [], _∷_, _++_, map}
 use Prim.Native.Nat.{ℕ, suc, _+_}
 use native.Mathlib.Omega.{arith}
 use Rattle.stream.specs.declared.Shape.{Shape}
-use Rattle.stream.specs.Items.{Pair, Transfer, Item, byte, end, kept, itemsOf, transferItems, items}
-use Rattle.stream.specs.Layout.{bitOf, tlast, Kept, records, transferOf, streamItems}
+use Rattle.stream.specs.Items.{Pair, Transfer, Item, byte, end, kept, transferItems, items}
+use Rattle.stream.specs.Layout.{bitOf, Kept, records, transferOf, streamItems}
 use Rattle.acceptance.specs.Report.{lasts, packetCount}
 
 abbrev ends : List (Item Kept) → ℕ

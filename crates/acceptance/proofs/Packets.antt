@@ -1,7 +1,7 @@
 -- Counting the records that have TLAST, by what is left of the records. Assumes nothing.
 use mathlib.Core.Path.{_≡_, refl, sym, ap, _∙_, subst}
 use mathlib.Core.Bool.{Bool, true, false}
-use mathlib.Core.List.{List, [], _∷_}
+use mathlib.Core.List.{List, []}
 use Prim.Native.Nat.{ℕ, _+_, _%_, _≤_, _<_}
 use native.Mathlib.Nat.{div-one, zero-div}
 use native.Mathlib.Omega.{arith}
@@ -10,7 +10,7 @@ use lib.Dec.{eqb}
 use lib.ListN.{length, getD, take, drop, length-drop, drop-of-length-le}
 use lib.Seq.{getD-take, getD-drop, drop-drop}
 use Rattle.stream.specs.declared.Shape.{Shape}
-use Rattle.stream.specs.Layout.{bit, bitOf, tlast, size, records, recordCount}
+use Rattle.stream.specs.Layout.{bit, bitOf, tlast, size}
 use Rattle.stream.proofs.Records.{size-pos, FirstRecord, first-record}
 use Rattle.acceptance.specs.Report.{lasts, packetCount}
 use Rattle.acceptance.specs.Steps.{WholeRecords}

@@ -2,9 +2,9 @@
 use mathlib.Core.Path.{_≡_, refl, sym, ap, _∙_, subst}
 use mathlib.Core.Bool.{Bool, true, false, cond}
 use mathlib.Core.Logic.{_≢_}
-use mathlib.Core.List.{List, [], _∷_, _++_, map}
+use mathlib.Core.List.{List, [], _∷_, map}
 use mathlib.Core.Option.{Option, none, some}
-use Prim.Native.Nat.{ℕ, suc, _+_, _*_, _/_, _%_, _≤_, _<_}
+use Prim.Native.Nat.{ℕ, suc, _*_, _/_, _%_, _≤_}
 use native.Mathlib.Nat.{le-trans, mul-div-cancel}
 use native.Mathlib.Omega.{arith}
 use borrow.Author.Tests.{le-ltb, eq-eqb, eqb-true, eqb-false, not-false}
@@ -18,10 +18,10 @@ use Rattle.stream.specs.declared.Verdict.{Verdict as Judgement}
 use Rattle.stream.specs.declared.Verdict.the-variants.{Clean as Sound, Broken as Breaks, Refused as NotJudged}
 use Rattle.stream.specs.declared.Written.{Written}
 use Rattle.stream.specs.declared.Written.the-variants.{Records, Refused as NotWritten}
-use Rattle.stream.specs.Layout.{bitOf, size, atWidth, records, recordCount, joined, streamItems, packed, sliced}
-use Rattle.stream.specs.Checks.{Check, first, shapeChecks, ratioCheck, lengthCheck, widthCheck, cycleChecks, transferChecks, roomCheck}
-use Rattle.stream.specs.Handshake.{Finding, firstFinding, transferCount, handshakes, asTransfer, harvested, withLast, filledIn, baseLevel}
-use Rattle.stream.specs.Answers.{verdict, written, lentAfter, judgeChecks, judgeAnswer, harvestRefusal, fillRefusal, fillAfter, repackRefusal, downsizeRefusal}
+use Rattle.stream.specs.Layout.{size, atWidth, records, recordCount, joined, streamItems, sliced}
+use Rattle.stream.specs.Checks.{Check, first, ratioCheck, lengthCheck, cycleChecks, transferChecks, roomCheck}
+use Rattle.stream.specs.Handshake.{Finding, firstFinding, transferCount, withLast, filledIn, baseLevel}
+use Rattle.stream.specs.Answers.{verdict, written, lentAfter, judgeChecks, judgeAnswer, harvestRefusal, fillRefusal, fillAfter}
 use Rattle.stream.specs.Legal.{Octets, Legal}
 use Rattle.stream.proofs.First.{first-none, append-found, append-passed}
 use Rattle.stream.proofs.Legal.{octets-append, octets-drop, EachOctets, pieces-octets}
@@ -36,14 +36,13 @@ use Rattle.setup.specs.declared.Sheet.{Sheet}
 use Rattle.setup.specs.declared.Sheet.the-variants.{Read, Refused as NoSheet}
 use Rattle.setup.specs.Grammar.{sheetOf, text as ascii}
 use Rattle.acceptance.specs.declared.Tally.{Tally}
-use Rattle.acceptance.specs.declared.Verdict.{Verdict}
 use Rattle.acceptance.specs.declared.Verdict.the-variants.{Clean, Broken, Refused}
-use Rattle.acceptance.specs.Report.{Outcome, refused, shapeOf, prepared, cyclesOf, transfersOf, packetCount, convertAnswer, convertResult, tally, converted, convertedTransfers, judged, captureOutcome, ratioChecks, setupChecks, unless, setupOutcome, sheetOutcome, outcomeOf, Whole, whole, reportOf, front}
-use Rattle.acceptance.specs.Promises.{OctetsOf, outShape, ReportsSetup, isClean, WritesNothing, OnlyWhenClean, CleanTally, CleanTallies, shows, RefusalsShown, NeverReservedNorUnclean, PackNeverRatio, orderedChecks, resultOf, inOrder, ReportInOrder, TextShort}
+use Rattle.acceptance.specs.Report.{Outcome, shapeOf, prepared, cyclesOf, transfersOf, packetCount, convertAnswer, convertResult, tally, converted, convertedTransfers, judged, captureOutcome, ratioChecks, setupChecks, unless, setupOutcome, sheetOutcome, outcomeOf, Whole, whole, reportOf, front}
+use Rattle.acceptance.specs.Promises.{OctetsOf, outShape, ReportsSetup, isClean, OnlyWhenClean, CleanTally, CleanTallies, shows, RefusalsShown, NeverReservedNorUnclean, PackNeverRatio, orderedChecks, resultOf, inOrder, ReportInOrder, TextShort}
 use Rattle.acceptance.specs.Steps.{Passes}
-use Rattle.acceptance.proofs.Passed.{sound-in, sound-out, sound-ratio, fits-in, fits-out}
+use Rattle.acceptance.proofs.Passed.{sound-in, sound-out, sound-ratio, fits-out}
 use Rattle.acceptance.proofs.Convert.{convertRefusal, convertCount, answer-is, result-long, result-fits, not-written, IsWritten, is-written}
-use Rattle.acceptance.proofs.Sound.{harvested-long, harvested-count, short, accepted, long as sound-long, whole as sound-whole}
+use Rattle.acceptance.proofs.Sound.{harvested-count, short, accepted, long as sound-long}
 use Rattle.acceptance.proofs.Ends.{same-ends}
 use Rattle.acceptance.proofs.Told.{two-short, three-short}
 

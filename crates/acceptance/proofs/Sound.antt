@@ -2,20 +2,18 @@
 use mathlib.Core.Path.{_≡_, refl, sym, ap, ap₂, _∙_, subst}
 use mathlib.Core.Bool.{Bool, true, false}
 use mathlib.Core.List.{List, [], _∷_, _++_, map}
-use mathlib.Core.Option.{Option, none, some}
-use Prim.Native.Nat.{ℕ, _+_, _*_, _%_, _≤_, _<_}
+use Prim.Native.Nat.{ℕ, _*_, _%_, _≤_, _<_}
 use native.Mathlib.Nat.{mul-mod-left}
 use native.Mathlib.Omega.{arith}
 use lib.ListN.{length, take, drop, length-map, length-append}
 use lib.Seq.{take-at}
 use Rattle.stream.specs.declared.Shape.{Shape}
-use Rattle.stream.specs.declared.Verdict.{Verdict}
 use Rattle.stream.specs.declared.Verdict.the-variants.{Clean}
 use Rattle.stream.specs.declared.Written.{Written}
 use Rattle.stream.specs.declared.Written.the-variants.{Records}
-use Rattle.stream.specs.Layout.{size, records, joined}
+use Rattle.stream.specs.Layout.{size, records}
 use Rattle.stream.specs.Handshake.{transferred, handshakes, asTransfer, transferCount, harvested}
-use Rattle.stream.specs.Answers.{judgeAnswer, harvestRefusal, harvestAnswer, harvestAfter, Harvested}
+use Rattle.stream.specs.Answers.{judgeAnswer, harvestRefusal, harvestAnswer, Harvested}
 use Rattle.stream.proofs.Records.{size-pos, Sized, length-joined, records-joined, records-sized}
 use Rattle.stream.proofs.Harvest.{length-kept}
 use Rattle.harvest.proofs.Answer.{clean-width, clean-short, harvest-written}

@@ -1,11 +1,11 @@
 -- The steps of the report, from the cycles up to the sheet: a law for each way that the code ends. Assumes nothing.
-use mathlib.Core.Path.{_≡_, refl, sym, ap, ap₂, _∙_, subst}
+use mathlib.Core.Path.{_≡_, refl, sym, ap, _∙_, subst}
 use mathlib.Core.Bool.{Bool, true, false}
-use mathlib.Core.List.{List, [], _∷_, _++_}
+use mathlib.Core.List.{List, _++_}
 use mathlib.Core.Option.{Option, none, some}
-use Prim.Native.Nat.{ℕ, _+_, _≤_, _<_}
+use Prim.Native.Nat.{ℕ, _≤_}
 use native.Mathlib.Omega.{arith}
-use lib.ListN.{length, take, drop, length-append, length-drop}
+use lib.ListN.{length, take, drop, length-append}
 use lib.Seq.{take-at}
 use Rattle.refusal.specs.declared.Refusal.{Refusal}
 use Rattle.refusal.specs.declared.Refusal.the-variants.{Length, Setup as BadSheet}
@@ -13,8 +13,8 @@ use Rattle.stream.specs.declared.Shape.{Shape}
 use Rattle.stream.specs.declared.Verdict.{Verdict as Judgement}
 use Rattle.stream.specs.declared.Verdict.the-variants.{Clean as Sound, Broken as Breaks, Refused as NotJudged}
 use Rattle.stream.specs.Checks.{first, widthCheck, lengthCheck}
-use Rattle.stream.specs.Handshake.{harvested, filledIn, baseLevel}
-use Rattle.stream.specs.Answers.{lentAfter, judgeAnswer, judgeChecks, fillRefusal, fillAfter, fillInAfter}
+use Rattle.stream.specs.Handshake.{harvested}
+use Rattle.stream.specs.Answers.{judgeAnswer, fillAfter}
 use Rattle.setup.specs.declared.Setup.{Setup}
 use Rattle.setup.specs.declared.Tlast.{Tlast}
 use Rattle.setup.specs.declared.Tlast.the-variants.{Wired, Absent}
@@ -23,14 +23,13 @@ use Rattle.setup.specs.declared.Sheet.the-variants.{Read, Refused as NoSheet}
 use Rattle.setup.specs.Grammar.{sheetOf}
 use Rattle.text.specs.Text.{Put}
 use Rattle.acceptance.specs.declared.Verdict.{Verdict}
-use Rattle.acceptance.specs.declared.Verdict.the-variants.{Clean, Broken, Refused}
-use Rattle.acceptance.specs.declared.Summary.{Summary}
+use Rattle.acceptance.specs.declared.Verdict.the-variants.{Broken, Refused}
 use Rattle.acceptance.specs.declared.outcome.Found.{Found}
 use Rattle.acceptance.specs.declared.outcome.Checked.{Checked}
 use Rattle.acceptance.specs.declared.outcome.Checked.the-variants.{Passed, Refused as NotPassed}
-use Rattle.acceptance.specs.Report.{contents, Outcome, refused, shapeOf, prepared, cyclesOf, transfersOf, judged, convertedTransfers, captureOutcome, setupChecks, unless, setupOutcome, sheetOutcome, outcomeOf, verdictValues, textOf, whole, reportOf, front, fitting, Reported}
+use Rattle.acceptance.specs.Report.{contents, Outcome, refused, shapeOf, prepared, cyclesOf, transfersOf, judged, convertedTransfers, captureOutcome, setupChecks, unless, setupOutcome, sheetOutcome, outcomeOf, verdictValues, textOf, reportOf, front, fitting, Reported}
 use Rattle.acceptance.specs.Steps.{Came, checkedOf, Passes}
-use Rattle.acceptance.proofs.Told.{prefix-is, prefix-fits}
+use Rattle.acceptance.proofs.Told.{prefix-is}
 use Rattle.acceptance.proofs.Passed.{passed-none, refused-some, sound-in}
 
 -- a refusal leaves the output as it is

@@ -1,15 +1,14 @@
 -- Laws of the verdict's text: lines put one after the other fit into 128 octets, and a text goes to the front of lent memory
 -- or, where it does not fit, nowhere. Assumes nothing.
 use mathlib.Core.Path.{_≡_, refl, sym, ap, ap₂, _∙_, subst}
-use mathlib.Core.Bool.{true, false, cond}
 use mathlib.Core.List.{List, [], _∷_, _++_}
 use Prim.Native.Nat.{ℕ, _+_, _^_, _≤_, _<_}
 use native.Mathlib.Nat.{zero-add}
 use native.Mathlib.Omega.{arith}
 use borrow.Author.Tests.{lt-ltb, le-ltb}
-use lib.Dec.{ltb}
 use lib.ListN.{length, take, drop, length-append}
 use lib.Seq.{take-append-seam}
+use Rattle.setup.specs.Grammar.{text as ascii}
 use Rattle.text.specs.Text.{decimal, line, lf, Put}
 use Rattle.text.proofs.Laws.{decimal-20, put-long, put-put}
 use Rattle.refusal.specs.Code.{codeOf}
@@ -17,6 +16,7 @@ use Rattle.refusal.specs.declared.Refusal.{Refusal}
 use Rattle.acceptance.specs.declared.Verdict.{Verdict}
 use Rattle.acceptance.specs.declared.Verdict.the-variants.{Refused}
 use Rattle.acceptance.specs.Report.{refusedText, textOf, front, fitting}
+use Rattle.acceptance.specs.Steps.{twoLines, TwoFit}
 
 line-short : (key : List ℕ) (n : ℕ) → n < 2 ^ 64 → length (line key n) ≤ length key + 21
 line-short key n h =
@@ -45,62 +45,65 @@ three-short head k₁ k₂ k₃ n₁ n₂ n₃ f g h =
 
 -- ---- lines one after the other
 
--- the text so far: xs, of at most `most` octets, at the front of an array
-record Part (most : ℕ) (xs before after : List ℕ) (r : ℕ) : Type 0 where
-  put : Put 0 xs before after r
-  short : length xs ≤ most
-  room : most ≤ length before
+module _ (head k₁ k₂ out : List ℕ) (fit : TwoFit head k₁ k₂ out) (n₁ n₂ : ℕ) (f₁ : n₁ < 2 ^ 64) (f₂ : n₂ < 2 ^ 64) where
+  short-1 : length (line k₁ n₁) ≤ 31
+  short-1 = omega (arith, line-short k₁ n₁ f₁, fit .shortKey)
 
-part-first : (most : ℕ) (xs before after : List ℕ) (r : ℕ) → Put 0 xs before after r → length xs ≤ most → most ≤ length before
-    → Part most xs before after r
-part-first most xs before after r p s h = record { put = p; short = s; room = h }
+  short-2 : length (line k₂ n₂) ≤ 31
+  short-2 = omega (arith, line-short k₂ n₂ f₂, fit .shortNext)
 
-module _ (most : ℕ) (xs before after : List ℕ) (r : ℕ) (p : Part most xs before after r) (next : ℕ) (key : List ℕ) (n : ℕ) (fits : n < 2 ^ 64)
-    (more : most + length key + 21 ≤ next) (room : next ≤ length before) where
-  long : length after ≡ length before
-  long = put-long 0 xs before after r (p .put) (omega (arith, p .short, p .room))
+  pub head-room : 0 + length head ≤ length out
+  head-room = omega (arith, fit .shortHead, fit .room)
 
-  part-room : r + length (line key n) ≤ length after
-  part-room = omega (arith, long, line-short key n fits, p .put .next, p .short, more, room)
+  module _ (o₁ : List ℕ) (t₁ : ℕ) (p₁ : Put 0 head out o₁ t₁) where
+    pub room-1 : t₁ + length (line k₁ n₁) ≤ length o₁
+    room-1 = omega (arith, p₁ .next, put-long 0 head out o₁ t₁ p₁ head-room, short-1, fit .shortHead, fit .room)
 
-  part-next : (after' : List ℕ) (r' : ℕ) → Put r (line key n) after after' r' → Part next (xs ++ line key n) before after' r'
-  part-next after' r' q =
-      record {
-        put = put-put 0 xs (line key n) before after after' r r' (omega (arith, line-short key n fits, p .short, more, room)) (p .put) q;
-        short = omega (arith, length-append xs (line key n), line-short key n fits, p .short, more);
-        room = room;
-      }
+    module _ (o₂ : List ℕ) (t₂ : ℕ) (p₂ : Put t₁ (line k₁ n₁) o₁ o₂ t₂) where
+      both : Put 0 (head ++ line k₁ n₁) out o₂ t₂
+      both = put-put 0 head (line k₁ n₁) out o₁ o₂ t₁ t₂ (omega (arith, short-1, fit .shortHead, fit .room)) p₁ p₂
 
--- a head of at most 16 octets, and lines with keys of at most 10
-module _ (out : List ℕ) (roomy : 128 ≤ length out) (head : List ℕ) (small : length head ≤ 16) (o₁ : List ℕ) (t₁ : ℕ) (p₁ : Put 0 head out o₁ t₁)
-    (k₁ : List ℕ) (n₁ : ℕ) (short₁ : length k₁ ≤ 10) (fits₁ : n₁ < 2 ^ 64) where
-  head-part : Part 16 head out o₁ t₁
-  head-part = part-first 16 head out o₁ t₁ p₁ small (omega (arith, roomy))
+      long-2 : length (head ++ line k₁ n₁) ≤ 47
+      long-2 = omega (arith, length-append head (line k₁ n₁), short-1, fit .shortHead)
 
-  pub room-1 : t₁ + length (line k₁ n₁) ≤ length o₁
-  room-1 = part-room 16 head out o₁ t₁ head-part 47 k₁ n₁ fits₁ (omega (arith, short₁)) (omega (arith, roomy))
+      pub room-2 : t₂ + length (line k₂ n₂) ≤ length o₂
+      room-2 =
+          omega (
+            arith,
+            both .next,
+            put-long 0 (head ++ line k₁ n₁) out o₂ t₂ both (omega (arith, long-2, fit .room)),
+            long-2,
+            short-2,
+            fit .room,
+          )
 
-  module _ (o₂ : List ℕ) (t₂ : ℕ) (p₂ : Put t₁ (line k₁ n₁) o₁ o₂ t₂) (k₂ : List ℕ) (n₂ : ℕ) (short₂ : length k₂ ≤ 10) (fits₂ : n₂ < 2 ^ 64) where
-    part-1 : Part 47 (head ++ line k₁ n₁) out o₂ t₂
-    part-1 = part-next 16 head out o₁ t₁ head-part 47 k₁ n₁ fits₁ (omega (arith, short₁)) (omega (arith, roomy)) o₂ t₂ p₂
+      pub two-put : (o₃ : List ℕ) (t₃ : ℕ) → Put t₂ (line k₂ n₂) o₂ o₃ t₃ → Put 0 (twoLines head k₁ n₁ k₂ n₂) out o₃ t₃
+      two-put o₃ t₃ p₃ =
+          put-put 0 (head ++ line k₁ n₁) (line k₂ n₂) out o₂ o₃ t₂ t₃ (omega (arith, long-2, short-2, fit .room)) both p₃
 
-    pub room-2 : t₂ + length (line k₂ n₂) ≤ length o₂
-    room-2 = part-room 47 (head ++ line k₁ n₁) out o₂ t₂ part-1 78 k₂ n₂ fits₂ (omega (arith, short₂)) (omega (arith, roomy))
+  -- and one line more
+  module _ (o : List ℕ) (t : ℕ) (p : Put 0 (twoLines head k₁ n₁ k₂ n₂) out o t) (key : List ℕ) (n : ℕ) (small : length key ≤ 10) (f : n < 2 ^ 64) where
+    long-3 : length (twoLines head k₁ n₁ k₂ n₂) ≤ 78
+    long-3 = omega (arith, two-short head k₁ k₂ n₁ n₂ f₁ f₂, fit .shortHead, fit .shortKey, fit .shortNext)
 
-    module _ (o₃ : List ℕ) (t₃ : ℕ) (p₃ : Put t₂ (line k₂ n₂) o₂ o₃ t₃) where
-      part-2 : Part 78 (head ++ line k₁ n₁ ++ line k₂ n₂) out o₃ t₃
-      part-2 = part-next 47 (head ++ line k₁ n₁) out o₂ t₂ part-1 78 k₂ n₂ fits₂ (omega (arith, short₂)) (omega (arith, roomy)) o₃ t₃ p₃
+    pub room-3 : t + length (line key n) ≤ length o
+    room-3 =
+        omega (
+          arith,
+          p .next,
+          put-long 0 (twoLines head k₁ n₁ k₂ n₂) out o t p (omega (arith, long-3, fit .room)),
+          long-3,
+          line-short key n f,
+          small,
+          fit .room,
+        )
 
-      pub put-2 : Put 0 (head ++ line k₁ n₁ ++ line k₂ n₂) out o₃ t₃
-      put-2 = part-2 .put
+    pub three-put : (o' : List ℕ) (t' : ℕ) → Put t (line key n) o o' t' → Put 0 (twoLines head k₁ n₁ k₂ n₂ ++ line key n) out o' t'
+    three-put o' t' q =
+        put-put 0 (twoLines head k₁ n₁ k₂ n₂) (line key n) out o o' t t' (omega (arith, long-3, line-short key n f, small, fit .room)) p q
 
-      module _ (k₃ : List ℕ) (n₃ : ℕ) (short₃ : length k₃ ≤ 10) (fits₃ : n₃ < 2 ^ 64) where
-        pub room-3 : t₃ + length (line k₃ n₃) ≤ length o₃
-        room-3 = part-room 78 (head ++ line k₁ n₁ ++ line k₂ n₂) out o₃ t₃ part-2 109 k₃ n₃ fits₃ (omega (arith, short₃)) (omega (arith, roomy))
-
-        pub put-3 : (o₄ : List ℕ) (t₄ : ℕ) → Put t₃ (line k₃ n₃) o₃ o₄ t₄ → Put 0 (head ++ line k₁ n₁ ++ line k₂ n₂ ++ line k₃ n₃) out o₄ t₄
-        put-3 o₄ t₄ p₄ =
-            part-next 78 (head ++ line k₁ n₁ ++ line k₂ n₂) out o₃ t₃ part-2 109 k₃ n₃ fits₃ (omega (arith, short₃)) (omega (arith, roomy)) o₄ t₄ p₄ .put
+pub clean-fit : (out : List ℕ) → 128 ≤ length out → TwoFit (ascii "verdict=clean\n") (ascii "transfers=") (ascii "packets=") out
+clean-fit out h = record { shortHead = omega arith; shortKey = omega arith; shortNext = omega arith; room = h }
 
 -- ---- a text of its own array, and the lent slice
 

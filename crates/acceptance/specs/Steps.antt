@@ -1,8 +1,8 @@
--- What the steps of the report's code answer (src/outcome), each by a definition of Report. Nothing here is read by a user
+-- What the steps of the report's code answer (src/outcome, src/lines), each by a definition of Report. Nothing here is read by a user
 -- of the report.
 use mathlib.Core.Path.{_≡_}
 use mathlib.Core.Option.{Option, none, some}
-use mathlib.Core.List.{List}
+use mathlib.Core.List.{List, _++_}
 use Prim.Native.Nat.{ℕ, _≤_, _%_}
 use lib.ListN.{length}
 use Rattle.refusal.specs.declared.Refusal.{Refusal}
@@ -11,6 +11,7 @@ use Rattle.stream.specs.declared.Written.{Written}
 use Rattle.stream.specs.Layout.{size}
 use Rattle.stream.specs.Checks.{first}
 use Rattle.stream.specs.Answers.{repackAfter, downsizeAfter}
+use Rattle.text.specs.Text.{line}
 use Rattle.setup.specs.declared.Setup.{Setup}
 use Rattle.setup.specs.declared.Mode.{Mode}
 use Rattle.setup.specs.declared.Mode.the-variants.{Pack, Lanes}
@@ -45,3 +46,13 @@ pub record Converts (m : Mode) (s : Shape) (v : ℕ) (transfers before after : L
 pub record WholeRecords (s : Shape) (xs : List ℕ) : Type 0 where
   pub width : s .width ≤ 16
   pub whole : length xs % size s ≡ 0
+
+-- a head and two lines, short enough for an array of 128 octets
+abbrev pub twoLines : List ℕ → List ℕ → ℕ → List ℕ → ℕ → List ℕ
+twoLines head key n next m = head ++ line key n ++ line next m
+
+pub record TwoFit (head key next out : List ℕ) : Type 0 where
+  pub shortHead : length head ≤ 16
+  pub shortKey : length key ≤ 10
+  pub shortNext : length next ≤ 10
+  pub room : 128 ≤ length out

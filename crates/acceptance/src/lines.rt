@@ -4,36 +4,33 @@ use crate::Verdict;
 ghost use Prim.Native.Nat.{_≤_};
 ghost use mathlib.Core.Path.{_≡_};
 ghost use lib.ListN.{length};
-ghost use Rattle.refusal.specs.Code.{codeOf};
 ghost use Rattle.text.specs.Text.{Put};
-ghost use Rattle.acceptance.specs.Report.{cleanText, brokenText, refusedText, textOf, front, fitting};
+ghost use Rattle.acceptance.specs.Report.{cleanText, textOf, front, fitting};
+ghost use Rattle.acceptance.specs.Steps.{twoLines, TwoFit};
+
+// Writes a head and two lines at the front of `out`; a key has its `=`.
+fn put_two(head: &[u8], key: &[u8], n: usize, next: &[u8], m: usize, out: &mut [u8]) -> usize
+    requires { ⌜ TwoFit (now head) (now key) (now next) (now out) ⌝ }
+    ensures { λ r. ⌜ Put 0 (twoLines (now (head .entry)) (now (key .entry)) n (now (next .entry)) m) (now (out .entry)) (now (out .exit)) r ⌝ }
+{
+    let a = text::put_octets(out, 0, head);
+    let b = text::put_line(out, a, key, n);
+    text::put_line(out, b, next, m)
+}
 
 fn put_clean(transfers: usize, packets: usize, records: usize, out: &mut [u8]) -> usize
     requires { ⌜ 128 ≤ length (now out) ⌝ }
     ensures { λ r. ⌜ Put 0 (cleanText transfers packets records) (now (out .entry)) (now (out .exit)) r ⌝ }
 {
-    let a = text::put_octets(out, 0, b"verdict=clean\n");
-    let b = text::put_line(out, a, b"transfers=", transfers);
-    let c = text::put_line(out, b, b"packets=", packets);
+    let c = put_two(
+        b"verdict=clean\n",
+        b"transfers=",
+        transfers,
+        b"packets=",
+        packets,
+        out,
+    );
     text::put_line(out, c, b"records=", records)
-}
-
-fn put_broken(cycle: usize, rule: usize, out: &mut [u8]) -> usize
-    requires { ⌜ 128 ≤ length (now out) ⌝ }
-    ensures { λ r. ⌜ Put 0 (brokenText cycle rule) (now (out .entry)) (now (out .exit)) r ⌝ }
-{
-    let a = text::put_octets(out, 0, b"verdict=broken\n");
-    let b = text::put_line(out, a, b"cycle=", cycle);
-    text::put_line(out, b, b"rule=", rule)
-}
-
-fn put_refused(number: usize, place: usize, out: &mut [u8]) -> usize
-    requires { ⌜ 128 ≤ length (now out) ⌝ }
-    ensures { λ r. ⌜ Put 0 (refusedText number place) (now (out .entry)) (now (out .exit)) r ⌝ }
-{
-    let a = text::put_octets(out, 0, b"verdict=refused\n");
-    let b = text::put_line(out, a, b"refusal=", number);
-    text::put_line(out, b, b"at=", place)
 }
 
 // Writes the verdict's text at the front of `out`. A text has at most 103 octets.
@@ -43,10 +40,26 @@ fn put_text(v: Verdict, out: &mut [u8]) -> usize
 {
     match v {
         Verdict::Clean(t) => put_clean(t.transfers, t.packets, t.records, out),
-        Verdict::Broken(cycle, rule) => put_broken(cycle, rule as usize, out),
+        Verdict::Broken(cycle, rule) => {
+            put_two(
+                b"verdict=broken\n",
+                b"cycle=",
+                cycle,
+                b"rule=",
+                rule as usize,
+                out,
+            )
+        }
         Verdict::Refused(r) => {
             let code = refusal::code_of(r);
-            put_refused(code.0 as usize, code.1, out)
+            put_two(
+                b"verdict=refused\n",
+                b"refusal=",
+                code.0 as usize,
+                b"at=",
+                code.1,
+                out,
+            )
         }
     }
 }

@@ -11,14 +11,13 @@ use stream::Shape;
 use stream::Written;
 ghost use mathlib.Core.Path.{_≡_};
 ghost use mathlib.Core.Bool.{false};
-ghost use mathlib.Core.Option.{none, some};
+ghost use mathlib.Core.Option.{some};
 ghost use lib.ListN.{length};
 ghost use Rattle.stream.specs.declared.Verdict.the-variants.{Clean as Sound};
-ghost use Rattle.stream.specs.Layout.{size};
-ghost use Rattle.stream.specs.Checks.{first, widthCheck, ratioCheck, lengthCheck};
+ghost use Rattle.stream.specs.Checks.{first, lengthCheck};
 ghost use Rattle.stream.specs.Handshake.{harvested};
 ghost use Rattle.stream.specs.Answers.{judgeAnswer};
-ghost use Rattle.acceptance.specs.Report.{contents, shapeOf, prepared, packetCount, refused, ratioChecks, setupChecks, judged, convertedTransfers, captureOutcome, setupOutcome, outcomeOf};
+ghost use Rattle.acceptance.specs.Report.{contents, shapeOf, prepared, packetCount, refused, setupChecks, judged, convertedTransfers, captureOutcome, setupOutcome, outcomeOf};
 ghost use Rattle.acceptance.specs.Steps.{Came, checkedOf, Passes, Converts, WholeRecords};
 
 // The verdict, and how many octets of result stand at the front of the lent output.

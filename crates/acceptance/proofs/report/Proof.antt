@@ -1,9 +1,7 @@
 -- `acceptance::report` meets its contract: the outcome, and its text. Assumes nothing.
-use mathlib.Core.Path.{sym, ap, _∙_}
 use borrow.Author.Needs.{needs}
 use Rattle.acceptance.specs.Report.{contents}
 use Rattle.acceptance.proofs.Steps.{reported}
-use borrow.Author.Needs.{needs}
 use Rattle.acceptance.proofs.report.Statement.{statement}
 use Rattle.acceptance.proofs.report.Tie as tie
 

@@ -1,12 +1,9 @@
 -- The proof of the cycle of calls {put_decimal}: the measure is the number itself, since n / 10 is less than n where n has two
 -- digits or more. Assumes nothing.
-use mathlib.Core.Path.{_≡_, refl, sym, ap, _∙_, subst}
-use Prim.Native.Nat.{ℕ, _/_, _%_, _<_, _≤_}
+use mathlib.Core.Path.{_∙_, subst}
+use Prim.Native.Nat.{ℕ, _/_, _<_}
 use native.Mathlib.Omega.{arith}
-use mathlib.Core.List.{[], _∷_}
-use lib.ListN.{length}
-use Rattle.text.specs.Text.{digit, decimal, Put}
-use Rattle.text.proofs.Laws.{put-long, digit-room, digit-put, front-room, last-room, last-put}
+use Rattle.text.proofs.Laws.{digit-room, digit-put, front-room, last-room, last-put}
 use borrow.Fn.Kinds.{In}
 use borrow.Fn.PlainCycle.{Measures, is, falls, and}
 use Rattle.text.proofs.put_decimal.Reads as put-decimal

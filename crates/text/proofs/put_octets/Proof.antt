@@ -1,8 +1,6 @@
 -- `text::put_octets` meets its contract: after i turns the first i octets stand in their place. Assumes nothing.
-use mathlib.Core.Path.{_≡_, refl, sym, ap, _∙_}
-use Prim.Native.Nat.{_+_, _-_, _≤_}
+use Prim.Native.Nat.{_-_}
 use native.Mathlib.Omega.{arith}
-use borrow.Author.Needs.{needs}
 use lib.ListN.{length}
 use Rattle.text.proofs.Laws.{Copied, copied-none, copied-more, copied-long, copied-all}
 use Rattle.text.proofs.put_octets.Statement.{statement}

@@ -5,7 +5,6 @@ use borrow.Author.Needs.{needs}
 use lib.ListN.{replicate}
 use Rattle.acceptance.specs.Report.{textOf}
 use Rattle.acceptance.proofs.Told.{prefix-fits, prefix-long, told-nothing, told-room, told-all}
-use borrow.Author.Needs.{needs}
 use Rattle.acceptance.proofs.lines.render.Statement.{statement}
 use Rattle.acceptance.proofs.lines.render.Tie as tie
 

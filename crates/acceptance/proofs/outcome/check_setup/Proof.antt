@@ -2,7 +2,6 @@
 use mathlib.Core.Path.{sym, _∙_}
 use borrow.Author.Needs.{needs}
 use Rattle.acceptance.proofs.Passed.{bad-in, bad-out, pack-passes, out-some, bad-ratio, lanes-pass}
-use borrow.Author.Needs.{needs}
 use Rattle.acceptance.proofs.outcome.check_setup.Statement.{statement}
 use Rattle.acceptance.proofs.outcome.check_setup.Tie as tie
 

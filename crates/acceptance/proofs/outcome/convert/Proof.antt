@@ -1,7 +1,6 @@
 -- `acceptance::outcome::convert` meets its contract: one call, by the mode. Assumes nothing.
 use borrow.Author.Needs.{needs}
 use Rattle.acceptance.proofs.Convert.{packs, slices}
-use borrow.Author.Needs.{needs}
 use Rattle.acceptance.proofs.outcome.convert.Statement.{statement}
 use Rattle.acceptance.proofs.outcome.convert.Tie as tie
 

@@ -1,15 +1,13 @@
 -- `acceptance::outcome::of_capture` meets its contract: the front of the array is the take, filled in where it has to be. Assumes nothing.
-use mathlib.Core.Path.{sym, ap, _∙_}
 use mathlib.Core.List.{List}
 use Prim.Native.Nat.{ℕ}
 use native.Mathlib.Omega.{arith}
 use borrow.Author.Needs.{needs}
-use lib.ListN.{length, replicate, length-replicate}
+use lib.ListN.{replicate, length-replicate}
 use Rattle.stream.proofs.Repack.{length-fits}
 use Rattle.acceptance.specs.Report.{shapeOf}
 use Rattle.acceptance.proofs.Told.{prefix-fits, prefix-long}
 use Rattle.acceptance.proofs.Steps.{copy-fits, copy-long, copy-came}
-use borrow.Author.Needs.{needs}
 use Rattle.acceptance.proofs.outcome.of_capture.Statement.{statement}
 use Rattle.acceptance.proofs.outcome.of_capture.Tie as tie
 

@@ -1,5 +1,5 @@
 -- `acceptance::outcome::of_clean` meets its contract: the transfers stand in front of the array, and nothing else is read. Assumes nothing.
-use mathlib.Core.Path.{_≡_, refl, sym, ap, _∙_, subst}
+use mathlib.Core.Path.{subst}
 use mathlib.Core.List.{List}
 use Prim.Native.Nat.{ℕ}
 use native.Mathlib.Omega.{arith}
@@ -8,7 +8,6 @@ use lib.ListN.{length, replicate, length-replicate}
 use Rattle.acceptance.specs.Report.{shapeOf, convertedTransfers}
 use Rattle.acceptance.specs.Steps.{Came}
 use Rattle.acceptance.proofs.Sound.{width-16, short, part-is, part-fits, part-long, part-whole}
-use borrow.Author.Needs.{needs}
 use Rattle.acceptance.proofs.outcome.of_clean.Statement.{statement}
 use Rattle.acceptance.proofs.outcome.of_clean.Tie as tie
 

@@ -1,12 +1,11 @@
 -- `acceptance::outcome::of_cycles` meets its contract: what judging answers, and for a clean take what follows. Assumes nothing.
-use mathlib.Core.Path.{sym, ap, _∙_}
+use mathlib.Core.Path.{sym, _∙_}
 use borrow.Author.Needs.{needs}
 use lib.ListN.{length}
 use Rattle.stream.specs.Handshake.{harvested}
 use Rattle.stream.specs.Answers.{judgeAnswer}
 use Rattle.acceptance.specs.Report.{shapeOf, convertedTransfers}
 use Rattle.acceptance.proofs.Steps.{judged-refused, judged-broken, judged-sound}
-use borrow.Author.Needs.{needs}
 use Rattle.acceptance.proofs.outcome.of_cycles.Statement.{statement}
 use Rattle.acceptance.proofs.outcome.of_cycles.Tie as tie
 

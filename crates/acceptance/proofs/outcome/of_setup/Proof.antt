@@ -1,11 +1,10 @@
 -- `acceptance::outcome::of_setup` meets its contract: the sheet's numbers, then LENGTH, then the take. Assumes nothing.
-use mathlib.Core.Path.{sym, ap, _∙_}
+use mathlib.Core.Path.{sym, _∙_}
 use borrow.Author.Needs.{needs}
 use borrow.Author.Tests.{not-true, not-false}
 use Rattle.acceptance.specs.Report.{contents}
 use Rattle.acceptance.proofs.Passed.{fits-in}
 use Rattle.acceptance.proofs.Steps.{passes, setup-refused, setup-unread, setup-ill, setup-read}
-use borrow.Author.Needs.{needs}
 use Rattle.acceptance.proofs.outcome.of_setup.Statement.{statement}
 use Rattle.acceptance.proofs.outcome.of_setup.Tie as tie
 

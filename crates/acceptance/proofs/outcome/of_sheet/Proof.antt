@@ -1,10 +1,8 @@
 -- `acceptance::outcome::of_sheet` meets its contract: SHEET, or what the sheet says. Assumes nothing.
-use mathlib.Core.Path.{sym, ap, _∙_}
 use borrow.Author.Needs.{needs}
 use borrow.Author.Tests.{not-true, not-false}
 use Rattle.acceptance.specs.Report.{contents}
 use Rattle.acceptance.proofs.Steps.{sheet-unread, sheet-refused, sheet-read}
-use borrow.Author.Needs.{needs}
 use Rattle.acceptance.proofs.outcome.of_sheet.Statement.{statement}
 use Rattle.acceptance.proofs.outcome.of_sheet.Tie as tie
 

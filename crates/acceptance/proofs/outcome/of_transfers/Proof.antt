@@ -1,10 +1,8 @@
 -- `acceptance::outcome::of_transfers` meets its contract: ROOM, or clean. Assumes nothing.
-use mathlib.Core.Path.{sym, ap, _∙_}
 use native.Mathlib.Omega.{arith}
 use borrow.Author.Needs.{needs}
 use Rattle.acceptance.proofs.Passed.{fits-out}
 use Rattle.acceptance.proofs.Convert.{room-short, long-fits, all-written}
-use borrow.Author.Needs.{needs}
 use Rattle.acceptance.proofs.outcome.of_transfers.Statement.{statement}
 use Rattle.acceptance.proofs.outcome.of_transfers.Tie as tie
 

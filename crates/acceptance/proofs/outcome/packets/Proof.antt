@@ -1,9 +1,8 @@
 -- `acceptance::outcome::packets` meets its contract. The loop counts; the shape is not read in it, so its invariant is said of each
 -- shape with records of this size. Assumes nothing.
-use mathlib.Core.Path.{_≡_, sym, ap, _∙_}
+use mathlib.Core.Path.{_≡_, sym, _∙_}
 use Prim.Native.Nat.{_-_}
 use native.Mathlib.Omega.{arith}
-use borrow.Author.Needs.{needs}
 use lib.ListN.{length}
 use Rattle.stream.specs.declared.Shape.{Shape}
 use Rattle.stream.specs.Layout.{size as sizeOf}

@@ -1,11 +1,8 @@
 -- `acceptance::outcome::prepare` meets its contract: nothing, or fill-in. Assumes nothing.
 use mathlib.Core.Path.{sym, ap, _∙_}
-use mathlib.Core.List.{List}
-use Prim.Native.Nat.{ℕ}
 use borrow.Author.Needs.{needs}
 use Rattle.setup.specs.declared.Tlast.{Tlast}
 use Rattle.acceptance.specs.Report.{prepared}
-use borrow.Author.Needs.{needs}
 use Rattle.acceptance.proofs.outcome.prepare.Statement.{statement}
 use Rattle.acceptance.proofs.outcome.prepare.Tie as tie
 
