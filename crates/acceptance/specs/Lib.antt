@@ -1,4 +1,5 @@
+-- The report of paper 01. Read in this order: what it is, what is proved of it, worked cases. Steps is for the code alone.
 pub mod Report
-pub mod Steps
 pub mod Promises
 pub mod Cases
+pub mod Steps
