@@ -154,7 +154,7 @@ stored4 s i x h =
 
 pub stored8 : (s : List ℕ) (i x : ℕ) → i + 8 ≤ length s
     → set (set (set (set (set (set (set (set s i (x % 256)) (i + 1) (x / 256 % 256)) (i + 2) (x / 65536 % 256)) (i + 3) (x / 16777216 % 256))
-          (i + 4) (x / 4294967296 % 256)) (i + 5) (x / 1099511627776 % 256)) (i + 6) (x / 281474976710656 % 256)) (i + 7) (x / 72057594037927936 % 256)
+    (i + 4) (x / 4294967296 % 256)) (i + 5) (x / 1099511627776 % 256)) (i + 6) (x / 281474976710656 % 256)) (i + 7) (x / 72057594037927936 % 256)
     ≡ placed i (octetsOfWord 8 x) s
 stored8 s i x h =
     let one : i + 1 ≡ suc i = omega arith in
