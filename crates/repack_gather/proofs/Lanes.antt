@@ -13,8 +13,9 @@ use lib.ListN.{length, getD, take, drop, set, length-append, length-set, length-
 use lib.Seq.{take-suc-set, take-set-le, getD-drop, drop-drop, take-at, length-take-le}
 use Rattle.stream.specs.Layout.{odd}
 use Rattle.words.specs.Words.{front, placed}
-use Rattle.scratch.specs.Codes.{dataCode, sifted}
-use Rattle.repack_gather.specs.Gather.{keptOctet, keptOctets, Collected}
+use Rattle.scratch.specs.Codes.{dataCode, heldCodes, sifted}
+use Rattle.scratch.proofs.Held.{length-held, held-more}
+use Rattle.repack_gather.specs.Gather.{keptOctet, keptOctets, Collected, Gathered, Clear}
 
 -- ---- one lane
 
@@ -184,3 +185,16 @@ sifted-data (suc w) k ds = go (sifted-data w (k / 2) (drop 1 ds)) (odd k) refl
         let bit : k % 2 ≡ 1 = eqb-true (k % 2) 1 e in
         rw bit (ap {B = List ℕ} (λ l. (getD ds 0 0 + 256) ∷ l) ih)
     go ih false e = rw e ih
+
+-- octets collected where no mark stands are codes gathered
+pub collected-codes : (keep : ℕ) (lanes octets after marks : List ℕ) (at r : ℕ) → r ≤ length octets → length marks ≡ length octets → Clear at marks
+    → Collected (length lanes) keep lanes octets at after r → Gathered keep keep lanes (heldCodes octets marks) at (heldCodes after marks) r
+collected-codes keep lanes octets after marks at r h l c g =
+    record {
+      same = length-held after marks (g .same ∙ sym l) ∙ g .same ∙ sym (length-held octets marks (sym l));
+      beyond = g .beyond;
+      within = g .within;
+      is =
+          held-more octets after marks (keptOctets (length lanes) keep lanes) at r (sym l) (g .same) (g .beyond) h c (g .is)
+          ∙ rw (← sifted-data (length lanes) keep lanes) refl;
+    }
