@@ -1,24 +1,19 @@
 //! The library's burst calls against the model, on many bursts.
-#![allow(dead_code)]
-mod cases;
-mod library_burst;
-mod model;
-mod tally;
-use library_burst as library;
-use model::{Burst, FIXED, INCR, WRAP};
-use tally::{Random, Tally};
+use crate::model::{self, Burst, FIXED, INCR, WRAP};
+use crate::tally::{Random, Tally};
+use crate::{cases, library_burst as library};
 
 /// Judging, then each beat and step up to the last, and indexes beyond.
 fn compare(t: &mut Tally, b: Burst) {
     let judged = model::judge_burst(b);
     t.same(library::judge(b), model::burst_answer(&judged), || format!("judge {b:?}"));
-    t.verdict(match judged.refusal { 0 => "accepted".to_string(), n => format!("refusal {n}") });
+    t.verdict(match judged.refusal { 0 => "burst accepted".to_string(), n => format!("burst refusal {n}") });
     let n = judged.beats.len() as u32; // 0 where refused
     for k in (0..n).chain([n, n + 1, u32::MAX]) {
         let (beat, step) = (model::beat(&judged, k), model::step(&judged, k));
         t.same(library::beat(b, k), beat, || format!("beat {k} of {b:?}"));
         t.same(library::step(b, k), step, || format!("step {k} of {b:?}"));
-        if beat.refusal == model::INDEX { t.verdict("refusal 13".to_string()); }
+        if beat.refusal == model::INDEX { t.verdict("burst refusal 13".to_string()); }
     }
 }
 
@@ -47,33 +42,59 @@ fn random_of_kind(r: &mut Random, kind: u32) -> Burst {
     Burst { start: random_start(r) & aligned, len, size, kind, bus }
 }
 
-fn main() {
-    let mut t = Tally::default();
-    let mut r = Random(tally::SEED);
-    println!("bursts: library and model, seed {:#x}", tally::SEED);
-    cases::bursts(&mut t, &cases::BurstCalls { judge: library::judge, beat: library::beat, step: library::step });
-
-    for (name, kind) in [("fixed random", FIXED), ("incr random", INCR), ("wrap random", WRAP)] {
-        t.group(name, |t| for _ in 0..15_000 { compare(t, random_of_kind(&mut r, kind)) });
-    }
-    // One argument of a good burst replaced, or several.
-    t.group("damaged", |t| for _ in 0..60_000 {
-        let kind = r.below(3) as u32;
-        let mut b = random_of_kind(&mut r, kind);
-        for _ in 0..1 + r.below(3) {
-            match r.below(5) {
-                0 => b.start = b.start.wrapping_add(r.below(129) as u32),
-                1 => b.len = r.pick(&[0, 1, 2, 3, 4, 14, 15, 16, 17, 254, 255, 256, 257, 511, 0x1_0001, 0xFFFF_FFFE, u32::MAX]),
-                2 => b.size = r.pick(&[0, 1, 2, 3, 4, 5, 6, 7, 8, 9, 31, 32, 33, 64, 0x8000_0000, u32::MAX]),
-                3 => b.kind = r.pick(&[0, 1, 2, 3, 4, 5, 256, 257, 258, u32::MAX]),
-                _ => b.bus = r.pick(&[0, 1, 2, 3, 4, 5, 8, 12, 16, 24, 32, 48, 64, 96, 127, 128, 129, 255, 256, 512, 0x8000_0000, u32::MAX]),
-            }
+/// One argument of a good burst replaced, or several.
+fn damaged(r: &mut Random) -> Burst {
+    let kind = r.below(3) as u32;
+    let mut b = random_of_kind(r, kind);
+    for _ in 0..1 + r.below(3) {
+        match r.below(5) {
+            0 => b.start = b.start.wrapping_add(r.below(129) as u32),
+            1 => b.len = r.pick(&[0, 1, 2, 3, 4, 14, 15, 16, 17, 254, 255, 256, 257, 511, 0x1_0001, 0xFFFF_FFFE, u32::MAX]),
+            2 => b.size = r.pick(&[0, 1, 2, 3, 4, 5, 6, 7, 8, 9, 31, 32, 33, 64, 0x8000_0000, u32::MAX]),
+            3 => b.kind = r.pick(&[0, 1, 2, 3, 4, 5, 256, 257, 258, u32::MAX]),
+            _ => b.bus = r.pick(&[0, 1, 2, 3, 4, 5, 8, 12, 16, 24, 32, 48, 64, 96, 127, 128, 129, 255, 256, 512, 0x8000_0000, u32::MAX]),
         }
+    }
+    b
+}
+
+fn wild(r: &mut Random) -> Burst {
+    let mut number = || { let n = r.next() as u32; n >> r.below(32) };
+    Burst { len: number(), size: number(), kind: number(), bus: number(), start: r.next() as u32 }
+}
+
+/// For a start, the most beats that still end below the boundary, and one
+/// beat less and more: the answer is typed here too, not only the model's.
+fn at_the_edge(t: &mut Tally, r: &mut Random) {
+    let size = r.below(8) as u32;
+    let boundary = r.pick(&[0x1000u64, 0x7FFF_F000, 0x8000_0000, 1 << 32]);
+    let start = boundary - 1 - r.below(4096) as u64;
+    let most = ((boundary - (start >> size << size)) >> size) as u32;
+    for beats in most.saturating_sub(1).max(1)..=most + 1 {
+        let b = Burst { start: start as u32, len: beats - 1, size, kind: INCR, bus: 1 << (size as usize + r.below(8 - size as usize)) };
+        let expected = if beats > 256 { 10 } else if beats > most { 12 } else { 0 };
+        t.same(library::judge(b).refusal, expected, || format!("judge {b:?}"));
         compare(t, b);
-    });
-    t.group("all arguments wild", |t| for _ in 0..20_000 {
-        compare(t, Burst { start: r.next() as u32, len: r.next() as u32 >> r.below(32), size: r.next() as u32 >> r.below(32), kind: r.next() as u32 >> r.below(32), bus: r.next() as u32 >> r.below(32) });
-    });
+    }
+}
+
+/// One round of the soak.
+pub fn round(t: &mut Tally, r: &mut Random) {
+    for kind in [FIXED, INCR, WRAP] { let b = random_of_kind(r, kind); compare(t, b); }
+    for _ in 0..4 { let b = damaged(r); compare(t, b); }
+    let b = wild(r);
+    compare(t, b);
+    at_the_edge(t, r);
+}
+
+/// What the gate asks.
+pub fn all(t: &mut Tally) {
+    cases::bursts(t, &cases::BurstCalls { judge: library::judge, beat: library::beat, step: library::step });
+    for (name, kind) in [("fixed random", FIXED), ("incr random", INCR), ("wrap random", WRAP)] {
+        t.seeded_group(name, |t, r| for _ in 0..15_000 { compare(t, random_of_kind(r, kind)) });
+    }
+    t.seeded_group("damaged", |t, r| for _ in 0..60_000 { compare(t, damaged(r)) });
+    t.seeded_group("all arguments wild", |t, r| for _ in 0..20_000 { compare(t, wild(r)) });
     t.group("exact bounds", |t| for kind in 0..=3 { for size in 0..=8 { for bus in [0, 1, 2, 3, 4, 8, 16, 32, 64, 127, 128, 129, 256] {
         for len in [0, 1, 2, 3, 4, 5, 6, 7, 8, 9, 10, 11, 12, 13, 14, 15, 16, 31, 254, 255, 256] {
             for start in [0, 1, 0x1000, 0xFF8, 0xFFFF_F000, 0xFFFF_FFF8, 0xFFFF_FFFF] {
@@ -81,24 +102,14 @@ fn main() {
             }
         }
     } } });
-    // For a start, the most beats that still end below the boundary, and one
-    // beat less and more: the answer is typed here too, not only the model's.
-    t.group("4KB edge", |t| for _ in 0..3_000 {
-        let size = r.below(8) as u32;
-        let boundary = r.pick(&[0x1000u64, 0x7FFF_F000, 0x8000_0000, 1 << 32]);
-        let start = boundary - 1 - r.below(4096) as u64;
-        let most = ((boundary - (start >> size << size)) >> size) as u32;
-        for beats in most.saturating_sub(1).max(1)..=most + 1 {
-            let b = Burst { start: start as u32, len: beats - 1, size, kind: INCR, bus: 1 << (size as usize + r.below(8 - size as usize)) };
-            let expected = if beats > 256 { 10 } else if beats > most { 12 } else { 0 };
-            t.same(library::judge(b).refusal, expected, || format!("{b:?}"));
-            compare(t, b);
-        }
-    });
-    t.group("every start of the last block", |t| for start in 0xFFFF_F000..=0xFFFF_FFFF {
+    t.seeded_group("4KB edge", |t, r| for _ in 0..3_000 { at_the_edge(t, r) });
+    t.seeded_group("every start of the last block", |t, r| for start in 0xFFFF_F000..=0xFFFF_FFFF {
         let (size, len) = (r.below(8) as u32, r.pick(&[0, 1, 3, 7, 15]));
         for kind in 0..3 { compare(t, Burst { start, len, size, kind, bus: 128 }); }
     });
-    t.show_verdicts(&["accepted", "refusal 7", "refusal 8", "refusal 9", "refusal 10", "refusal 11", "refusal 12", "refusal 13"]);
-    t.finish()
 }
+
+/// What must have occurred by then.
+pub const VERDICTS: [&str; 8] = [
+    "burst accepted", "burst refusal 7", "burst refusal 8", "burst refusal 9", "burst refusal 10", "burst refusal 11", "burst refusal 12", "burst refusal 13",
+];

@@ -1,12 +1,7 @@
 //! The library's stream calls against the model, on many takes.
-#![allow(dead_code)]
-mod cases;
-mod library_stream;
-mod model;
-mod tally;
-use library_stream as library;
-use model::StreamAnswer;
-use tally::{Random, Tally};
+use crate::model::{self, StreamAnswer};
+use crate::tally::{Random, Tally};
+use crate::{cases, library_stream as library};
 
 const GUARD: usize = 24; // octets before and after each lent room
 
@@ -32,6 +27,11 @@ fn show(octets: &[u8]) -> String {
     format!("{} octets {:02x?}", octets.len(), &octets[..octets.len().min(200)])
 }
 
+/// Counted from the lent room's first octet on; the guard before it is negative.
+fn first_other(a: &[u8], b: &[u8]) -> isize {
+    a.iter().zip(b).take_while(|(x, y)| x == y).count() as isize - GUARD as isize
+}
+
 fn note(t: &mut Tally, call: &str, a: StreamAnswer) {
     t.verdict(match (a.refusal, a.rule) {
         (0, 0) => format!("{call} accepted"),
@@ -52,7 +52,7 @@ fn write_into(t: &mut Tally, c: &Writer, w: usize, v: usize, input: &[u8], room:
     note(t, c.name, expected);
     let inputs = || format!("{} {w} to {v}, room {room}, input {}", c.name, show(&kept));
     t.same(answer, expected, inputs);
-    t.check(lent == modelled, || format!("{}\n    lent memory {}\n    model's     {}", inputs(), show(&lent), show(&modelled)));
+    t.check(lent == modelled, || format!("{}\n    first other octet {}\n    library  {}\n    expected {}", inputs(), first_other(&lent, &modelled), show(&lent), show(&modelled)));
     t.check(input == kept, || format!("{}: input changed", inputs()));
     let octets = (answer.count as usize).saturating_mul(v.saturating_add(7)).min(room);
     if answer.refusal == 0 && answer == expected { Some(lent[GUARD..GUARD + octets].to_vec()) } else { None }
@@ -81,7 +81,7 @@ fn compare_fill_in(t: &mut Tally, w: usize, take: &[u8]) {
     let expected = model::fill_in(w, &mut modelled[GUARD..GUARD + take.len()], 0);
     note(t, "fill-in", expected);
     t.same(answer, expected, || format!("fill-in {w}, {}", show(take)));
-    t.check(lent == modelled, || format!("fill-in {w}, {}\n    lent memory {}\n    model's     {}", show(take), show(&lent), show(&modelled)));
+    t.check(lent == modelled, || format!("fill-in {w}, {}\n    first other octet {}\n    library  {}\n    expected {}", show(take), first_other(&lent, &modelled), show(&lent), show(&modelled)));
 }
 
 fn compare_data_octets(t: &mut Tally, w: usize, take: &[u8]) {
@@ -168,58 +168,147 @@ fn division_places(w: usize, stream: &[u8], pairs: bool) -> Vec<usize> {
     }).collect()
 }
 
-fn main() {
-    let mut t = Tally::default();
-    let mut r = Random(tally::SEED);
-    println!("streams: library and model, seed {:#x}", tally::SEED);
-    cases::streams(&mut t, &cases::StreamCalls {
+const WIDTHS: [usize; 23] = [0, 1, 2, 3, 4, 5, 6, 7, 8, 9, 10, 11, 12, 13, 14, 15, 16, 17, 18, 19, 20, usize::MAX - 6, usize::MAX];
+
+fn random_cycles(t: &mut Tally, r: &mut Random, n: usize) {
+    let w = 1 + r.below(16);
+    let mut take = cycles(r, w, n);
+    if r.one_in(2) { damage(r, w, &mut take); }
+    cycle_calls(t, w, &take);
+}
+
+fn random_transfers(t: &mut Tally, r: &mut Random, n: usize) {
+    let w = 1 + r.below(16);
+    let v = if r.one_in(2) { 1 + r.below(16) } else { r.pick(&[w, 1, (w + 1) / 2, w / 2 + 1]) };
+    let mut input = transfers(r, w, n);
+    if r.one_in(3) { damage(r, w, &mut input); }
+    transfer_calls(t, w, v, &input);
+}
+
+/// Octets and widths that fit only by chance.
+fn random_shapes(t: &mut Tally, r: &mut Random) {
+    let (w, v, n) = (r.pick(&WIDTHS), r.pick(&WIDTHS), r.below(60));
+    let few = r.one_in(2);
+    let octets: Vec<u8> = (0..n).map(|_| if few { r.pick(&[0, 0, 0, 1, 3]) } else { r.next() as u8 }).collect();
+    cycle_calls(t, w, &octets);
+    transfer_calls(t, w, v, &octets);
+}
+
+/// Demand 3, lists of calls: each call gets the last accepted result.
+fn list_of_calls(t: &mut Tally, r: &mut Random, n: usize) {
+    let w = 1 + r.below(16);
+    let first = transfers(r, w, n);
+    let (mut standing, mut width, mut accepted) = (first.clone(), w, false);
+    for _ in 0..r.below(7) {
+        let v = if r.one_in(5) { r.pick(&[0, 17, 18, usize::MAX]) } else { 1 + r.below(16) };
+        let need = model::repack_plan(width, v, &standing).map_or(50, |o| o.len());
+        let room = r.pick(&[need, need, need + 5, need.saturating_sub(1), 0]);
+        if let Some(result) = write_into(t, &REPACK, width, v, &standing, room) {
+            (standing, width, accepted) = (result, v, true);
+        }
+    }
+    let expected = if accepted { model::packed(width, &model::items(w, &first)) } else { first.clone() };
+    t.check(standing == expected, || format!("list of repack calls from {w} to {width}, {}\n    library  {}\n    expected {}", show(&first), show(&standing), show(&expected)));
+}
+
+/// Demand 3, parts: results joined are the whole's packed form, counts add up.
+fn parts(t: &mut Tally, r: &mut Random, n: usize, pairs: bool) {
+    let (w, v) = (1 + r.below(16), 1 + r.below(16));
+    let whole = transfers(r, w, n);
+    let most = model::MOST_OCTETS / (7 + w);
+    let (mut joined, mut count, mut from, mut accepted) = (Vec::new(), 0, 0, true);
+    let mut places = division_places(w, &whole, pairs);
+    places.retain(|_| r.one_in(if n > 100 { 40 } else { 2 }));
+    for to in places.into_iter().chain([n]) {
+        accepted &= to - from <= most;
+        let part = &whole[from * (7 + w)..to * (7 + w)];
+        let room = model::repack_plan(w, v, part).map_or(0, |o| o.len()) + r.below(20);
+        match write_into(t, &REPACK, w, v, part, room) {
+            Some(result) => { count += result.len() / (7 + v); joined.extend(result) }
+            None => accepted = false,
+        }
+        from = to;
+    }
+    let expected = model::packed(v, &model::items(w, &whole));
+    let good = joined == expected && count == expected.len() / (7 + v);
+    t.check(!accepted || good, || format!("repack in parts {w} to {v}, {}\n    library  {}\n    expected {}", show(&whole), show(&joined), show(&expected)));
+    if accepted { t.verdict("parts all accepted".to_string()); }
+}
+
+/// As many records as fit into 65,536 octets, one less or more, and perhaps some octets of another.
+fn longest_take(t: &mut Tally, r: &mut Random) {
+    let (w, v) = (r.pick(&[1, 1, 9, 9, 2, 4, 8, 16]), 1 + r.below(16));
+    let records = model::MOST_OCTETS / (7 + w) + r.below(3) - 1;
+    let extra = r.pick(&[0, 0, 0, 1, 6 + w]);
+    let (mut take, mut input) = (cycles(r, w, records), transfers(r, w, records));
+    take.resize(take.len() + extra, 0);
+    input.resize(input.len() + extra, 0);
+    cycle_calls(t, w, &take);
+    transfer_calls(t, w, v, &input);
+}
+
+/// One round of the soak; one in a few hundred has long takes.
+pub fn round(t: &mut Tally, r: &mut Random) {
+    let (long, longest, pairs) = (r.one_in(300), r.one_in(600), r.one_in(2));
+    if longest { longest_take(t, r); }
+    let mut records = || if long { 1_000 + r.below(6_000) } else { r.below(20) };
+    let [a, b, c, d] = [records(), records(), records(), records()];
+    random_cycles(t, r, a);
+    random_transfers(t, r, b);
+    random_shapes(t, r);
+    list_of_calls(t, r, c);
+    parts(t, r, d, pairs);
+}
+
+/// What the gate asks.
+pub fn all(t: &mut Tally) {
+    cases::streams(t, &cases::StreamCalls {
         judge: library::judge, harvest: library::harvest, fill_in: library::fill_in,
         data_octets: library::data_octets, repack: library::repack, downsize: library::downsize,
     });
 
-    let widths: Vec<usize> = (0..=20).chain([usize::MAX - 6, usize::MAX]).collect();
-    t.group("widths", |t| for &w in &widths {
+    t.seeded_group("widths", |t, r| for w in WIDTHS {
         for octets in [0, 1, 7, 8, 23, 24, 27, 65_536, 65_537] {
             let input = vec![0; octets];
             cycle_calls(t, w, &input);
-            for &v in &widths { write_into(t, &REPACK, w, v, &input, 70); write_into(t, &DOWNSIZE, w, v, &input, 70); }
+            for v in WIDTHS { write_into(t, &REPACK, w, v, &input, 70); write_into(t, &DOWNSIZE, w, v, &input, 70); }
         }
         if w >= 1 && w <= 16 { // a good stream of three records, to every width
-            let input = transfers(&mut r, w, 3);
-            for &v in &widths { transfer_calls(t, w, v, &input); }
+            let input = transfers(r, w, 3);
+            for v in WIDTHS { transfer_calls(t, w, v, &input); }
         }
     });
-    t.group("longest takes", |t| for (w, most) in [(1, 8192), (9, 4096), (16, 2849), (4, 5957)] {
+    t.seeded_group("longest takes", |t, r| for (w, most) in [(1, 8192), (9, 4096), (16, 2849), (4, 5957)] {
         for records in [most - 1, most, most + 1] {
             for extra in [0, 1, 7 + w - 1] {
-                let mut take = cycles(&mut r, w, records);
+                let mut take = cycles(r, w, records);
                 take.resize(take.len() + extra, 0);
                 cycle_calls(t, w, &take);
-                let mut input = transfers(&mut r, w, records);
+                let mut input = transfers(r, w, records);
                 input.resize(input.len() + extra, 0);
                 for v in [1, 3, 9, 16] { transfer_calls(t, w, v, &input); }
             }
         }
     });
-    t.group("wrong lengths", |t| for w in 1..=16 {
-        let (take, input) = (cycles(&mut r, w, 3), transfers(&mut r, w, 3));
+    t.seeded_group("wrong lengths", |t, r| for w in 1..=16 {
+        let (take, input) = (cycles(r, w, 3), transfers(r, w, 3));
         for octets in 0..take.len() {
             cycle_calls(t, w, &take[..octets]);
             transfer_calls(t, w, 1, &input[..octets]);
         }
     });
     // Each bit of octets 0 to 6 of each record flipped, and each lane reserved.
-    t.group("each field bit", |t| for w in 1..=16 {
+    t.seeded_group("each field bit", |t, r| for w in 1..=16 {
         for rec in 0..3 {
             for bit in 0..56 {
-                let (mut take, mut input) = (cycles(&mut r, w, 3), transfers(&mut r, w, 3));
+                let (mut take, mut input) = (cycles(r, w, 3), transfers(r, w, 3));
                 take[rec * (7 + w) + bit / 8] ^= 1 << (bit % 8);
                 input[rec * (7 + w) + bit / 8] ^= 1 << (bit % 8);
                 cycle_calls(t, w, &take);
                 transfer_calls(t, w, 1 + bit % w, &input);
             }
             for lane in 0..w {
-                let (mut take, mut input) = (cycles(&mut r, w, 3), transfers(&mut r, w, 3));
+                let (mut take, mut input) = (cycles(r, w, 3), transfers(r, w, 3));
                 for octets in [&mut take, &mut input] {
                     octets[rec * (7 + w) + 3 + lane / 8] &= !(1 << (lane % 8));
                     octets[rec * (7 + w) + 5 + lane / 8] |= 1 << (lane % 8);
@@ -242,8 +331,8 @@ fn main() {
         }
     });
     // Waiting, then one bit of the waiting cycle differs: each octet, TLAST too.
-    t.group("each bit while waiting", |t| for w in 1..=16 {
-        let mut wait = record(&mut r, w, 10);
+    t.seeded_group("each bit while waiting", |t, r| for w in 1..=16 {
+        let mut wait = record(r, w, 10);
         wait[2] = 3;
         for bit in 0..8 * (7 + w) {
             let mut next = wait.clone();
@@ -253,69 +342,29 @@ fn main() {
             }
         }
     });
-    t.group("random cycles", |t| for _ in 0..12_000 {
-        let (w, n) = (1 + r.below(16), r.below(14));
-        let mut take = cycles(&mut r, w, n);
-        if r.one_in(2) { damage(&mut r, w, &mut take); }
-        cycle_calls(t, w, &take);
+    t.seeded_group("random cycles", |t, r| for _ in 0..12_000 { let n = r.below(14); random_cycles(t, r, n) });
+    t.seeded_group("random transfers", |t, r| for _ in 0..12_000 { let n = r.below(14); random_transfers(t, r, n) });
+    t.seeded_group("random shapes", |t, r| for _ in 0..12_000 { random_shapes(t, r) });
+    t.seeded_group("lists of repacking calls", |t, r| for round in 0..3_000 {
+        let n = if round % 100 == 0 { 2_000 + r.below(3_000) } else { r.below(12) };
+        list_of_calls(t, r, n);
     });
-    t.group("random transfers", |t| for _ in 0..12_000 {
-        let (w, n) = (1 + r.below(16), r.below(14));
-        let v = if r.one_in(2) { 1 + r.below(16) } else { r.pick(&[w, 1, (w + 1) / 2, w / 2 + 1]) };
-        let mut input = transfers(&mut r, w, n);
-        if r.one_in(3) { damage(&mut r, w, &mut input); }
-        transfer_calls(t, w, v, &input);
-    });
-    // Demand 3, lists of calls: each call gets the last accepted result.
-    t.group("lists of repacking calls", |t| for round in 0..3_000 {
-        let (w, n) = (1 + r.below(16), if round % 100 == 0 { 2_000 + r.below(3_000) } else { r.below(12) });
-        let first = transfers(&mut r, w, n);
-        let (mut standing, mut width, mut accepted) = (first.clone(), w, false);
-        for _ in 0..r.below(7) {
-            let v = if r.one_in(5) { r.pick(&[0, 17, 18, usize::MAX]) } else { 1 + r.below(16) };
-            let need = model::repack_plan(width, v, &standing).map_or(50, |o| o.len());
-            let room = r.pick(&[need, need, need + 5, need.saturating_sub(1), 0]);
-            if let Some(result) = write_into(t, &REPACK, width, v, &standing, room) {
-                (standing, width, accepted) = (result, v, true);
-            }
-        }
-        let expected = if accepted { model::packed(width, &model::items(w, &first)) } else { first.clone() };
-        t.check(standing == expected, || format!("list of calls from {w} to {width}, {}\n    library {}\n    packed  {}", show(&first), show(&standing), show(&expected)));
-    });
-    // Demand 3, parts: results joined are the whole's packed form, counts add up.
     for (name, pairs) in [("parts after packet ends", false), ("parts after ends and at pair changes", true)] {
-        t.group(name, |t| for round in 0..1_500 {
-            let (w, v, n) = (1 + r.below(16), 1 + r.below(16), if round % 100 == 0 { 6_000 } else { r.below(25) });
-            let whole = transfers(&mut r, w, n);
-            let most = model::MOST_OCTETS / (7 + w);
-            let (mut joined, mut count, mut from, mut accepted) = (Vec::new(), 0, 0, true);
-            let mut places = division_places(w, &whole, pairs);
-            places.retain(|_| r.one_in(if n > 100 { 40 } else { 2 }));
-            for to in places.into_iter().chain([n]) {
-                accepted &= to - from <= most;
-                let part = &whole[from * (7 + w)..to * (7 + w)];
-                let room = model::repack_plan(w, v, part).map_or(0, |o| o.len()) + r.below(20);
-                match write_into(t, &REPACK, w, v, part, room) {
-                    Some(result) => { count += result.len() / (7 + v); joined.extend(result) }
-                    None => accepted = false,
-                }
-                from = to;
-            }
-            let expected = model::packed(v, &model::items(w, &whole));
-            let good = joined == expected && count == expected.len() / (7 + v);
-            t.check(!accepted || good, || format!("parts {w} to {v}, {}\n    library {}\n    packed  {}", show(&whole), show(&joined), show(&expected)));
-            if accepted { t.verdict("parts all accepted".to_string()); }
+        t.seeded_group(name, |t, r| for round in 0..1_500 {
+            let n = if round % 100 == 0 { 6_000 } else { r.below(25) };
+            parts(t, r, n, pairs);
         });
     }
-    t.show_verdicts(&[
-        "judge accepted", "judge broken rule 1", "judge broken rule 2", "judge broken rule 3", "judge broken rule 4",
-        "judge refusal 1", "judge refusal 2", "judge refusal 3",
-        "harvest accepted", "harvest refusal 1", "harvest refusal 2", "harvest refusal 3", "harvest refusal 5", "harvest refusal 14",
-        "fill-in accepted", "fill-in refusal 1", "fill-in refusal 2",
-        "data octets accepted", "data octets refusal 1", "data octets refusal 2", "data octets refusal 13",
-        "repack accepted", "repack refusal 1", "repack refusal 2", "repack refusal 3", "repack refusal 4", "repack refusal 5",
-        "downsize accepted", "downsize refusal 1", "downsize refusal 2", "downsize refusal 3", "downsize refusal 4", "downsize refusal 5", "downsize refusal 6",
-        "parts all accepted",
-    ]);
-    t.finish()
 }
+
+/// What must have occurred by then.
+pub const VERDICTS: [&str; 35] = [
+    "judge accepted", "judge broken rule 1", "judge broken rule 2", "judge broken rule 3", "judge broken rule 4",
+    "judge refusal 1", "judge refusal 2", "judge refusal 3",
+    "harvest accepted", "harvest refusal 1", "harvest refusal 2", "harvest refusal 3", "harvest refusal 5", "harvest refusal 14",
+    "fill-in accepted", "fill-in refusal 1", "fill-in refusal 2",
+    "data octets accepted", "data octets refusal 1", "data octets refusal 2", "data octets refusal 13",
+    "repack accepted", "repack refusal 1", "repack refusal 2", "repack refusal 3", "repack refusal 4", "repack refusal 5",
+    "downsize accepted", "downsize refusal 1", "downsize refusal 2", "downsize refusal 3", "downsize refusal 4", "downsize refusal 5", "downsize refusal 6",
+    "parts all accepted",
+];

@@ -1,5 +1,5 @@
 //! The library's burst calls in C, and safe wrappers answering in the model's terms.
-use crate::model;
+use crate::{calls, model};
 
 #[repr(C)]
 #[derive(Clone, Copy, PartialEq, Eq, Debug)]
@@ -16,13 +16,16 @@ fn plain(a: BurstAnswer) -> model::BurstAnswer {
 }
 
 pub fn judge(b: model::Burst) -> model::BurstAnswer {
+    calls::count("urd_burst_judge");
     plain(unsafe { urd_burst_judge(b.start, b.len, b.size, b.kind, b.bus) })
 }
 
 pub fn beat(b: model::Burst, k: u32) -> model::BurstAnswer {
+    calls::count("urd_burst_beat");
     plain(unsafe { urd_burst_beat(b.start, b.len, b.size, b.kind, b.bus, k) })
 }
 
 pub fn step(b: model::Burst, k: u32) -> model::BurstAnswer {
+    calls::count("urd_burst_step");
     plain(unsafe { urd_burst_step(b.start, b.len, b.size, b.kind, b.bus, k) })
 }

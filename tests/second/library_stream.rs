@@ -1,5 +1,5 @@
 //! The library's stream calls in C, and safe wrappers answering in the model's terms.
-use crate::model;
+use crate::{calls, model};
 
 #[repr(C)]
 #[derive(Clone, Copy, PartialEq, Eq, Debug)]
@@ -22,27 +22,33 @@ fn plain(a: StreamAnswer) -> model::StreamAnswer {
 }
 
 pub fn judge(w: usize, take: &[u8]) -> model::StreamAnswer {
+    calls::count("urd_judge");
     plain(unsafe { urd_judge(w, take.as_ptr(), take.len()) })
 }
 
 pub fn harvest(w: usize, take: &[u8], out: &mut [u8]) -> model::StreamAnswer {
+    calls::count("urd_harvest");
     plain(unsafe { urd_harvest(w, take.as_ptr(), take.len(), out.as_mut_ptr(), out.len()) })
 }
 
 pub fn fill_in(w: usize, take: &mut [u8]) -> model::StreamAnswer {
+    calls::count("urd_fill_in");
     plain(unsafe { urd_fill_in(w, take.as_mut_ptr(), take.len()) })
 }
 
 /// Its refusals have place and rule 0, and the library shows none.
 pub fn data_octets(w: usize, take: &[u8], k: usize) -> (model::StreamAnswer, [u64; 2]) {
+    calls::count("urd_data_octets");
     let a = unsafe { urd_data_octets(w, take.as_ptr(), take.len(), k) };
     (model::StreamAnswer { refusal: a.refusal, rule: 0, place: 0, count: 0 }, [a.start, a.length])
 }
 
 pub fn repack(w: usize, v: usize, input: &[u8], out: &mut [u8]) -> model::StreamAnswer {
+    calls::count("urd_repack");
     plain(unsafe { urd_repack(w, v, input.as_ptr(), input.len(), out.as_mut_ptr(), out.len()) })
 }
 
 pub fn downsize(w: usize, v: usize, input: &[u8], out: &mut [u8]) -> model::StreamAnswer {
+    calls::count("urd_downsize");
     plain(unsafe { urd_downsize(w, v, input.as_ptr(), input.len(), out.as_mut_ptr(), out.len()) })
 }

@@ -8,6 +8,13 @@ pub const SEED: u64 = 0x5EED_0001_2026_0051;
 pub struct Random(pub u64);
 
 impl Random {
+    /// A start for every seed, 0 too; neighbouring seeds give unlike numbers (splitmix64).
+    pub fn of_seed(seed: u64) -> Random {
+        let mut z = seed.wrapping_add(0x9E37_79B9_7F4A_7C15);
+        z = (z ^ (z >> 30)).wrapping_mul(0xBF58_476D_1CE4_E5B9);
+        z = (z ^ (z >> 27)).wrapping_mul(0x94D0_49BB_1331_11EB);
+        Random((z ^ (z >> 31)).max(1))
+    }
     pub fn next(&mut self) -> u64 {
         self.0 ^= self.0 << 13;
         self.0 ^= self.0 >> 7;
@@ -19,12 +26,25 @@ impl Random {
     pub fn pick<T: Copy>(&mut self, from: &[T]) -> T { from[self.below(from.len())] }
 }
 
+/// With a seed, a difference is printed with it and with the command that repeats it. `only` is a group to run alone.
 #[derive(Default)]
-pub struct Tally { passed: u64, failed: u64, checks: u64, all: u64, wrong: u64, verdicts: BTreeMap<String, u64> }
+pub struct Tally {
+    pub seed: Option<u64>, pub only: Option<String>, pub wrong: u64,
+    passed: u64, failed: u64, checks: u64, all: u64, group: String, verdicts: BTreeMap<String, u64>,
+}
 
 impl Tally {
+    /// A group with random numbers of its own, so that it can be repeated alone.
+    pub fn seeded_group(&mut self, name: &str, run: impl FnOnce(&mut Tally, &mut Random)) {
+        let named = name.bytes().fold(0u64, |h, b| h.wrapping_mul(31).wrapping_add(u64::from(b)));
+        let mut r = Random::of_seed(self.seed.unwrap_or(SEED) ^ named);
+        self.group(name, |t| run(t, &mut r));
+    }
+
     /// One group is one count of the last line, however many inputs it has.
     pub fn group(&mut self, name: &str, run: impl FnOnce(&mut Tally)) {
+        if self.only.as_ref().is_some_and(|only| only != name) { return; }
+        self.group = name.to_string();
         self.checks = 0;
         self.wrong = 0;
         print!("{name}: ");
@@ -41,12 +61,23 @@ impl Tally {
         self.checks += 1;
         if good { return; }
         self.wrong += 1;
-        if self.wrong <= 5 { println!("\n  DIFFERS {}", say()); }
+        if self.wrong > 5 { return; }
+        match self.seed {
+            None => println!("\n  DIFFERS {}", say()),
+            Some(seed) => println!("\n  DIFFERS seed {seed:#x}, {}\n    repeat   {}", say(), self.repeat(seed)),
+        }
+    }
+
+    /// The command that asks the same again: a group of the gate, or one round of the soak.
+    fn repeat(&self, seed: u64) -> String {
+        if self.group.is_empty() { return format!("make soak SECONDS=0 SEED={seed:#x}"); }
+        format!("sh tests/second/run {seed:#x} \"{}\"", self.group)
     }
 
     pub fn same<T: PartialEq + std::fmt::Debug>(&mut self, got: T, expected: T, inputs: impl FnOnce() -> String) {
         let good = got == expected;
-        self.check(good, || format!("{}\n    got      {got:?}\n    expected {expected:?}", inputs()));
+        let who = if self.seed.is_some() { "library" } else { "got" };
+        self.check(good, || format!("{}\n    {who:<8} {got:?}\n    expected {expected:?}", inputs()));
     }
 
     pub fn verdict(&mut self, name: String) { *self.verdicts.entry(name).or_insert(0) += 1; }
@@ -59,6 +90,7 @@ impl Tally {
     }
 
     pub fn finish(&self) -> ! {
+        if let (Some(only), 0) = (&self.only, self.passed + self.failed) { println!("there is no group {only:?}\n0 passed, 1 failed"); std::process::exit(1) }
         println!("{} comparisons in all", self.all);
         println!("{} passed, {} failed", self.passed, self.failed);
         std::process::exit(i32::from(self.failed != 0))

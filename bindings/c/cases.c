@@ -1,0 +1,356 @@
+/* Paper 01's bench cases P1, S1 to S7 and B1 to B6 through C, with every answer and every octet typed from the paper;
+ * then the layout of the structs, the refusals that no bench case gives, and numbers at the edges.
+ * The last line is 'N passed, M failed'. A case passes if all its checks do. */
+#include "urdhvasolk.h"
+
+#include <inttypes.h>
+#include <stdio.h>
+#include <string.h>
+
+#define TAIL 0xC3 /* what every room holds before a call */
+
+static int passed, failed, wrong;
+
+static void check(int good, const char *what)
+{
+    if (!good) {
+        wrong++;
+        printf("  not so: %s\n", what);
+    }
+}
+
+/* Runs one case and counts it once. */
+static void run(const char *name, void (*body)(void))
+{
+    wrong = 0;
+    body();
+    printf("%s %s\n", name, wrong == 0 ? "ok" : "FAILED");
+    if (wrong == 0)
+        passed++;
+    else
+        failed++;
+}
+
+/* ---- typed octets ---- */
+
+static size_t octets_of(const char *hex, uint8_t *to)
+{
+    size_t n = 0;
+    unsigned octet;
+    int used;
+    while (sscanf(hex, "%x%n", &octet, &used) == 1) {
+        to[n++] = (uint8_t)octet;
+        hex += used;
+    }
+    return n;
+}
+
+static void stream_is(urd_stream_answer a, uint32_t refusal, uint32_t rule, uint64_t place, uint64_t count, const char *what)
+{
+    int good = a.refusal == refusal && a.rule == rule && a.place == place && a.count == count;
+    check(good, what);
+    if (!good)
+        printf("    refusal %" PRIu32 ", rule %" PRIu32 ", place %" PRIu64 ", count %" PRIu64 "\n", a.refusal, a.rule, a.place, a.count);
+}
+
+static void burst_is(urd_burst_answer a, uint32_t refusal, uint64_t address, uint32_t lower, uint32_t upper, int32_t step, const char *what)
+{
+    int good = a.refusal == refusal && a.address == address && a.lower == lower && a.upper == upper && a.step == step;
+    check(good, what);
+    if (!good)
+        printf("    refusal %" PRIu32 ", address 0x%" PRIx64 ", lanes %" PRIu32 " to %" PRIu32 ", step %" PRId32 "\n", a.refusal, a.address, a.lower, a.upper, a.step);
+}
+
+/* The room afterwards: the octets, then what it held before. */
+static void room_is(const uint8_t *room, size_t length, const char *hex, const char *what)
+{
+    static uint8_t expected[4096];
+    size_t n = octets_of(hex, expected);
+    memset(expected + n, TAIL, length - n);
+    check(memcmp(room, expected, length) == 0, what);
+}
+
+typedef urd_stream_answer (*writer)(size_t, size_t, const uint8_t *, size_t, uint8_t *, size_t);
+
+static urd_stream_answer harvest(size_t width, size_t v, const uint8_t *capture, size_t length, uint8_t *out, size_t room)
+{
+    (void)v;
+    return urd_harvest(width, capture, length, out, room);
+}
+
+/* An accepted writing call: into a larger room, into an exact one, and refused (5) where one octet is missing. */
+static void writes(writer call, size_t width, size_t v, const char *in, uint64_t count, const char *out)
+{
+    static uint8_t input[4096], room[4096];
+    size_t length = octets_of(in, input), need = octets_of(out, room);
+    memset(room, TAIL, sizeof room);
+    stream_is(call(width, v, input, length, room, need + 9), 0, 0, 0, count, "a larger room");
+    room_is(room, sizeof room, out, "octets of a larger room");
+    memset(room, TAIL, sizeof room);
+    stream_is(call(width, v, input, length, room, need), 0, 0, 0, count, "an exact room");
+    room_is(room, sizeof room, out, "octets of an exact room");
+    if (need == 0)
+        return;
+    memset(room, TAIL, sizeof room);
+    stream_is(call(width, v, input, length, room, need - 1), URD_ROOM, 0, 0, 0, "one octet too few");
+    room_is(room, sizeof room, "", "a room too small is unchanged");
+}
+
+/* A refused writing call: its numbers, and the room as it was. */
+static void refuses(writer call, size_t width, size_t v, const char *in, uint32_t refusal, uint32_t rule, uint64_t place, const char *what)
+{
+    static uint8_t input[4096], room[256];
+    size_t length = octets_of(in, input);
+    memset(room, TAIL, sizeof room);
+    stream_is(call(width, v, input, length, room, sizeof room), refusal, rule, place, 0, what);
+    room_is(room, sizeof room, "", "a refused room is unchanged");
+}
+
+/* ---- the stream cases ---- */
+
+#define TAKE "0F 01 02 0D 00 09 00 11 22 33 44"
+#define TRANSFER "01 01 02 0D 00 09 00 11 22 33 44"
+#define ITEM "00 00 00 01 00 01 00 AA"     /* S3's first record */
+#define END_ONLY "01 00 00 00 00 00 00 00" /* S3's second record */
+
+static void p1(void)
+{
+    uint8_t take[11];
+    size_t length = octets_of(TAKE, take);
+    stream_is(urd_judge(4, take, length), 0, 0, 0, 1, "judged clean, 1 transfer");
+    writes(harvest, 4, 4, TAKE, 1, TRANSFER);
+    writes(urd_repack, 4, 2, TRANSFER, 2, "00 01 02 03 00 01 00 11 00 01 01 02 01 00 01 00 44 00");
+}
+
+static void s1(void) { writes(urd_repack, 4, 4, TRANSFER, 1, "01 01 02 07 00 05 00 11 00 44 00"); }
+static void s2(void) { writes(urd_downsize, 4, 2, TRANSFER, 2, "00 01 02 01 00 01 00 11 00 01 01 02 03 00 02 00 00 44"); }
+static void s3(void) { writes(urd_repack, 1, 1, ITEM " " END_ONLY, 1, "01 00 00 01 00 01 00 AA"); }
+static void s4(void) { writes(urd_repack, 1, 1, END_ONLY " " END_ONLY, 2, END_ONLY " " END_ONLY); }
+static void s5(void) { writes(urd_repack, 1, 1, "00 00 00 00 00 00 00 00", 0, ""); }
+
+static void s6(void)
+{
+    for (size_t w = 1; w <= 16; w++)
+        for (size_t v = 1; v <= 16; v++)
+            writes(urd_repack, w, v, "", 0, "");
+}
+
+static void s7(void)
+{
+    char out[3 * 3 * 23 + 1]; /* three characters an octet */
+    for (size_t v = 1; v <= 16; v++) {
+        out[0] = 0;
+        for (int i = 0; i < 3; i++) {
+            strcat(out, i == 1 ? "00 02 00 01 00 01 00 5A " : "00 01 00 01 00 01 00 5A ");
+            for (size_t lane = 1; lane < v; lane++)
+                strcat(out, "00 ");
+        }
+        writes(urd_repack, 1, v, "00 01 00 01 00 01 00 5A 00 02 00 01 00 01 00 5A 00 01 00 01 00 01 00 5A", 3, out);
+    }
+}
+
+/* ---- the burst cases; beats are AxLEN + 1 ---- */
+
+static void judged(uint32_t start, uint32_t beats, uint32_t size, uint32_t kind, uint32_t bus, uint32_t refusal, const char *what)
+{
+    burst_is(urd_burst_judge(start, beats - 1, size, kind, bus), refusal, 0, 0, 0, 0, what);
+}
+
+static void b1(void)
+{
+    judged(0x1002, 3, 2, URD_INCR, 4, 0, "accepted");
+    burst_is(urd_burst_beat(0x1002, 2, 2, URD_INCR, 4, 0), 0, 0x1002, 2, 3, 0, "beat 0");
+    burst_is(urd_burst_beat(0x1002, 2, 2, URD_INCR, 4, 1), 0, 0x1004, 0, 3, 0, "beat 1");
+    burst_is(urd_burst_beat(0x1002, 2, 2, URD_INCR, 4, 2), 0, 0x1008, 0, 3, 0, "beat 2");
+    burst_is(urd_burst_beat(0x1002, 2, 2, URD_INCR, 4, 3), URD_INDEX, 0, 0, 0, 0, "no beat 3");
+    burst_is(urd_burst_step(0x1002, 2, 2, URD_INCR, 4, 0), 0, 0, 0, 0, 2, "step 0");
+    burst_is(urd_burst_step(0x1002, 2, 2, URD_INCR, 4, 1), 0, 0, 0, 0, 4, "step 1");
+    burst_is(urd_burst_step(0x1002, 2, 2, URD_INCR, 4, 2), URD_INDEX, 0, 0, 0, 0, "no step 2");
+}
+
+static void b2(void)
+{
+    for (uint32_t beats = 1; beats <= 16; beats++) {
+        for (uint32_t k = 0; k < beats; k++)
+            burst_is(urd_burst_beat(0x1002, beats - 1, 2, URD_FIXED, 4, k), 0, 0x1002, 2, 3, 0, "each beat");
+        for (uint32_t k = 0; k + 1 < beats; k++)
+            burst_is(urd_burst_step(0x1002, beats - 1, 2, URD_FIXED, 4, k), 0, 0, 0, 0, 0, "each step");
+    }
+}
+
+static void b3(void)
+{
+    static const uint64_t address[] = {0x34, 0x38, 0x3C, 0x30};
+    static const uint32_t lower[] = {4, 0, 4, 0}, upper[] = {7, 3, 7, 3};
+    static const int32_t step[] = {4, 4, -12};
+    judged(0x34, 4, 2, URD_WRAP, 8, 0, "accepted");
+    for (uint32_t k = 0; k < 4; k++)
+        burst_is(urd_burst_beat(0x34, 3, 2, URD_WRAP, 8, k), 0, address[k], lower[k], upper[k], 0, "each beat");
+    for (uint32_t k = 0; k < 3; k++)
+        burst_is(urd_burst_step(0x34, 3, 2, URD_WRAP, 8, k), 0, 0, 0, 0, step[k], "each step");
+    burst_is(urd_burst_beat(0x34, 3, 2, URD_WRAP, 8, 4), URD_INDEX, 0, 0, 0, 0, "no beat 4");
+    burst_is(urd_burst_step(0x34, 3, 2, URD_WRAP, 8, 3), URD_INDEX, 0, 0, 0, 0, "no step 3");
+}
+
+static void b4(void)
+{
+    for (uint32_t bus = 4; bus <= 128; bus *= 2) {
+        judged(0xFF2, 4, 2, URD_INCR, bus, 0, "4 beats");
+        judged(0xFF2, 5, 2, URD_INCR, bus, URD_FENCE, "5 beats");
+    }
+}
+
+static void b5(void)
+{
+    judged(0x1001, 256, 4, URD_INCR, 16, 0, "0x1001");
+    judged(0x1010, 256, 4, URD_INCR, 16, URD_FENCE, "0x1010");
+}
+
+static void b6(void)
+{
+    judged(0x1000, 16, 2, URD_FIXED, 4, 0, "FIXED of 16");
+    judged(0x1000, 17, 2, URD_FIXED, 4, URD_COUNT, "FIXED of 17");
+    judged(0x1000, 3, 2, URD_WRAP, 4, URD_COUNT, "WRAP of 3");
+    judged(0x32, 4, 2, URD_WRAP, 4, URD_ALIGN, "WRAP 0x32");
+}
+
+/* ---- what no bench case shows ---- */
+
+/* A field's offset and its octets. */
+#define IS(type, field, offset, octets) check(offsetof(type, field) == (offset) && sizeof(((type *)0)->field) == (octets), #type "." #field)
+
+/* crates/capi has the same fields in the same order, #[repr(C)]; tests/bindings compares the texts too. */
+static void layout(void)
+{
+    urd_burst_answer ones;
+    memset(&ones, 0xFF, sizeof ones);
+    check((int64_t)ones.step == -1, "step is signed");
+    check(sizeof(size_t) == 8 && sizeof(urd_burst_answer) == 24 && sizeof(urd_stream_answer) == 24 && sizeof(urd_part_answer) == 24, "sizes");
+    IS(urd_burst_answer, refusal, 0, 4);
+    IS(urd_burst_answer, lower, 4, 4);
+    IS(urd_burst_answer, upper, 8, 4);
+    IS(urd_burst_answer, step, 12, 4);
+    IS(urd_burst_answer, address, 16, 8);
+    IS(urd_stream_answer, refusal, 0, 4);
+    IS(urd_stream_answer, rule, 4, 4);
+    IS(urd_stream_answer, place, 8, 8);
+    IS(urd_stream_answer, count, 16, 8);
+    IS(urd_part_answer, refusal, 0, 4);
+    IS(urd_part_answer, start, 8, 8);
+    IS(urd_part_answer, length, 16, 8);
+}
+
+static void fill_in(void)
+{
+    uint8_t take[22], expected[22];
+    size_t length = octets_of(TAKE " FE 01 02 0D 00 09 00 11 22 33 45", take);
+    octets_of("0E 01 02 0D 00 09 00 11 22 33 44 FE 01 02 0D 00 09 00 11 22 33 45", expected);
+    stream_is(urd_fill_in(4, take, length - 1), URD_LENGTH, 0, 0, 0, "no whole number of records");
+    check(take[0] == 0x0F, "refused, it is unchanged");
+    stream_is(urd_fill_in(4, take, length), 0, 0, 0, 2, "2 records");
+    check(memcmp(take, expected, length) == 0, "TLAST cleared, nothing else");
+}
+
+static void data_octets(void)
+{
+    uint8_t take[22];
+    size_t length = octets_of(TAKE " " TAKE, take);
+    urd_part_answer a = urd_data_octets(4, take, length, 1);
+    check(a.refusal == 0 && a.start == 18 && a.length == 4 && take[a.start] == 0x11, "record 1");
+    a = urd_data_octets(4, take, length, 2);
+    check(a.refusal == URD_INDEX && a.start == 0 && a.length == 0, "no record 2");
+    a = urd_data_octets(4, take, length, SIZE_MAX);
+    check(a.refusal == URD_INDEX && a.start == 0 && a.length == 0, "no such record");
+    a = urd_data_octets(17, take, length, 0);
+    check(a.refusal == URD_WIDTH && a.start == 0 && a.length == 0, "width 17");
+}
+
+#define CYCLE(flags) flags " 00 00 01 00 01 00 55"
+
+static void rule_is(const char *hex, uint32_t rule, uint64_t cycle, const char *what)
+{
+    uint8_t take[64];
+    size_t length = octets_of(hex, take);
+    stream_is(urd_judge(1, take, length), 0, rule, cycle, 0, what);
+}
+
+static void findings(void)
+{
+    rule_is(CYCLE("08") " " CYCLE("02"), 1, 1, "R1");
+    rule_is(CYCLE("0A") " " CYCLE("08"), 2, 1, "R2");
+    rule_is(CYCLE("0A") " " CYCLE("0B"), 3, 1, "R3");
+    rule_is("0E 00 00 00 00 01 00 55", 4, 0, "R4");
+    rule_is(CYCLE("0A") " " CYCLE("00") " " CYCLE("08"), 0, 0, "no wait across reset");
+    refuses(harvest, 1, 1, CYCLE("0A") " " CYCLE("0B"), URD_UNCLEAN, 3, 1, "UNCLEAN has the cycle and the rule");
+}
+
+#define GOOD "00 00 00 03 00 03 00 11 22"
+#define FIELD "02 00 00 00 00 03 00 11 22" /* octet 0 wrong, and reserved lanes */
+#define RESERVED "00 00 00 01 00 03 00 11 22"
+
+static void refusals(void)
+{
+    refuses(urd_repack, 2, 17, FIELD " 00", URD_WIDTH, 0, 0, "1 before 2 and 3");
+    refuses(urd_downsize, 2, 0, FIELD " 00", URD_WIDTH, 0, 0, "1 before 6");
+    refuses(urd_downsize, 2, 3, FIELD " 00", URD_RATIO, 0, 0, "6 before 2");
+    refuses(urd_downsize, 2, 1, FIELD " 00", URD_LENGTH, 0, 0, "2 before 3");
+    refuses(urd_repack, 2, 1, GOOD " " FIELD, URD_FIELD, 0, 1, "3 before 4 in record 1");
+    refuses(urd_repack, 2, 1, GOOD " " RESERVED " " FIELD, URD_RESERVED, 0, 1, "4 of an earlier record");
+    refuses(harvest, 1, 1, "02 00 00 00 00 00 00 00 10 00 00 00 00 00 00 00", URD_FIELD, 0, 1, "3 before 14");
+    judged(0x1FFF, 257, 8, 3, 3, URD_BUS, "7 first");
+    judged(0x1FFF, 257, 8, 3, 4, URD_SIZE, "8 before 9");
+    judged(0x1FFF, 257, 2, 3, 4, URD_TYPE, "9 before 10");
+    burst_is(urd_burst_beat(0xFF2, 4, 2, URD_INCR, 4, 5), URD_FENCE, 0, 0, 0, 0, "12 before 13");
+}
+
+/* Any number may be passed in; the second program asks many more of these. */
+static void edges(void)
+{
+    static const size_t width[] = {0, 17, 255, 256, 65536, SIZE_MAX - 6, SIZE_MAX / 2, SIZE_MAX};
+    static const uint32_t big[] = {256, 0x7FFFFFFF, 0x80000000, 0xFFFFFFFF};
+    static uint8_t over[65537], out[8];
+    for (size_t i = 0; i < sizeof width / sizeof width[0]; i++) {
+        stream_is(urd_judge(width[i], over, 8), URD_WIDTH, 0, 0, 0, "judge");
+        stream_is(urd_fill_in(width[i], over, 8), URD_WIDTH, 0, 0, 0, "fill-in");
+        stream_is(urd_repack(width[i], 1, over, 8, out, 8), URD_WIDTH, 0, 0, 0, "repack from");
+        stream_is(urd_repack(1, width[i], over, 8, out, 8), URD_WIDTH, 0, 0, 0, "repack to");
+        stream_is(urd_downsize(width[i], width[i], over, 8, out, 8), URD_WIDTH, 0, 0, 0, "downsize");
+    }
+    for (size_t w = 1; w <= 16; w++)
+        stream_is(urd_judge(w, over, sizeof over), URD_LENGTH, 0, 0, 0, "65,537 octets");
+    for (size_t i = 0; i < sizeof big / sizeof big[0]; i++) {
+        burst_is(urd_burst_judge(0, 0, 0, 1, big[i]), URD_BUS, 0, 0, 0, 0, "bus");
+        burst_is(urd_burst_judge(0, 0, big[i], 1, 4), URD_SIZE, 0, 0, 0, 0, "size");
+        burst_is(urd_burst_judge(0, 0, 0, big[i], 4), URD_TYPE, 0, 0, 0, 0, "kind");
+        burst_is(urd_burst_judge(0, big[i], 0, 1, 4), URD_COUNT, 0, 0, 0, 0, "len");
+        burst_is(urd_burst_beat(0, 0, 0, 1, 4, big[i]), URD_INDEX, 0, 0, 0, 0, "beat");
+        burst_is(urd_burst_step(0, 0, 0, 1, 4, big[i]), URD_INDEX, 0, 0, 0, 0, "step");
+    }
+    burst_is(urd_burst_beat(0xFFFFFFFB, 1, 2, 1, 8, 1), 0, 0xFFFFFFFC, 4, 7, 0, "up to the last byte of memory");
+}
+
+int main(void)
+{
+    run("P1", p1);
+    run("S1", s1);
+    run("S2", s2);
+    run("S3", s3);
+    run("S4", s4);
+    run("S5", s5);
+    run("S6", s6);
+    run("S7", s7);
+    run("B1", b1);
+    run("B2", b2);
+    run("B3", b3);
+    run("B4", b4);
+    run("B5", b5);
+    run("B6", b6);
+    run("layout of the structs", layout);
+    run("fill-in", fill_in);
+    run("data octets", data_octets);
+    run("findings R1 to R4", findings);
+    run("refusals in order", refusals);
+    run("numbers at the edges", edges);
+    printf("%d passed, %d failed\n", passed, failed);
+    return failed != 0;
+}

@@ -1,0 +1,55 @@
+/* A short tour in C: judge a capture, harvest it, repack it to another width, and walk through a burst.
+ * It prints bindings/example.out. `make lib` first, then: gcc -std=c99 -Iinclude bindings/c/example.c build/lib/liburdhvasolk.a -o build/example */
+#include "urdhvasolk.h"
+
+#include <inttypes.h>
+#include <stdio.h>
+
+/* One cycle of a port of 4 byte lanes: all four flags high, TID 1, TDEST 2, data on lanes 0 and 3, a position on lane 2. */
+static const uint8_t capture[] = {0x0F, 0x01, 0x02, 0x0D, 0x00, 0x09, 0x00, 0x11, 0x22, 0x33, 0x44};
+
+static void print_records(const uint8_t *octets, uint64_t records, size_t width)
+{
+    for (uint64_t i = 0; i < records * (7 + width); i++)
+        printf("%02X%s", octets[i], (i + 1) % (7 + width) == 0 ? "\n" : " ");
+}
+
+static void stream(void)
+{
+    uint8_t transfers[sizeof capture], packed[64];
+
+    urd_stream_answer judged = urd_judge(4, capture, sizeof capture);
+    if (judged.refusal != 0 || judged.rule != 0) {
+        printf("refusal %" PRIu32 ", rule %" PRIu32 " at %" PRIu64 "\n", judged.refusal, judged.rule, judged.place);
+        return;
+    }
+    printf("clean, %" PRIu64 " transfers\n", judged.count);
+
+    urd_stream_answer harvested = urd_harvest(4, capture, sizeof capture, transfers, sizeof transfers);
+    size_t length = (size_t)harvested.count * (7 + 4);
+    urd_stream_answer repacked = urd_repack(4, 2, transfers, length, packed, sizeof packed);
+    printf("%" PRIu64 " records of width 2\n", repacked.count);
+    print_records(packed, repacked.count, 2);
+}
+
+/* Each beat of a WRAP burst of four 4-byte beats on a bus of 8 bytes; 13 (URD_INDEX) ends the walk. */
+static void burst(void)
+{
+    for (uint32_t k = 0;; k++) {
+        urd_burst_answer beat = urd_burst_beat(0x34, 3, 2, URD_WRAP, 8, k);
+        if (beat.refusal != 0)
+            break;
+        urd_burst_answer next = urd_burst_step(0x34, 3, 2, URD_WRAP, 8, k);
+        printf("beat %" PRIu32 " at 0x%" PRIx64 ", lanes %" PRIu32 " to %" PRIu32, k, beat.address, beat.lower, beat.upper);
+        if (next.refusal == 0)
+            printf(", next %+" PRId32, next.step);
+        printf("\n");
+    }
+}
+
+int main(void)
+{
+    stream();
+    burst();
+    return 0;
+}

@@ -1,0 +1,212 @@
+"""Paper 01's bench cases P1, S1 to S7 and B1 to B6 through Python, typed from the paper; then what no bench case shows.
+
+The last line is 'N passed, M failed'. A case passes if all its checks do.
+"""
+import sys
+
+import urdhvasolk as urd
+
+TAIL = 0xC3  # what every room holds before a call
+CASES = []
+wrong = []
+
+
+def case(name):
+    def keep(body):
+        CASES.append((name, body))
+    return keep
+
+
+def same(got, expected, what):
+    if got != expected:
+        wrong.append(f"{what}: {got}, expected {expected}")
+
+
+def octets(text):
+    return bytes.fromhex(text)
+
+
+def stream(refusal=0, rule=0, place=0, count=0):
+    return urd.StreamAnswer(refusal, rule, place, count)
+
+
+def burst(refusal=0, lower=0, upper=0, step=0, address=0):
+    return urd.BurstAnswer(refusal, lower, upper, step, address)
+
+
+def writes(call, count, text):
+    """An accepted writing call: into a larger room, an exact one, and refused (5) where one octet is missing."""
+    expected = octets(text)
+    for more in (9, 0, -1):
+        if len(expected) + more < 0:
+            continue
+        room = bytearray([TAIL] * (len(expected) + more))
+        before = bytes(room)
+        answer = call(room)
+        if more < 0:
+            same((answer, room), (stream(refusal=urd.ROOM), before), "one octet too few")
+        else:
+            same((answer, room), (stream(count=count), expected + before[len(expected):]), f"{more} octets more")
+
+
+def packs(width, v, text, count, result):
+    writes(lambda out: urd.repack(width, v, octets(text), out), count, result)
+
+
+TAKE = "0F 01 02 0D 00 09 00 11 22 33 44"
+TRANSFER = "01 01 02 0D 00 09 00 11 22 33 44"
+END_ONLY = "01 00 00 00 00 00 00 00"  # the second record of S3
+
+
+@case("P1")
+def _():
+    same(urd.judge(4, octets(TAKE)), stream(count=1), "judged")
+    writes(lambda out: urd.harvest(4, octets(TAKE), out), 1, TRANSFER)
+    packs(4, 2, TRANSFER, 2, "00 01 02 03 00 01 00 11 00 01 01 02 01 00 01 00 44 00")
+
+
+@case("S1")
+def _():
+    packs(4, 4, TRANSFER, 1, "01 01 02 07 00 05 00 11 00 44 00")
+
+
+@case("S2")
+def _():
+    result = "00 01 02 01 00 01 00 11 00 01 01 02 03 00 02 00 00 44"
+    writes(lambda out: urd.downsize(4, 2, octets(TRANSFER), out), 2, result)
+
+
+@case("S3")
+def _():
+    packs(1, 1, "00 00 00 01 00 01 00 AA" + END_ONLY, 1, "01 00 00 01 00 01 00 AA")
+
+
+@case("S4")
+def _():
+    packs(1, 1, END_ONLY + END_ONLY, 2, END_ONLY + END_ONLY)
+
+
+@case("S5")
+def _():
+    packs(1, 1, "00 00 00 00 00 00 00 00", 0, "")
+
+
+@case("S6")
+def _():
+    for width in range(1, 17):
+        for v in range(1, 17):
+            packs(width, v, "", 0, "")
+
+
+@case("S7")
+def _():
+    records = ["00 01 00 01 00 01 00 5A", "00 02 00 01 00 01 00 5A", "00 01 00 01 00 01 00 5A"]
+    for v in range(1, 17):
+        packs(1, v, "".join(records), 3, "".join(r + " 00" * (v - 1) for r in records))
+
+
+def beats(b, expected, steps):
+    """Every beat as (address, lower, upper) and every step, then 13 after the last."""
+    same(urd.burst_judge(*b), burst(), "judged")
+    for k, (address, lower, upper) in enumerate(expected):
+        same(urd.burst_beat(*b, k), burst(address=address, lower=lower, upper=upper), f"beat {k}")
+    for k, step in enumerate(steps):
+        same(urd.burst_step(*b, k), burst(step=step), f"step {k}")
+    same(urd.burst_beat(*b, len(expected)), burst(urd.INDEX), "after the last beat")
+    same(urd.burst_step(*b, len(steps)), burst(urd.INDEX), "after the last step")
+
+
+@case("B1")
+def _():
+    beats((0x1002, 2, 2, urd.INCR, 4), [(0x1002, 2, 3), (0x1004, 0, 3), (0x1008, 0, 3)], [2, 4])
+
+
+@case("B2")
+def _():
+    for n in range(1, 17):
+        beats((0x1002, n - 1, 2, urd.FIXED, 4), [(0x1002, 2, 3)] * n, [0] * (n - 1))
+
+
+@case("B3")
+def _():
+    beats((0x34, 3, 2, urd.WRAP, 8), [(0x34, 4, 7), (0x38, 0, 3), (0x3C, 4, 7), (0x30, 0, 3)], [4, 4, -12])
+
+
+@case("B4")
+def _():
+    for bus in (4, 8, 16, 32, 64, 128):
+        same(urd.burst_judge(0xFF2, 3, 2, urd.INCR, bus), burst(), "4 beats")
+        same(urd.burst_judge(0xFF2, 4, 2, urd.INCR, bus), burst(urd.FENCE), "5 beats")
+
+
+@case("B5")
+def _():
+    same(urd.burst_judge(0x1001, 255, 4, urd.INCR, 16), burst(), "0x1001")
+    same(urd.burst_judge(0x1010, 255, 4, urd.INCR, 16), burst(urd.FENCE), "0x1010")
+
+
+@case("B6")
+def _():
+    same(urd.burst_judge(0x1000, 15, 2, urd.FIXED, 4), burst(), "FIXED of 16")
+    same(urd.burst_judge(0x1000, 16, 2, urd.FIXED, 4), burst(urd.COUNT), "FIXED of 17")
+    same(urd.burst_judge(0x1000, 2, 2, urd.WRAP, 4), burst(urd.COUNT), "WRAP of 3")
+    same(urd.burst_judge(0x32, 3, 2, urd.WRAP, 4), burst(urd.ALIGN), "WRAP 0x32")
+
+
+@case("findings and UNCLEAN")
+def _():
+    cycle = " 00 00 01 00 01 00 55"
+    for flags, rule in ((("08", "02"), 1), (("0A", "08"), 2), (("0A", "0B"), 3)):
+        take = octets(flags[0] + cycle + flags[1] + cycle)
+        room = bytearray([TAIL] * 16)
+        same(urd.judge(1, take), stream(rule=rule, place=1), f"R{rule}")
+        same((urd.harvest(1, take, room), room), (stream(urd.UNCLEAN, rule, 1), bytes([TAIL] * 16)), f"harvest, R{rule}")
+    same(urd.judge(1, octets("0E 00 00 00 00 01 00 55")), stream(rule=4), "R4")
+
+
+@case("fill-in, data octets")
+def _():
+    take = bytearray(octets(TAKE + TAKE))
+    same(urd.data_octets(4, take, 1), urd.PartAnswer(0, 18, 4), "record 1")
+    same(urd.data_octets(4, take, 2), urd.PartAnswer(urd.INDEX, 0, 0), "no record 2")
+    same(urd.fill_in(4, take), stream(count=2), "fill-in")
+    same(take, octets(("0E" + TAKE[2:]) * 2), "TLAST cleared, nothing else")
+
+
+@case("numbers at the edges")
+def _():
+    for wide in (-1, 0, 17, 2**32 + 4, 2**64 - 1, 2**64 + 4, -(2**64) + 4):
+        same(urd.judge(wide, octets(TAKE)), stream(urd.WIDTH), f"judge {wide}")
+        same(urd.repack(wide, 1, b"", bytearray()), stream(urd.WIDTH), f"repack from {wide}")
+        same(urd.repack(1, wide, b"", bytearray()), stream(urd.WIDTH), f"repack to {wide}")
+        same(urd.downsize(wide, wide, b"", bytearray()), stream(urd.WIDTH), f"downsize {wide}")
+        same(urd.fill_in(wide, bytearray()), stream(urd.WIDTH), f"fill-in {wide}")
+    for big in (-1, 2**32 - 1, 2**32 + 1, 2**64 + 1):
+        same(urd.burst_judge(0, 0, 0, 1, big), burst(urd.BUS), f"bus {big}")
+        same(urd.burst_judge(0, 0, big, 1, 4), burst(urd.SIZE), f"size {big}")
+        same(urd.burst_judge(0, 0, 0, big, 4), burst(urd.TYPE), f"kind {big}")
+        same(urd.burst_judge(0, big, 0, 1, 4), burst(urd.COUNT), f"len {big}")
+        same(urd.burst_beat(0, 1, 0, 1, 4, big), burst(urd.INDEX), f"beat {big}")
+        same(urd.data_octets(4, octets(TAKE), big), urd.PartAnswer(urd.INDEX, 0, 0), f"record {big}")
+    same((urd.burst_judge(2**32, 0, 0, 1, 4), urd.burst_beat(-1, 0, 0, 1, 4, 0)), (None, None), "no 32-bit start")
+    same(urd.judge(1, bytes(65537)), stream(urd.LENGTH), "65,537 octets")
+    same(urd.judge(1, b""), stream(), "an empty take")
+
+
+@case("input and lent memory may be the same object")
+def _():
+    room = bytearray(octets(TRANSFER + "00" * 7))
+    same(urd.repack(4, 2, memoryview(room)[:11], room), stream(count=2), "repacked in place")
+    same(room, octets("00 01 02 03 00 01 00 11 00 01 01 02 01 00 01 00 44 00"), "its octets")
+
+
+failed = 0
+for name, body in CASES:
+    wrong.clear()
+    body()
+    print(name, "FAILED" if wrong else "ok")
+    for line in wrong:
+        print("  not so:", line)
+    failed += bool(wrong)
+print(f"{len(CASES) - failed} passed, {failed} failed")
+sys.exit(1 if failed else 0)

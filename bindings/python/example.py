@@ -1,0 +1,33 @@
+"""A short tour in Python, the same as bindings/c/example.c: it prints bindings/example.out. `make lib` first."""
+import urdhvasolk as urd
+
+# One cycle of a port of 4 byte lanes: all four flags high, TID 1, TDEST 2, data on lanes 0 and 3, a position on lane 2.
+CAPTURE = bytes.fromhex("0F 01 02 0D 00 09 00 11 22 33 44")
+
+
+def stream():
+    judged = urd.judge(4, CAPTURE)
+    if judged.refusal or judged.rule:
+        print(f"refusal {judged.refusal}, rule {judged.rule} at {judged.place}")
+        return
+    print(f"clean, {judged.count} transfers")
+
+    transfers, packed = bytearray(len(CAPTURE)), bytearray(64)
+    harvested = urd.harvest(4, CAPTURE, transfers)
+    repacked = urd.repack(4, 2, transfers[: harvested.count * (7 + 4)], packed)
+    print(f"{repacked.count} records of width 2")
+    for k in range(repacked.count):
+        print(packed[k * 9 : (k + 1) * 9].hex(" ").upper())
+
+
+def burst():
+    """Each beat of a WRAP burst of four 4-byte beats on a bus of 8 bytes."""
+    wrap = (0x34, 3, 2, urd.WRAP, 8)
+    for k in range(4):
+        beat, following = urd.burst_beat(*wrap, k), urd.burst_step(*wrap, k)
+        line = f"beat {k} at {beat.address:#x}, lanes {beat.lower} to {beat.upper}"
+        print(line if following.refusal else f"{line}, next {following.step:+}")
+
+
+stream()
+burst()

@@ -1,0 +1,140 @@
+"""The library for Python: each call of include/urdhvasolk.h, with the answer as a namedtuple of paper 01's numbers.
+
+Only the standard library is used. The shared object is the one of the environment variable URDHVASOLK_LIB, or else
+build/lib/liburdhvasolk.so of this project (`make lib`). No call raises on any whole numbers and octets:
+- a number that the library's argument cannot hold, negative ones too, is passed on as the largest one that it can, which
+  is refused for the same reason; a start that is no 32-bit number has no such stand-in, and the answer is None;
+- input is any bytes-like object, and is copied, so it may be the lent memory itself;
+- lent memory (`out`, and the capture of fill_in) is a bytearray or the like, changed in place as the header says.
+"""
+import ctypes
+import os
+from collections import namedtuple
+
+WIDTH, LENGTH, FIELD, RESERVED, ROOM, RATIO, BUS, SIZE, TYPE, COUNT, ALIGN, FENCE, INDEX, UNCLEAN, SHEET = range(1, 16)
+FIXED, INCR, WRAP = range(3)
+
+BurstAnswer = namedtuple("BurstAnswer", "refusal lower upper step address")
+StreamAnswer = namedtuple("StreamAnswer", "refusal rule place count")
+PartAnswer = namedtuple("PartAnswer", "refusal start length")
+
+_u32, _i32, _u64, _size = ctypes.c_uint32, ctypes.c_int32, ctypes.c_uint64, ctypes.c_size_t
+
+
+class _Burst(ctypes.Structure):
+    _fields_ = [("refusal", _u32), ("lower", _u32), ("upper", _u32), ("step", _i32), ("address", _u64)]
+
+
+class _Stream(ctypes.Structure):
+    _fields_ = [("refusal", _u32), ("rule", _u32), ("place", _u64), ("count", _u64)]
+
+
+class _Part(ctypes.Structure):
+    _fields_ = [("refusal", _u32), ("start", _u64), ("length", _u64)]
+
+
+_here = os.path.dirname(os.path.abspath(__file__))
+_library = ctypes.CDLL(os.environ.get("URDHVASOLK_LIB") or os.path.join(_here, "..", "..", "build", "lib", "liburdhvasolk.so"))
+
+
+def _call(name, result, *arguments):
+    function = getattr(_library, name)
+    function.restype = result
+    function.argtypes = arguments
+    return function
+
+
+_input = (ctypes.c_char_p, _size)
+_lent = (ctypes.c_void_p, _size)
+_burst = (_u32,) * 5
+_burst_judge = _call("urd_burst_judge", _Burst, *_burst)
+_burst_beat = _call("urd_burst_beat", _Burst, *_burst, _u32)
+_burst_step = _call("urd_burst_step", _Burst, *_burst, _u32)
+_judge = _call("urd_judge", _Stream, _size, *_input)
+_harvest = _call("urd_harvest", _Stream, _size, *_input, *_lent)
+_fill_in = _call("urd_fill_in", _Stream, _size, *_lent)
+_repack = _call("urd_repack", _Stream, _size, _size, *_input, *_lent)
+_downsize = _call("urd_downsize", _Stream, _size, _size, *_input, *_lent)
+_data_octets = _call("urd_data_octets", _Part, _size, *_input, _size)
+
+
+def _held(number, kind):
+    """The number as an argument of that kind; the largest one where it does not fit."""
+    most = 256 ** ctypes.sizeof(kind) - 1
+    return number if 0 <= number <= most else most
+
+
+def _plain(shape, answer):
+    return shape(*(getattr(answer, name) for name in shape._fields))
+
+
+def _read(octets):
+    """A copy of the octets of any bytes-like object."""
+    return bytes(memoryview(octets))
+
+
+def _lend(memory):
+    """A pointer into the caller's own memory; the caller keeps the view until the call has returned."""
+    view = memoryview(memory).cast("B")
+    return (ctypes.c_ubyte * len(view)).from_buffer(view)
+
+
+def _ask_burst(function, start, numbers):
+    if not 0 <= start < 2**32:
+        return None
+    return _plain(BurstAnswer, function(start, *(_held(n, _u32) for n in numbers)))
+
+
+def burst_judge(start, len_, size, kind, bus):
+    """Whether the burst is allowed: refusal 0, or 7 to 12."""
+    return _ask_burst(_burst_judge, start, (len_, size, kind, bus))
+
+
+def burst_beat(start, len_, size, kind, bus, k):
+    """Beat k: address, lower and upper byte lane. Refusals 7 to 12, then 13."""
+    return _ask_burst(_burst_beat, start, (len_, size, kind, bus, k))
+
+
+def burst_step(start, len_, size, kind, bus, k):
+    """The step from beat k to the next. Refusals 7 to 12, then 13."""
+    return _ask_burst(_burst_step, start, (len_, size, kind, bus, k))
+
+
+def judge(width, capture):
+    """Clean: rule 0 and the count of transfers. Broken: rule 1 to 4 at cycle `place`. Refusals 1, 2, 3."""
+    capture = _read(capture)
+    return _plain(StreamAnswer, _judge(_held(width, _size), capture, len(capture)))
+
+
+def harvest(width, capture, out):
+    """Writes the transfers of a clean capture into out: count of records. Refusals 1, 2, 3, 14, 5."""
+    capture, lent = _read(capture), _lend(out)
+    return _plain(StreamAnswer, _harvest(_held(width, _size), capture, len(capture), ctypes.addressof(lent), len(lent)))
+
+
+def fill_in(width, capture):
+    """Clears TLAST of every record in the lent capture: count of records. Refusals 1, 2."""
+    lent = _lend(capture)
+    return _plain(StreamAnswer, _fill_in(_held(width, _size), ctypes.addressof(lent), len(lent)))
+
+
+def _convert(function, width, v, octets, out):
+    octets, lent = _read(octets), _lend(out)
+    answer = function(_held(width, _size), _held(v, _size), octets, len(octets), ctypes.addressof(lent), len(lent))
+    return _plain(StreamAnswer, answer)
+
+
+def repack(width, v, octets, out):
+    """Writes the packed form at width v of transfer records into out: count of records. Refusals 1, 2, 3, 4, 5."""
+    return _convert(_repack, width, v, octets, out)
+
+
+def downsize(width, v, octets, out):
+    """Cuts transfer records into width/v records each, lane by lane, into out. Refusals 1, 6, 2, 3, 4, 5."""
+    return _convert(_downsize, width, v, octets, out)
+
+
+def data_octets(width, capture, k):
+    """Where the data octets of record k stand in the capture: start and length. Refusals 1, 2, 13."""
+    capture = _read(capture)
+    return _plain(PartAnswer, _data_octets(_held(width, _size), capture, len(capture), _held(k, _size)))

@@ -1,0 +1,10 @@
+-- Laws of the report: its text, its tests, its steps, what is promised of it, and its worked cases.
+pub mod Told
+pub mod Passed
+pub mod Convert
+pub mod Packets
+pub mod Sound
+pub mod Steps
+pub mod Ends
+pub mod Promises
+pub mod Cases

@@ -1,0 +1,71 @@
+-- `acceptance::lines::put_text` meets its contract: the text of each verdict. Assumes nothing.
+use borrow.Author.Needs.{needs}
+use Rattle.acceptance.proofs.Told.{text-of, text-of-refused}
+use borrow.Author.Needs.{needs}
+use Rattle.acceptance.proofs.lines.put_text.Statement.{statement}
+use Rattle.acceptance.proofs.lines.put_text.Tie as tie
+
+enum-known-v : tie.Need-enum-known-v
+enum-known-v c = search needs
+
+put-clean-requires : tie.Need-put-clean-requires
+put-clean-requires c κs = search needs
+
+enum-known-v-2 : tie.Need-enum-known-v-2
+enum-known-v-2 c = search needs
+
+cast-put-broken : tie.Need-cast-put-broken
+cast-put-broken c = search needs
+
+put-broken-requires : tie.Need-put-broken-requires
+put-broken-requires c κs = search needs
+
+enum-known-v-3 : tie.Need-enum-known-v-3
+enum-known-v-3 c = search needs
+
+code-of-requires : tie.Need-code-of-requires
+code-of-requires c κs = search needs
+
+cast-put-refused : tie.Need-cast-put-refused
+cast-put-refused c = search needs
+
+put-refused-requires : tie.Need-put-refused-requires
+put-refused-requires c κs = search needs
+
+same-length : tie.Need-same-length
+same-length c = search needs
+
+returns : tie.Need-returns
+returns c = text-of (c .before .before .before .before .before .before .before .before .args .v) (c .before .before .before .before .before .v .given .1) (c .before .before .before .before .before .before .before .before .args .out .now) (c .before .before .put-clean .last .1 .1 .1 .0) (c .before .before .put-clean .result) (c .before .before .put-clean .ensures)
+
+same-length-2 : tie.Need-same-length-2
+same-length-2 c = search needs
+
+returns-2 : tie.Need-returns-2
+returns-2 c = text-of (c .before .before .before .before .before .before .before .before .args .v) (c .before .before .before .before .before .v2 .given .1) (c .before .before .before .before .before .before .before .before .args .out .now) (c .before .before .put-broken .last .1 .1 .0) (c .before .before .put-broken .result) (c .before .before .put-broken .ensures)
+
+same-length-3 : tie.Need-same-length-3
+same-length-3 c = search needs
+
+returns-3 : tie.Need-returns-3
+returns-3 c = text-of-refused (c .before .before .before .before .before .before .before .before .before .before .args .v) (c .before .before .before .before .before .before .before .v3 .given .0 .0) (c .before .before .before .before .before .before .before .v3 .given .1) (c .before .before .before .before .before .code-of .result .0) (c .before .before .before .before .before .code-of .result .1) (c .before .before .before .before .before .code-of .ensures .0) (c .before .before .before .before .before .code-of .ensures .1) (c .before .before .before .before .before .before .before .before .before .before .args .out .now) (c .before .before .put-refused .last .1 .1 .0) (c .before .before .put-refused .result) (c .before .before .put-refused .ensures)
+
+pub put-text-spec : {M : Type 1} → statement M
+put-text-spec =
+    tie.close
+    (tie.spec
+    enum-known-v
+    put-clean-requires
+    enum-known-v-2
+    cast-put-broken
+    put-broken-requires
+    enum-known-v-3
+    code-of-requires
+    cast-put-refused
+    put-refused-requires
+    same-length
+    returns
+    same-length-2
+    returns-2
+    same-length-3
+    returns-3)

@@ -1,0 +1,4 @@
+pub mod Report
+pub mod Steps
+pub mod Promises
+pub mod Cases

@@ -1,0 +1,102 @@
+// The report program's files: a file read whole into a lent buffer, and out.bin written whole or not at all. What is in them
+// is not known here. The kit's contracts say nothing of what is read or written: how the files end up is tested
+// (tests/report), and proved is that nothing here goes out of bounds and that every loop ends.
+ghost use Rattle.io.specs.Counts.{Counts};
+
+// How many octets of a file stand at the front of the buffer, and whether they are the whole file: false where it can't be
+// opened, where a read fails at any point, and where the file is longer than the buffer.
+pub struct Input {
+    pub octets: usize,
+    pub whole: bool,
+}
+
+// Reads the file of this name.
+pub fn read_file(name: &[u8], buf: &mut [u8]) -> Input
+    ensures { λ r. ⌜ Counts (r .octets) (now (buf .exit)) ⌝ }
+{
+    let fd = os::open_read(name);
+    if fd < 0 {
+        return Input {
+            octets: 0,
+            whole: false,
+        };
+    }
+    let input = read_open(fd, buf);
+    libc::close(fd);
+    input
+}
+
+// Reads until the file ends, a read fails or the buffer is full. The sign of each read is kept, since a folder can be opened
+// and only its read fails.
+fn read_open(fd: i32, buf: &mut [u8]) -> Input
+    ensures { λ r. ⌜ Counts (r .octets) (now (buf .exit)) ⌝ }
+{
+    let mut at = 0;
+    while at < buf.len() {
+        let got = libc::read(fd, &mut buf[at..]);
+        if got < 0 {
+            return Input {
+                octets: at,
+                whole: false,
+            };
+        }
+        let n = io::count(got, &buf[at..]);
+        if n == 0 {
+            return Input {
+                octets: at,
+                whole: true,
+            };
+        }
+        at += n;
+    }
+    Input {
+        octets: at,
+        whole: at_end(fd),
+    }
+}
+
+// Whether nothing is left to read.
+fn at_end(fd: i32) -> bool {
+    let mut spare = [0u8; 1];
+    libc::read(fd, &mut spare) == 0
+}
+
+// Writes out.bin whole and answers true. Where that fails, answers false: an out.bin that was there stays as it was, no side
+// file stays, and one line on standard error says what to do.
+pub fn save(octets: &[u8]) -> bool {
+    let part = os::open_overwrite(b"out.bin.part");
+    if part < 0 {
+        return not_saved();
+    }
+    if write_and_close(part, octets) {
+        if os::rename(b"out.bin.part", b"out.bin") == 0 {
+            return true;
+        }
+    }
+    not_saved();
+    os::unlink(b"out.bin.part");
+    false
+}
+
+// Every write is checked, and the close too: some systems only then say that there was no room.
+fn write_and_close(part: i32, octets: &[u8]) -> bool {
+    let written = io::write_all(part, octets);
+    let closed = libc::close(part) == 0;
+    written && closed
+}
+
+// Says why, by the errno of the call that failed: nothing else may be called in between.
+fn not_saved() -> bool {
+    os::fail(
+        b"report: out.bin is not written, so there is no report; make room and permission for out.bin and out.bin.part in this folder, then run again",
+    );
+    false
+}
+
+// Prints a text, or says on standard error that it could not be printed.
+pub fn print(text: &[u8]) {
+    if io::write_all(libc::STDOUT_FILENO, text) {
+        return;
+    }
+    os::fail(b"report: standard output can't be written; make room for it, then run again");
+}

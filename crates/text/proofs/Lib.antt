@@ -1,0 +1,3 @@
+-- Laws of the definitions of specs/Text, and their worked cases.
+pub mod Laws
+pub mod Cases

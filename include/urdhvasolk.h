@@ -1,0 +1,137 @@
+/* urdhvasolk.h: the library for C and for whatever calls C. Here is every call, on plain numbers and octets; each answers
+ * a struct of paper 01's numbers by value, and a number that an answer does not have is 0. Nothing is decided here.
+ *
+ * What the library takes care of: no number passed in, and no content of the octets, makes a call misbehave. Each call
+ * returns, keeps nothing of its own between calls, allocates nothing, calls nothing back, prints nothing and reads no file.
+ *
+ * What the caller takes care of:
+ *   - each pointer points to that many readable octets as the length after it says (for `out`, and for `capture` of
+ *     urd_fill_in: writable ones), and is not NULL, even where its length is 0;
+ *   - `out` shares no octet with the input of the same call;
+ *   - nothing else writes those octets until the call has returned. Calls on other octets may run at the same time;
+ *   - 160 KB of stack are free: urd_repack works in arrays of its own, of 124 KB; the other calls need less than 1 KB.
+ *
+ * Octets. A capture (paper 01: a take) is records of 7 + width octets, width 1 to 16, at most 65,536 octets in all:
+ *   octet 0     bit 0 TLAST, bit 1 TVALID, bit 2 TREADY, bit 3 ARESETn; in a transfer record bit 0 alone
+ *   octet 1, 2  TID 0 to 255, TDEST 0 to 15
+ *   octet 3, 4  TKEEP, low octet first; octet 5, 6 TSTRB, the same way; bits at or above width are zero
+ *   octet 7 on  data of lane 0, lane 1, up to width - 1
+ * Records, cycles and beats count from 0. The refusals of a call stand in the order in which they are tested.
+ *
+ * Built by `make lib` for x86-64: build/lib/liburdhvasolk.a and build/lib/liburdhvasolk.so. Plain C99; C++ can include it. */
+#ifndef URDHVASOLK_H
+#define URDHVASOLK_H
+
+#include <stddef.h>
+#include <stdint.h>
+
+#ifdef __cplusplus
+extern "C" {
+#endif
+
+/* The refusal numbers of paper 01, each with when exactly it is given. 0 is no refusal. */
+#define URD_WIDTH 1    /* a width is 0 or above 16 */
+#define URD_LENGTH 2   /* input is over 65,536 octets or no whole number of records */
+#define URD_FIELD 3    /* a bit that must be zero is set, or TDEST is above 15 */
+#define URD_RESERVED 4 /* a transfer record has a lane with TKEEP low and TSTRB high */
+#define URD_ROOM 5     /* the lent output is shorter than the answer */
+#define URD_RATIO 6    /* downsizing: v does not divide width */
+#define URD_BUS 7      /* bus is none of 1, 2, 4, 8, 16, 32, 64, 128 */
+#define URD_SIZE 8     /* AxSIZE is above 7, or a beat is wider than the bus */
+#define URD_TYPE 9     /* kind is 3 or more */
+#define URD_COUNT 10   /* that many beats are not allowed for the kind, or AxLEN is above 255 */
+#define URD_ALIGN 11   /* the start of a WRAP is not a multiple of a beat's bytes */
+#define URD_FENCE 12   /* a byte of a beat lies in another 4,096-byte block than the start */
+#define URD_INDEX 13   /* no such record or beat; for a step, no next beat */
+#define URD_UNCLEAN 14 /* harvest of a broken capture */
+#define URD_SHEET 15   /* the setup sheet is not as it must be: the report only */
+
+/* The kinds of a burst, AxBURST. */
+#define URD_FIXED 0
+#define URD_INCR 1
+#define URD_WRAP 2
+
+/* ---- bursts ---- */
+
+/* What a burst call answers. The place and the rule of a burst refusal are always 0, so they have no field. */
+typedef struct urd_burst_answer {
+    uint32_t refusal; /* the refusal's number, or 0 */
+    uint32_t lower;   /* urd_burst_beat: lowest byte lane of the beat */
+    uint32_t upper;   /* urd_burst_beat: highest byte lane of the beat */
+    int32_t step;     /* urd_burst_step: from -1,920 to 128 */
+    uint64_t address; /* urd_burst_beat: address of the beat */
+} urd_burst_answer;
+
+/* start is the address, len AxLEN (beats less one), size AxSIZE (a beat has 2 to the power size bytes), kind one of the
+ * three above, bus the bytes of the data bus. A call may be asked about any of these numbers. */
+
+/* Whether the burst is allowed: refusal 0, and nothing else.
+ * Refusals: 7, 8, 9, 10, 11, 12.
+ * Lent memory: none. */
+urd_burst_answer urd_burst_judge(uint32_t start, uint32_t len, uint32_t size, uint32_t kind, uint32_t bus);
+
+/* Beat k: its address, and its byte lanes lower to upper.
+ * Refusals: 7, 8, 9, 10, 11, 12, then 13 where the burst has no beat k.
+ * Lent memory: none. */
+urd_burst_answer urd_burst_beat(uint32_t start, uint32_t len, uint32_t size, uint32_t kind, uint32_t bus, uint32_t k);
+
+/* The step from beat k to beat k + 1, in bytes: 0 for FIXED, negative where a WRAP wraps.
+ * Refusals: 7, 8, 9, 10, 11, 12, then 13 where the burst has no beat k + 1.
+ * Lent memory: none. */
+urd_burst_answer urd_burst_step(uint32_t start, uint32_t len, uint32_t size, uint32_t kind, uint32_t bus, uint32_t k);
+
+/* ---- streams ---- */
+
+/* What a stream call answers. */
+typedef struct urd_stream_answer {
+    uint32_t refusal; /* the refusal's number, or 0 */
+    uint32_t rule;    /* broken rule 1 to 4: of urd_judge (refusal 0), and of refusal 14 */
+    uint64_t place;   /* the record of refusals 3 and 4; the broken cycle where there is a rule */
+    uint64_t count;   /* transfers counted, or records written */
+} urd_stream_answer;
+
+/* What urd_data_octets answers: a part of the caller's own capture, empty where refused. */
+typedef struct urd_part_answer {
+    uint32_t refusal; /* the refusal's number, or 0 */
+    uint64_t start;   /* offset of the first data octet in the capture */
+    uint64_t length;  /* how many there are: width */
+} urd_part_answer;
+
+/* Judges cycle records. Clean: rule 0, count of transfers. Broken: rule 1 to 4 at cycle `place`, the earliest one.
+ * Refusals: 1, 2, 3 (place: the record).
+ * Lent memory: read only. */
+urd_stream_answer urd_judge(size_t width, const uint8_t *capture, size_t capture_length);
+
+/* Writes the transfers of a clean capture of cycle records, in order, as transfer records: count of records.
+ * Refusals: 1, 2, 3 (place: the record), 14 (place: the cycle; rule), 5.
+ * Lent memory: `out` gets the records and is unchanged after them; refused, it is unchanged. */
+urd_stream_answer urd_harvest(size_t width, const uint8_t *capture, size_t capture_length, uint8_t *out, size_t out_length);
+
+/* Clears TLAST in every record, for ports with no TLAST wire: count of records.
+ * Refusals: 1, 2.
+ * Lent memory: bit 0 of octet 0 of each record of `capture` becomes 0, nothing else changes; refused, it is unchanged. */
+urd_stream_answer urd_fill_in(size_t width, uint8_t *capture, size_t capture_length);
+
+/* Writes the packed form, at width v, of a stream of transfer records: count of records.
+ * Refusals: 1 (either width), 2, then record by record 3 and 4 (place: the record), 5.
+ * Lent memory: `out` gets the records and is unchanged after them; refused, it is unchanged. */
+urd_stream_answer urd_repack(size_t width, size_t v, const uint8_t *input, size_t input_length, uint8_t *out, size_t out_length);
+
+/* Cuts each transfer record into width/v records of width v, lane by lane, nulls kept: count of records.
+ * Refusals: 1 (either width), 6, 2, then record by record 3 and 4 (place: the record), 5.
+ * Lent memory: `out` gets the records and is unchanged after them; refused, it is unchanged. */
+urd_stream_answer urd_downsize(size_t width, size_t v, const uint8_t *input, size_t input_length, uint8_t *out, size_t out_length);
+
+/* Where the data octets of record k stand: `length` octets from offset `start` of the capture.
+ * Refusals: 1, 2, 13.
+ * Lent memory: read only; the part is the capture's own octets, not a copy. */
+urd_part_answer urd_data_octets(size_t width, const uint8_t *capture, size_t capture_length, size_t k);
+
+/* ---- the report ---- */
+/* No call yet. Refusal 15 belongs here. */
+
+#ifdef __cplusplus
+}
+#endif
+
+#endif

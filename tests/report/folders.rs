@@ -1,0 +1,321 @@
+//! The folders that are tried: sheets damaged in every small way, files that
+//! are missing or no files, takes at each bound, broken by each rule, and results
+//! at the room's bound. All made from the seed; a folder's number is its place here.
+use crate::stream::MOST_OCTETS;
+use crate::tally::Random;
+
+/// What stands at a file's name. A link's target is a device, or nothing good.
+#[derive(Clone, PartialEq)]
+pub enum Entry { Missing, Folder, Link(&'static str), File(Vec<u8>) }
+use Entry::{File, Link, Missing};
+
+/// A technician's folder: setup.txt, take.bin, and what was there before.
+#[derive(Clone)]
+pub struct Folder { pub group: &'static str, pub setup: Entry, pub take: Entry, pub out: Entry, pub part: Entry }
+
+struct Maker { r: Random, group: &'static str, list: Vec<Folder> }
+
+const P1_TAKE: [u8; 11] = [0x0F, 1, 2, 0x0D, 0, 9, 0, 0x11, 0x22, 0x33, 0x44];
+
+pub fn all(seed: u64) -> Vec<Folder> {
+    let mut m = Maker { r: Random(seed.max(1)), group: "", list: Vec::new() };
+    let parts: [(&'static str, fn(&mut Maker)); 12] = [
+        ("P1, and out.bin there before", p1), ("sheets: every octet", sheet_octets), ("sheets: lines", sheet_lines),
+        ("sheets: values", sheet_values), ("widths", widths), ("files that are no files", files), ("lengths", lengths),
+        ("each field bit", field_bits), ("rules", rules), ("room", rooms), ("several faults at once", orders), ("random takes", random),
+    ];
+    for (group, make) in parts {
+        m.group = group;
+        make(&mut m);
+    }
+    m.list
+}
+
+impl Maker {
+    fn add(&mut self, setup: Entry, take: Entry) {
+        let out = self.out_before();
+        self.list.push(Folder { group: self.group, setup, take, out, part: Missing });
+    }
+    fn files(&mut self, sheet: &[u8], take: &[u8]) { self.add(File(sheet.to_vec()), File(take.to_vec())); }
+
+    /// out.bin before the run: not there, or a stale one, shorter or longer.
+    fn out_before(&mut self) -> Entry {
+        match self.r.below(4) { 0 => File(b"stale".to_vec()), 1 => File(vec![0x5B; 300]), _ => Missing }
+    }
+}
+
+// ---- sheets ----
+fn sheet(w: usize, v: usize, mode: &str, tlast: &str) -> Vec<u8> { of_lines([&w.to_string(), &v.to_string(), mode, tlast]) }
+
+fn of_lines(values: [&str; 4]) -> Vec<u8> {
+    let [w, v, mode, tlast] = values;
+    format!("width_in={w}\nwidth_out={v}\nmode={mode}\ntlast={tlast}\n").into_bytes()
+}
+
+/// Paper 01's own sheet, and the longest good one, each with a good take.
+fn good(m: &mut Maker) -> [(Vec<u8>, Vec<u8>); 2] {
+    let wide = cycles(&mut m.r, 16, 3);
+    [(sheet(4, 2, "pack", "wired"), P1_TAKE.to_vec()), (sheet(16, 16, "lanes", "wired"), wide)]
+}
+
+fn p1(m: &mut Maker) {
+    for out in [Missing, Entry::Folder, File(vec![]), File(b"stale".to_vec()), File(vec![0x5B; 70_000])] {
+        for part in [Missing, File(b"left behind".to_vec()), File(vec![0x5B; 70_000]), Entry::Folder, Link("/dev/full")] {
+            for take in [&P1_TAKE[..], &P1_TAKE[..10], &[]] {
+                if take.is_empty() && part == Link("/dev/full") { continue; } // no octet fits
+                let (setup, take) = (File(sheet(4, 2, "pack", "wired")), File(take.to_vec()));
+                m.list.push(Folder { group: m.group, setup, take, out: out.clone(), part: part.clone() });
+            }
+        }
+    }
+}
+
+/// Each octet left out, doubled, exchanged with the next, each bit of it changed,
+/// something put before it, and the sheet cut off there.
+fn sheet_octets(m: &mut Maker) {
+    for (good, take) in good(m) {
+        for at in 0..=good.len() {
+            m.files(&good[..at], &take);
+            for put in *b"\n\r \0=04a" { m.files(&[&good[..at], &[put], &good[at..]].concat(), &take); }
+            if at == good.len() { continue; }
+            m.files(&[&good[..at], &good[at + 1..]].concat(), &take);
+            m.files(&[&good[..=at], &good[at..]].concat(), &take);
+            let mut other = good.clone();
+            other.swap(at, (at + 1) % good.len());
+            m.files(&other, &take);
+            for bit in 0..8 {
+                let mut other = good.clone();
+                other[at] ^= 1 << bit;
+                m.files(&other, &take);
+            }
+        }
+        for octets in (good.len() + 1..=70).chain([127, 128, 129, 255, 256, 257, 4096, 65_535, 65_536, 65_537, 100_000]) {
+            for tail in *b"\n0\0" {
+                let mut long = good.clone();
+                long.resize(octets, tail);
+                m.files(&long, &take);
+            }
+        }
+    }
+}
+
+/// Lines in every order, one left out or twice, ended otherwise, and more of them.
+fn sheet_lines(m: &mut Maker) {
+    for (good, take) in good(m) {
+        let lines: Vec<&[u8]> = good.split_inclusive(|&o| o == b'\n').collect();
+        for order in 0..256 {
+            m.files(&[0, 2, 4, 6].map(|at| lines[order >> at & 3]).concat(), &take);
+        }
+        for k in 0..4 {
+            m.files(&[&lines[..k], &lines[k + 1..]].concat().concat(), &take);
+            m.files(&[&lines[..=k], &lines[k..]].concat().concat(), &take);
+        }
+        let text = String::from_utf8_lossy(&good).to_string();
+        for other in [text.replace('\n', "\r\n"), text.replace('\n', "\r"), text.replace('\n', ""), text.replace('=', " = "), text.to_uppercase(),
+            text.replace("width_", "width-"), format!("\u{feff}{text}"), format!("{text}user=0\n"), format!("# bench 2\n{text}"), text.repeat(2)] {
+            m.files(other.as_bytes(), &take);
+        }
+    }
+}
+
+fn sheet_values(m: &mut Maker) {
+    // the last four are 4 in 8, 16, 32 and 64 bits
+    let odd = ["", "00", "01", "04", "007", "-4", "+4", " 4", "4 ", "0x4", "\u{ff14}", "4.0", "1e1", "4,", "4;", "four",
+        "260", "65540", "4294967300", "18446744073709551620"];
+    let numbers: Vec<String> = (0..=22).chain(97..=101).map(|n| n.to_string()).chain(odd.map(String::from)).collect();
+    for n in &numbers {
+        for mode in ["pack", "lanes"] {
+            for values in [[n.as_str(), "2", mode, "wired"], ["4", n.as_str(), mode, "none"], [n.as_str(), n.as_str(), mode, "wired"]] {
+                m.files(&of_lines(values), &P1_TAKE);
+            }
+        }
+    }
+    for mode in ["", "pack", "lanes", "lane", "packs", "Pack", "PACK", "pack ", " pack", "packlanes", "none", "0", "pack\0"] {
+        for tlast in ["", "wired", "none", "low", "high", "Wired", "wire", "wired ", "wirednone", "pack", "1", "none\0"] {
+            m.files(&of_lines(["4", "2", mode, tlast]), &P1_TAKE);
+        }
+    }
+}
+
+/// Every pair of widths, in both modes, with and without a TLAST wire.
+fn widths(m: &mut Maker) {
+    for (w, v) in (0..=18).flat_map(|w| (0..=18).map(move |v| (w, v))) {
+        for mode in ["pack", "lanes"] {
+            let take = cycles(&mut m.r, w.clamp(1, 16), 6);
+            let tlast = m.r.pick(&["wired", "wired", "none"]);
+            m.files(&sheet(w, v, mode, tlast), &take);
+        }
+    }
+}
+
+/// Missing, a folder, a device, a link to itself, a file that opens and can't be read.
+fn files(m: &mut Maker) {
+    let odd = |own| [Missing, Entry::Folder, Link("/dev/null"), Link("/dev/zero"), Link("/proc/self/mem"), Link(own),
+        File(vec![]), File(vec![0; MOST_OCTETS + 1])];
+    let sheets = [sheet(4, 2, "pack", "wired"), sheet(4, 2, "lanes", "none"), sheet(17, 2, "pack", "wired"),
+        sheet(4, 0, "pack", "wired"), sheet(4, 3, "lanes", "wired"), b"width_in=4\n".to_vec()];
+    let broken = [P1_TAKE.to_vec(), [&[0x06], &P1_TAKE[1..]].concat()].concat();
+    let takes = [P1_TAKE.to_vec(), broken, [&[0x1F], &P1_TAKE[1..]].concat()].map(File);
+    for setup in odd("setup.txt").into_iter().chain(sheets.map(File)) {
+        for take in odd("take.bin").into_iter().chain(takes.clone()) {
+            for out in [Missing, File(b"stale".to_vec()), Entry::Folder] {
+                let part = match m.r.below(6) { 0 => File(b"left behind".to_vec()), 1 => Entry::Folder, _ => Missing };
+                m.list.push(Folder { group: m.group, setup: setup.clone(), take: take.clone(), out, part });
+            }
+        }
+    }
+}
+
+// ---- takes ----
+/// A legal record: one of few pairs, lanes full, empty or mixed.
+fn record(r: &mut Random, w: usize, flags: u8) -> Vec<u8> {
+    let lanes = ((1u32 << w) - 1) as u16;
+    let keep = match r.below(4) { 0 => lanes, 1 => 0, _ => r.next() as u16 & lanes };
+    let strb = if r.one_in(2) { keep } else { keep & r.next() as u16 };
+    let mut octets = vec![flags, r.pick(&[0, 0, 0, 1, 255]), r.pick(&[0, 0, 0, 15])];
+    octets.extend(keep.to_le_bytes().into_iter().chain(strb.to_le_bytes()));
+    octets.extend((0..w).map(|_| r.next() as u8));
+    octets
+}
+
+/// n cycles that keep the handshake rules: transfers, waits, idle cycles, resets.
+fn cycles(r: &mut Random, w: usize, n: usize) -> Vec<u8> {
+    let mut now = record(r, w, 8);
+    let mut take = Vec::new();
+    for _ in 0..n {
+        let waits = now[0] & 14 == 10;
+        if r.one_in(10) {
+            let flags = r.pick(&[0, 1, 4, 5]);
+            now = record(r, w, flags);
+        } else if waits {
+            now[0] ^= r.pick(&[0, 4]); // all as before, but TREADY is free
+        } else {
+            let flags = r.pick(&[8, 9, 12, 10, 11, 14, 14, 15]);
+            now = record(r, w, flags);
+        }
+        take.extend(&now);
+    }
+    take
+}
+
+/// n handshaken cycles, every lane data; TLAST on each or on none.
+fn full(r: &mut Random, w: usize, n: usize, last: bool) -> Vec<u8> {
+    let keep = (((1u32 << w) - 1) as u16).to_le_bytes();
+    let head = [14 | u8::from(last), 1, 2, keep[0], keep[1], keep[0], keep[1]];
+    (0..n).flat_map(|_| [head.to_vec(), (0..w).map(|_| r.next() as u8).collect()].concat()).collect()
+}
+
+/// Flip some bits: of the flags and fields mostly, or anywhere.
+fn damage(r: &mut Random, w: usize, take: &mut [u8]) {
+    for _ in 0..if take.is_empty() { 0 } else { 1 + r.below(3) } {
+        let octet = if r.one_in(4) { r.below(7 + w) } else { r.pick(&[0, 0, 0, 1, 2, 3, 4, 5, 6]) };
+        let at = r.below(take.len() / (7 + w)) * (7 + w) + octet;
+        take[at] ^= 1 << r.below(8);
+    }
+}
+
+/// Around the longest take of each width, and one octet more or less.
+fn lengths(m: &mut Maker) {
+    for w in 1..=16 {
+        let size = 7 + w;
+        let most = MOST_OCTETS / size * size;
+        for octets in [1, size - 1, size, size + 1, most - size, most - 1, most, most + 1, most + size, 65_535, 65_536, 65_537, 131_072] {
+            let mut take = cycles(&mut m.r, w, octets / size);
+            take.resize(octets, 0);
+            let (v, tlast) = (1 + m.r.below(16), m.r.pick(&["wired", "none"]));
+            m.files(&sheet(w, v, "pack", tlast), &take);
+        }
+    }
+}
+
+/// Each bit of the seven octets of some record, of three that are waited on or not.
+fn field_bits(m: &mut Maker) {
+    for (w, bit) in (1..=16).flat_map(|w| (0..56).map(move |bit| (w, bit))) {
+        let mut take = cycles(&mut m.r, w, 3);
+        take[m.r.below(3) * (7 + w) + bit / 8] ^= 1 << (bit % 8);
+        let tlast = m.r.pick(&["wired", "none"]);
+        m.files(&sheet(w, w, "pack", tlast), &take);
+    }
+}
+
+/// All flags of two neighbours, equal or not; each bit of a waiting cycle; each
+/// lane reserved under each set of flags. Good cycles may stand before.
+fn rules(m: &mut Maker) {
+    for flags in 0..512u32 {
+        let two = [flags as u8 & 15, 0, 0, 1, 0, 1, 0, 0x55, (flags >> 4) as u8 & 15, (flags >> 8) as u8, 0, 1, 0, 1, 0, 0x55];
+        for tlast in ["wired", "none"] { m.files(&sheet(1, 2, "pack", tlast), &two); }
+    }
+    for w in [1, 2, 8, 9, 16] {
+        for bit in 0..8 * (7 + w) {
+            let wait = record(&mut m.r, w, 10);
+            let mut next = wait.clone();
+            next[bit / 8] ^= 1 << (bit % 8);
+            let (n, tlast) = (m.r.below(4), m.r.pick(&["wired", "wired", "none"]));
+            let before = full(&mut m.r, w, n, false);
+            m.files(&sheet(w, 1, "lanes", tlast), &[before, wait, next].concat());
+        }
+        for (lane, flags) in (0..w).flat_map(|lane| (0..16).map(move |flags| (lane, flags))) {
+            let mut cycle = record(&mut m.r, w, flags);
+            cycle[3 + lane / 8] &= !(1 << (lane % 8));
+            cycle[5 + lane / 8] |= 1 << (lane % 8);
+            let n = m.r.below(4);
+            let before = full(&mut m.r, w, n, true);
+            m.files(&sheet(w, 1, "pack", "wired"), &[before, cycle].concat());
+        }
+    }
+}
+
+/// Results of just 65,536 octets, or as near below as records of that width
+/// come, and of one record more; for every pair of widths, and sliced by lanes.
+fn rooms(m: &mut Maker) {
+    for (w, v) in (1..=16).flat_map(|w| (1..=16).map(move |v| (w, v))) {
+        let most = MOST_OCTETS / (7 + v);
+        for more in [0, 1] {
+            let take = if v < w { // full records without an end, then the items that are left
+                let items = most * v + more;
+                let mut rest = full(&mut m.r, w, 1, false);
+                let keep = (((1u32 << (items % w)) - 1) as u16).to_le_bytes();
+                rest[3..7].copy_from_slice(&[keep[0], keep[1], keep[0], keep[1]]);
+                [full(&mut m.r, w, items / w, false), rest].concat()
+            } else {
+                full(&mut m.r, w, most + more, true)
+            };
+            m.files(&sheet(w, v, "pack", "wired"), &take);
+            if w % v == 0 {
+                let last = m.r.one_in(2);
+                let take = full(&mut m.r, w, most / (w / v) + more, last);
+                m.files(&sheet(w, v, "lanes", "wired"), &take);
+            }
+        }
+    }
+}
+
+/// Each fault is there or not, so that their order shows.
+fn orders(m: &mut Maker) {
+    for _ in 0..800 {
+        let mut faulty = || m.r.one_in(3);
+        let (bad_sheet, bad_width, bad_ratio) = (faulty() && faulty(), faulty() && faulty(), faulty());
+        let (bad_length, bad_field, broken, too_long) = (faulty(), faulty(), faulty(), faulty());
+        let w = m.r.pick(&[4, 8, 16]);
+        let mut take = if too_long { full(&mut m.r, w, 2700, true) } else { cycles(&mut m.r, w, 20) };
+        let last = take.len() - 7 - w;
+        if broken { take[m.r.pick(&[0, last])] = 2; }
+        if bad_field { take[m.r.pick(&[2, last + 2])] = 16; }
+        if bad_length { take.push(0); }
+        let v = if bad_width { m.r.pick(&[0, 17, 99]) } else if bad_ratio { 3 } else { 1 };
+        let (mode, tlast) = (m.r.pick(&["pack", "lanes"]), m.r.pick(&["wired", "none"]));
+        let tlast = if bad_sheet { "low" } else { tlast };
+        m.files(&sheet(w, v, mode, tlast), &take);
+    }
+}
+
+fn random(m: &mut Maker) {
+    for _ in 0..2_000 {
+        let (w, n) = (1 + m.r.below(16), m.r.below(60));
+        let v = if m.r.one_in(2) { 1 + m.r.below(16) } else { m.r.pick(&[w, 1, w.div_ceil(2), w / 2 + 1]) };
+        let mut take = cycles(&mut m.r, w, n);
+        if m.r.one_in(3) { damage(&mut m.r, w, &mut take); }
+        let (mode, tlast) = (m.r.pick(&["pack", "pack", "lanes"]), m.r.pick(&["wired", "wired", "none"]));
+        m.files(&sheet(w, v, mode, tlast), &take);
+    }
+}

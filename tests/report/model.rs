@@ -1,0 +1,69 @@
+//! The second program's report: paper 01, "The report program", done plainly.
+//! Written from paper 01 alone, over the stream model of tests/second. Which
+//! file can't be read, or written, is the comparer's business.
+use crate::stream::{self, LENGTH, MOST_OCTETS, ROOM, StreamAnswer, UNCLEAN};
+
+pub const SHEET: u32 = 15;
+
+/// What is printed, and what out.bin holds where the verdict is clean.
+pub struct Report { pub text: String, pub out: Option<Vec<u8>> }
+
+struct Sheet { width_in: usize, width_out: usize, lanes: bool, wired: bool }
+
+/// 0 to 99, no leading zeros.
+fn number(text: &str) -> Option<usize> { (0..=99).find(|n| n.to_string() == text) }
+
+/// Which of two words it is.
+fn word(text: &str, no: &str, yes: &str) -> Option<bool> {
+    if text == no { Some(false) } else if text == yes { Some(true) } else { None }
+}
+
+/// Four LF-ended lines in this order, and nothing else.
+fn sheet(octets: &[u8]) -> Option<Sheet> {
+    let text = std::str::from_utf8(octets).ok()?;
+    let lines: Vec<&str> = text.strip_suffix('\n')?.split('\n').collect();
+    let [width_in, width_out, mode, tlast] = lines[..] else { return None };
+    Some(Sheet {
+        width_in: number(width_in.strip_prefix("width_in=")?)?,
+        width_out: number(width_out.strip_prefix("width_out=")?)?,
+        lanes: word(mode.strip_prefix("mode=")?, "pack", "lanes")?,
+        wired: word(tlast.strip_prefix("tlast=")?, "none", "wired")?,
+    })
+}
+
+/// Without out.bin: refused, or broken where it is the harvest of a broken take.
+fn not_clean(a: StreamAnswer) -> Report {
+    let text = match a.refusal {
+        UNCLEAN => format!("verdict=broken\ncycle={}\nrule={}\n", a.place, a.rule),
+        number => format!("verdict=refused\nrefusal={number}\nat={}\n", a.place),
+    };
+    Report { text, out: None }
+}
+
+fn refused(refusal: u32) -> StreamAnswer { StreamAnswer { refusal, ..StreamAnswer::default() } }
+
+/// SHEET first of all, then WIDTH, RATIO, LENGTH, FIELD, broken, and ROOM last.
+fn clean(sheet_octets: Option<&[u8]>, take: Option<&[u8]>) -> Result<Report, StreamAnswer> {
+    let s = sheet_octets.and_then(sheet).ok_or(refused(SHEET))?;
+    let convert = if s.lanes { stream::downsize_plan } else { stream::repack_plan };
+    convert(s.width_in, s.width_out, &[])?; // WIDTH and RATIO, as of an empty stream
+    let mut take = take.ok_or(refused(LENGTH))?.to_vec();
+    if !s.wired {
+        let filled = stream::fill_in(s.width_in, &mut take, 0);
+        if filled.refusal != 0 { return Err(filled); }
+    }
+    let harvest = stream::harvest_plan(s.width_in, &take)?;
+    let out = convert(s.width_in, s.width_out, &harvest)?;
+    if out.len() > MOST_OCTETS { return Err(refused(ROOM)); }
+    let harvested = harvest.chunks(stream::record_octets(s.width_in));
+    let text = format!(
+        "verdict=clean\ntransfers={}\npackets={}\nrecords={}\n",
+        harvested.len(),
+        harvested.filter(|r| r[0] == 1).count(),
+        out.len() / stream::record_octets(s.width_out),
+    );
+    Ok(Report { text, out: Some(out) })
+}
+
+/// `None` is a file that can't be read.
+pub fn report(sheet: Option<&[u8]>, take: Option<&[u8]>) -> Report { clean(sheet, take).unwrap_or_else(not_clean) }
