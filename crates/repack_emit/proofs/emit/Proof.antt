@@ -25,13 +25,13 @@ mul-if1 : tie.Need-mul-if1
 mul-if1 c = record { fits = product-fits (c .before .before .before .before .before .before .before .args .t) (c .before .count .result) (c .record-size .result) (c .before .before .before .before .before .before .before .pre .1) (c .record-size .ensures) (c .before .count .ensures .1) }
 
 returns : tie.Need-returns
-returns c = 
+returns c =
     let a = c .before .before .before .before .before .before .before .before .args in
     let p = c .before .before .before .before .before .before .before .before .pre in
     emit-refused (a .t) (heldCodes (a .octets .now) (a .marks .now)) (a .table .now) (a .out .now) (c .before .before .count .result) (c .before .record-size .result) (omega (arith, p .2, length-held (a .octets .now) (a .marks .now) (p .3 .same))) (c .before .before .count .ensures .0) (c .before .record-size .ensures) (c .if1 .taken)
 
 put-all-requires : tie.Need-put-all-requires
-put-all-requires c κs = 
+put-all-requires c κs =
     let a = c .before .before .before .before .before .before .before .before .before .args in
     let p = c .before .before .before .before .before .before .before .before .before .pre in
     let long = packed-long (a .t) (heldCodes (a .octets .now) (a .marks .now)) (a .table .now) (a .out .now) (c .before .before .before .count .result) (c .before .before .record-size .result) (omega (arith, p .2, length-held (a .octets .now) (a .marks .now) (p .3 .same))) (c .before .before .before .count .ensures .0) (c .before .before .record-size .ensures) in
@@ -41,7 +41,7 @@ same-length : tie.Need-same-length
 same-length c = search needs
 
 returns-2 : tie.Need-returns-2
-returns-2 c = 
+returns-2 c =
     let a = c .before .before .before .before .before .before .before .before .before .before .before .before .args in
     let p = c .before .before .before .before .before .before .before .before .before .before .before .before .pre in
     emit-written (a .t) (heldCodes (a .octets .now) (a .marks .now)) (a .table .now) (a .out .now) (c .before .before .before .before .before .before .count .result) (c .before .before .before .before .before .record-size .result) (omega (arith, p .2, length-held (a .octets .now) (a .marks .now) (p .3 .same))) (c .before .before .before .before .before .before .count .ensures .0) (c .before .before .before .before .before .record-size .ensures)

@@ -14,14 +14,14 @@ use Rattle.repack_emit.proofs.put_all.Lts as lts
 use Rattle.repack_emit.proofs.put_stretch.Reads as put-stretch-reads
 
 abbrev Inv-loop : tie.InvT-loop
-Inv-loop out₀ octets marks plain table t to₀ from₀ entry₀ out to from entry = 
+Inv-loop out₀ octets marks plain table t to₀ from₀ entry₀ out to from entry =
     (from + total (drop entry table) ≡ total table) × Packing (t .width) (heldCodes octets marks) table out₀ out to from entry
 
 abbrev μ-loop : tie.MeasureT-loop
 μ-loop out₀ octets marks plain table t to₀ from₀ entry₀ out to from entry = length table - entry
 
 loop-holds : tie.Need-loop-holds Inv-loop μ-loop
-loop-holds c = 
+loop-holds c =
     let a = c .before .before .before .before .args in
     let p = c .before .before .before .before .pre in
     (omega arith, packing-starts (a .t .width) (heldCodes (a .octets .now) (a .marks .now)) (a .table .now) (a .out .now) (omega (arith, p .2, length-held (a .octets .now) (a .marks .now) (p .3 .same))) (p .4))
@@ -33,7 +33,7 @@ shared-slice-read-e : tie.Need-shared-slice-read-e Inv-loop μ-loop
 shared-slice-read-e c = search needs
 
 put-stretch-requires : tie.Need-put-stretch-requires Inv-loop μ-loop
-put-stretch-requires c κs = 
+put-stretch-requires c κs =
     let a = c .before .before .before .before .before .before .before .before .args in
     let p = c .before .before .before .before .before .before .before .before .pre in
     let l = c .before .before .before .loop in
@@ -44,7 +44,7 @@ cast-from : tie.Need-cast-from Inv-loop μ-loop
 cast-from c = search needs
 
 add-from : tie.Need-add-from Inv-loop μ-loop
-add-from c = 
+add-from c =
     let a = c .before .before .before .before .before .before .before .before .before .before .before .args in
     let l = c .before .before .before .before .before .before .loop in
     omega (arith, l .inv .0, c .before .before .before .before .before .before .before .before .before .before .before .pre .2, total-step (a .t .width) (heldCodes (a .octets .now) (a .marks .now)) (a .table .now) (a .out .now) (l .out) (l .to) (l .from) (l .entry) (l .inv .1) (c .before .before .before .before .before .loop-test .taken), c .before .before .before .before .before .before .before .before .before .before .before .good)
@@ -56,7 +56,7 @@ loop-less : tie.Need-loop-less Inv-loop μ-loop
 loop-less c = search needs
 
 loop-again : tie.Need-loop-again Inv-loop μ-loop
-loop-again c = 
+loop-again c =
     let a = c .before .before .before .before .before .before .before .before .before .before .before .args in
     let l = c .before .before .before .before .before .before .loop in
     let h = c .before .before .before .before .before .loop-test .taken in
@@ -66,7 +66,7 @@ same-length : tie.Need-same-length Inv-loop μ-loop
 same-length c = c .before .loop .inv .1 .writing .same
 
 returns : tie.Need-returns Inv-loop μ-loop
-returns c = 
+returns c =
     let a = c .before .before .before .before .before .before .args in
     let l = c .before .loop in
     packing-done (a .t .width) (heldCodes (a .octets .now) (a .marks .now)) (a .table .now) (a .out .now) (l .out) (l .to) (l .from) (l .entry) (l .inv .1) (c .loop-test .left)

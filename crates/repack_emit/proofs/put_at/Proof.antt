@@ -44,7 +44,7 @@ part-put-record-end-3 : tie.Need-part-put-record-end-3
 part-put-record-end-3 c = search needs
 
 put-record-requires : tie.Need-put-record-requires
-put-record-requires c κs = 
+put-record-requires c κs =
     let a = c .before .before .before .before .before .before .args in
     let p = c .before .before .before .before .before .before .pre in
     let long = ap length (lent-items (a .octets .now) (a .from)) ∙ length-drop (a .from) (a .octets .now) in
@@ -60,7 +60,7 @@ same-length : tie.Need-same-length
 same-length c = search needs
 
 returns : tie.Need-returns
-returns c = 
+returns c =
     let a = c .before .before .before .before .before .before .before .before .before .before .args in
     let p = c .before .before .before .before .before .before .before .before .before .before .pre in
     rw (c .before .before .before .put-record .ensures, c .record-size .ensures, held-from (a .octets .now) (a .marks .now) (a .from) (p .7 .same)) (

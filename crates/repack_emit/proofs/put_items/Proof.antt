@@ -19,7 +19,7 @@ use Rattle.repack_emit.proofs.put_items.Lts as lts
 use Rattle.repack_emit.proofs.strobe.Reads as strobe-reads
 
 abbrev Inv-loop : tie.InvT-loop
-Inv-loop out₀ octets marks n strb₀ j₀ out strb j = 
+Inv-loop out₀ octets marks n strb₀ j₀ out strb j =
     (j ≤ n) × (length out ≡ length out₀) × (strb ≡ maskOf (map itemStrobe (slice j n (heldCodes octets marks))))
     × (out ≡ take (7 + j) out₀ ++ (map itemOctet (slice j n (heldCodes octets marks)) ++ drop (7 + n) out₀))
 
@@ -27,7 +27,7 @@ abbrev μ-loop : tie.MeasureT-loop
 μ-loop out₀ octets marks n strb₀ j₀ out strb j = j
 
 loop-holds : tie.Need-loop-holds Inv-loop μ-loop
-loop-holds c = 
+loop-holds c =
     let a = c .before .before .before .args in (
       search needs,
       refl,
@@ -48,7 +48,7 @@ shared-slice-read-out : tie.Need-shared-slice-read-out Inv-loop μ-loop
 shared-slice-read-out c = search needs
 
 mul-out : tie.Need-mul-out Inv-loop μ-loop
-mul-out c = 
+mul-out c =
     record {
       fits = octet-small (getD (c .before .before .before .before .before .before .before .before .args .octets .now) (c .before .before .before .before .loop .j - 1) 0) (c .before .strobe .result) (omega (arith, c .before .before .before .before .before .before .shared-slice-known .given (c .before .before .before .before .loop .j - 1))) (c .before .strobe .ensures .1);
     }
@@ -72,7 +72,7 @@ loop-less : tie.Need-loop-less Inv-loop μ-loop
 loop-less c = search needs
 
 loop-again : tie.Need-loop-again Inv-loop μ-loop
-loop-again c = 
+loop-again c =
     let a = c .before .before .before .before .before .before .before .before .args in
     let l = c .before .before .before .before .loop in
     let p = c .before .before .before .before .before .before .before .before .pre in
@@ -91,7 +91,7 @@ same-length : tie.Need-same-length Inv-loop μ-loop
 same-length c = c .before .loop .inv .1
 
 returns : tie.Need-returns Inv-loop μ-loop
-returns c = 
+returns c =
     let l = c .before .loop in
     let all : l .j ≡ 0 = omega arith in
     (l .inv .2 ∙ rw all refl, l .inv .3 ∙ rw all refl)

@@ -44,7 +44,7 @@ sub-write-header : tie.Need-sub-write-header
 sub-write-header c = omega (arith, shifted (c .before .before .before .before .before .before .before .before .before .before .before .before .args .n) (omega (arith, c .before .before .before .before .before .before .before .before .before .before .before .before .pre .0, c .before .before .before .before .before .before .before .before .before .before .before .before .pre .1)), pow-pos (c .before .before .before .before .before .before .before .before .before .before .before .before .args .n))
 
 write-header-requires : tie.Need-write-header-requires
-write-header-requires c κs = 
+write-header-requires c κs =
     let a = c .before .before .before .before .before .before .before .before .before .before .before .before .args in
     let p = c .before .before .before .before .before .before .before .before .before .before .before .before .pre in
     let few : a .n ≤ 16 = omega (arith, p .0, p .1) in
@@ -58,7 +58,7 @@ same-length : tie.Need-same-length
 same-length c = search needs
 
 returns : tie.Need-returns
-returns c = 
+returns c =
     let a = c .before .before .before .before .before .before .before .before .before .before .before .before .before .before .before .args in
     let p = c .before .before .before .before .before .before .before .before .before .before .before .before .before .before .before .pre in
     record-written (a .t) (a .out .now) (c .before .before .before .before .before .before .before .before .before .before .put-items .last .0) (c .before .before .before .before .before .before .write-nulls .last .0) (c .before .before .write-header .last .0) (heldCodes (a .octets .now) (a .marks .now)) (a .n) (a .pair) (a .last)

@@ -13,7 +13,7 @@ write-data-header-requires : tie.Need-write-data-header-requires
 write-data-header-requires c κs = (omega (arith, size-is (c .before .before .before .args .t), c .before .before .before .pre .4, c .before .before .before .pre .1), c .before .before .before .pre .6, c .before .before .before .pre .5, omega (arith, c .before .before .before .pre .0, c .before .before .before .pre .2))
 
 place-requires : tie.Need-place-requires
-place-requires c κs = 
+place-requires c κs =
     let a = c .before .before .before .before .before .before .before .args in
     let p = c .before .before .before .before .before .before .before .pre in
     (p .1, p .2, p .0, p .3, omega (arith, size-is (a .t), p .4, c .before .before .before .write-data-header .kept .0))
@@ -22,7 +22,7 @@ same-length : tie.Need-same-length
 same-length c = search needs
 
 returns : tie.Need-returns
-returns c = 
+returns c =
     let a = c .before .before .before .before .before .before .before .before .before .before .args in
     let p = c .before .before .before .before .before .before .before .before .before .before .pre in
     plain-written (a .t) (a .out .now) (c .before .before .before .before .before .before .write-data-header .last .0) (c .before .before .place .last .0) (a .octets .now) (a .n) (a .pair) (a .last)

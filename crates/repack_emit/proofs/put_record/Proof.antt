@@ -15,7 +15,7 @@ same-length : tie.Need-same-length
 same-length c = search needs
 
 returns : tie.Need-returns
-returns c = 
+returns c =
     let a = c .before .before .before .before .before .before .before .before .args in
     let held = c .before .before .before .before .before .before .before .before .pre .7 in
     rw (unmarked-held (a .octets .now) (a .marks .now) (held .same) (held .unmarked (c .before .before .before .before .if1 .taken))) (c .before .before .put-plain .ensures)

@@ -16,7 +16,7 @@ use Rattle.repack_emit.proofs.put_stretch.Lts as lts
 use Rattle.repack_emit.proofs.put_at.Reads as put-at-reads
 
 abbrev Inv-loop : tie.InvT-loop
-Inv-loop out₀ at octets marks plain start e t v to₀ from₀ left₀ out to from left = 
+Inv-loop out₀ at octets marks plain start e t v to₀ from₀ left₀ out to from left =
     (from + left ≡ start + entryCount e)
     × Stretching (t .width) (pairFrom (e / 131072)) (odd (e / 65536)) (heldCodes octets marks) out₀ at
     (stretchOctets (t .width) (pairFrom (e / 131072)) (take (entryCount e) (drop start (heldCodes octets marks))) (odd (e / 65536))) out to from left
@@ -28,13 +28,13 @@ cast-left : tie.Need-cast-left Inv-loop μ-loop
 cast-left c = search needs
 
 loop-holds : tie.Need-loop-holds Inv-loop μ-loop
-loop-holds c = 
+loop-holds c =
     let a = c .before .before .before .args in
     let p = c .before .before .before .pre in
     (refl, stretching-starts (a .t .width) (pairFrom (a .e / 131072)) (odd (a .e / 65536)) (heldCodes (a .octets .now) (a .marks .now)) (a .out .now) (a .at) (a .start) (entryCount (a .e)) (omega (arith, p .2, length-held (a .octets .now) (a .marks .now) (p .3 .same))) (p .4))
 
 put-at-requires : tie.Need-put-at-requires Inv-loop μ-loop
-put-at-requires c κs = 
+put-at-requires c κs =
     let a = c .before .before .before .before .before .before .args in
     let p = c .before .before .before .before .before .before .pre in
     let l = c .before .before .loop in
@@ -50,18 +50,17 @@ loop-less : tie.Need-loop-less Inv-loop μ-loop
 loop-less c = omega (arith, c .before .before .before .before .loop-test .taken, c .before .before .before .before .before .before .before .before .before .pre .0)
 
 loop-again : tie.Need-loop-again Inv-loop μ-loop
-loop-again c = 
+loop-again c =
     let a = c .before .before .before .before .before .before .before .before .before .args in
     let p = c .before .before .before .before .before .before .before .before .before .pre in
-    let l = c .before .before .before .before .before .loop in
-    (
+    let l = c .before .before .before .before .before .loop in (
       omega (arith, l .inv .0, c .before .before .before .before .loop-test .taken),
       stretching-next (a .t) (pairFrom (a .e / 131072)) (odd (a .e / 65536)) (heldCodes (a .octets .now) (a .marks .now)) (a .out .now) (a .at) (stretchOctets (a .t .width) (pairFrom (a .e / 131072)) (take (entryCount (a .e)) (drop (a .start) (heldCodes (a .octets .now) (a .marks .now)))) (odd (a .e / 65536))) (l .out) (l .to) (l .from) (l .left) (p .0) (l .inv .1) (c .before .before .before .before .loop-test .taken) (c .before .before .put-at .last .0) (c .before .before .put-at .result)
           (c .before .before .put-at .ensures .0) (c .before .before .put-at .ensures .1) (c .before .before .put-at .ensures .2),
     )
 
 put-at-requires-2 : tie.Need-put-at-requires-2 Inv-loop μ-loop
-put-at-requires-2 c κs = 
+put-at-requires-2 c κs =
     let a = c .before .before .before .before .before .before .args in
     let p = c .before .before .before .before .before .before .pre in
     let l = c .before .before .loop in
@@ -71,7 +70,7 @@ same-length : tie.Need-same-length Inv-loop μ-loop
 same-length c = c .before .before .put-at2 .kept .0 ∙ c .before .before .before .before .before .loop .inv .1 .same
 
 returns : tie.Need-returns Inv-loop μ-loop
-returns c = 
+returns c =
     let a = c .before .before .before .before .before .before .before .before .before .args in
     let p = c .before .before .before .before .before .before .before .before .before .pre in
     let l = c .before .before .before .before .before .loop in (

@@ -36,7 +36,7 @@ same-length : tie.Need-same-length
 same-length c = search needs
 
 returns : tie.Need-returns
-returns c = 
+returns c =
     let a = c .before .before .before .before .before .args in
     let p = c .before .before .before .before .before .pre in
     header-placed (a .out .now) (c .before .before .store8 .last .0) (a .last) (a .pair) (a .n) (1 * 2 ^ a .n % 18446744073709551616 - 1) (p .1) (p .2) (p .3)
