@@ -56,6 +56,37 @@ kept-four (suc (suc (suc (suc w)))) k ds h =
     rw (left, rest)
     (simp (append-assoc, drop-drop))
 
+kept-eight : (w k : ℕ) (ds : List ℕ) → 8 ≤ w → keptOctets w k ds ≡ keptOctets 8 k ds ++ keptOctets (w - 8) (k / 256) (drop 8 ds)
+kept-eight w k ds h =
+    let left : w - 4 - 4 ≡ w - 8 = omega arith in
+    let rest : k / 16 / 16 ≡ k / 256 = omega arith in
+    let more : keptOctets (w - 4) (k / 16) (drop 4 ds) ≡ keptOctets 4 (k / 16) (drop 4 ds) ++ keptOctets (w - 8) (k / 256) (drop 8 ds) =
+    kept-four (w - 4) (k / 16) (drop 4 ds) (omega arith) ∙ rw (left, rest, drop-drop 4 4 ds) refl in
+    kept-four w k ds (omega arith)
+    ∙ ap (λ (l : List ℕ). keptOctets 4 k ds ++ l) more
+    ∙ sym (append-assoc (keptOctets 4 k ds) (keptOctets 4 (k / 16) (drop 4 ds)) (keptOctets (w - 8) (k / 256) (drop 8 ds)))
+    ∙ ap (λ (l : List ℕ). l ++ keptOctets (w - 8) (k / 256) (drop 8 ds)) (sym (kept-four 8 k ds (omega arith)))
+
+-- four lanes and four more are eight
+pub eight-kept : (lanes o o1 o2 : List ℕ) (j k at a b : ℕ) → Collected 4 k (drop j lanes) o at o1 a
+    → Collected 4 (k / 16) (drop (j + 4) lanes) o1 a o2 b → Collected 8 k (drop j lanes) o at o2 b
+eight-kept lanes o o1 o2 j k at a b f g =
+    record {
+      same = g .same ∙ f .same;
+      beyond = omega (arith, f .beyond, g .beyond);
+      within = omega (arith, f .within, g .within);
+      is =
+          g .is
+          ∙ rw (f .is, ← drop-drop 4 j lanes)
+          (append-assoc (take at o) (keptOctets 4 k (drop j lanes)) (keptOctets 4 (k / 16) (drop 4 (drop j lanes)))
+          ∙ ap (λ (l : List ℕ). take at o ++ l) (sym (kept-four 8 k (drop j lanes) (omega arith))));
+    }
+
+-- a record of one lane
+pub one-kept : (lanes o after : List ℕ) (k at r : ℕ) → length lanes ≡ 1 → Collected 1 k (getD lanes 0 0 ∷ []) o at after r
+    → Collected (length lanes) k lanes o at after r
+one-kept lanes o after k at r e f = rw e (record { same = f .same; beyond = f .beyond; within = f .within; is = f .is })
+
 -- the lanes one by one are the four together
 module _ (lanes o o1 o2 o3 o4 : List ℕ) (j k at a b c d : ℕ)
     (f : Collected 1 k (getD lanes j 0 ∷ []) o at o1 a) (g : Collected 1 (k / 2) (getD lanes (j + 1) 0 ∷ []) o1 a o2 b)
@@ -115,9 +146,9 @@ module _ (keep : ℕ) (lanes before : List ℕ) (at : ℕ) (octets : List ℕ) (
       let first : getD (drop j lanes) 0 0 ≡ getD lanes j 0 = getD-drop j lanes 0 0 ∙ rw (add-zero j) refl in
       step 1 (k / 2) (getD lanes j 0 ∷ []) after r (omega arith) (rw (← first) (kept-one (length lanes - j) k (drop j lanes) (omega arith))) c
 
-  pub sifting-four : (after : List ℕ) (r : ℕ) → j + 4 ≤ length lanes → Collected 4 k (drop j lanes) octets n after r
-      → Sifting keep lanes before at after r (k / 16) (j + 4)
-  sifting-four after r h c = step 4 (k / 16) (drop j lanes) after r h (kept-four (length lanes - j) k (drop j lanes) (omega arith)) c
+  pub sifting-eight : (after : List ℕ) (r : ℕ) → j + 8 ≤ length lanes → Collected 8 k (drop j lanes) octets n after r
+      → Sifting keep lanes before at after r (k / 256) (j + 8)
+  sifting-eight after r h c = step 8 (k / 256) (drop j lanes) after r h (kept-eight (length lanes - j) k (drop j lanes) (omega arith)) c
 
   -- the lanes that are left, all at once
   pub sifting-rest : (ds after : List ℕ) (r : ℕ) → ds ≡ drop j lanes → Collected (length ds) k ds octets n after r

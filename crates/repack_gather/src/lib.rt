@@ -42,7 +42,16 @@ fn sift4(octets: &mut [u8], at: usize, lanes: &[u8], j: usize, keep: u32) -> usi
     keep_lane(octets, c, lanes[j + 3], keep / 8)
 }
 
-// The same for all lanes: four at a time where a record has eight or more, then those that are left.
+// The same for the eight lanes from lane j on.
+fn sift8(octets: &mut [u8], at: usize, lanes: &[u8], j: usize, keep: u32) -> usize
+    requires { ⌜ (at + 8 ≤ length (now octets)) × (j + 8 ≤ length (now lanes)) ⌝ }
+    ensures { λ r. ⌜ Collected 8 keep (drop j (now (lanes .entry))) (now (octets .entry)) at (now (octets .exit)) r ⌝ }
+{
+    let n = sift4(octets, at, lanes, j, keep);
+    sift4(octets, n, lanes, j + 4, keep / 16)
+}
+
+// The same for all lanes: eight at a time, then those that are left.
 fn sift(octets: &mut [u8], at: usize, lanes: &[u8], keep: u32) -> usize
     requires { ⌜ at + length (now lanes) ≤ length (now octets) ⌝ }
     ensures { λ r. ⌜ Collected (length (now (lanes .entry))) keep (now (lanes .entry)) (now (octets .entry)) at (now (octets .exit)) r ⌝ }
@@ -53,10 +62,10 @@ fn sift(octets: &mut [u8], at: usize, lanes: &[u8], keep: u32) -> usize
     let mut n = at;
     let mut k = keep;
     let mut j = 0;
-    while j + 4 <= lanes.len() {
-        n = sift4(octets, n, lanes, j, k);
-        k = k / 16;
-        j += 4;
+    while j + 8 <= lanes.len() {
+        n = sift8(octets, n, lanes, j, k);
+        k = k / 256;
+        j += 8;
     }
     sift_lanes(octets, n, &lanes[j..], k)
 }
@@ -67,6 +76,9 @@ pub fn gather(octets: &mut [u8], at: usize, lanes: &[u8], keep: u32, full: u32) 
     requires { ⌜ (length (now lanes) ≤ 16) × (at + length (now lanes) ≤ length (now octets)) × (full ≡ 2 ^ length (now lanes) - 1) ⌝ }
     ensures { λ r. ⌜ Collected (length (now (lanes .entry))) keep (now (lanes .entry)) (now (octets .entry)) at (now (octets .exit)) r ⌝ }
 {
+    if lanes.len() == 1 {
+        return keep_lane(octets, at, lanes[0], keep);
+    }
     if 1 < lanes.len() {
         if keep == full {
             words::place(octets, at, lanes, lanes.len(), lanes.len());

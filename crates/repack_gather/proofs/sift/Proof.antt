@@ -1,10 +1,10 @@
--- `repack_gather::sift` meets its contract: four lanes at a time, and then the lanes that are left. Assumes nothing.
+-- `repack_gather::sift` meets its contract: eight lanes at a time, and then the lanes that are left. Assumes nothing.
 use native.Mathlib.Omega.{arith}
 use mathlib.Core.Path.{_≡_, refl}
 use Prim.Native.Nat.{_-_}
 use lib.ListN.{length, take, drop, length-drop}
 use lib.Seq.{take-all}
-use Rattle.repack_gather.proofs.Lanes.{Sifting, sifting-starts, sifting-four, sifting-rest}
+use Rattle.repack_gather.proofs.Lanes.{Sifting, sifting-starts, sifting-eight, sifting-rest}
 use borrow.Author.Needs.{needs}
 use Rattle.repack_gather.proofs.sift.Statement.{statement}
 use Rattle.repack_gather.proofs.sift.Tie as tie
@@ -30,8 +30,8 @@ loop-holds c = let a = c .before .before .before .args in sifting-starts (a .kee
 add-loop : tie.Need-add-loop Inv-loop μ-loop
 add-loop c = search needs
 
-sift4-requires : tie.Need-sift4-requires Inv-loop μ-loop
-sift4-requires c κs = search needs
+sift8-requires : tie.Need-sift8-requires Inv-loop μ-loop
+sift8-requires c κs = search needs
 
 add-j : tie.Need-add-j Inv-loop μ-loop
 add-j c = search needs
@@ -43,8 +43,8 @@ loop-again : tie.Need-loop-again Inv-loop μ-loop
 loop-again c =
     let a = c .before .before .before .before .before .before .before .before .before .args in
     let l = c .before .before .before .before .before .loop in
-    sifting-four (a .keep) (a .lanes .now) (a .octets .now) (a .at) (l .octets) (l .n) (l .k) (l .j) (l .inv) (c .before .before .sift4 .last .0) (c .before .before .sift4 .result)
-    (c .before .before .before .before .loop-test .taken) (c .before .before .sift4 .ensures)
+    sifting-eight (a .keep) (a .lanes .now) (a .octets .now) (a .at) (l .octets) (l .n) (l .k) (l .j) (l .inv) (c .before .before .sift8 .last .0) (c .before .before .sift8 .result)
+    (c .before .before .before .before .loop-test .taken) (c .before .before .sift8 .ensures)
 
 sub-sift-lanes : tie.Need-sub-sift-lanes Inv-loop μ-loop
 sub-sift-lanes c = search needs
@@ -80,7 +80,7 @@ sift-spec =
     returns
     loop-holds
     add-loop
-    sift4-requires
+    sift8-requires
     add-j
     loop-less
     loop-again
