@@ -187,10 +187,10 @@ kept-full (d ∷ ds) =
     let high : (2 ^ suc (length ds) - 1) / 2 ≡ 2 ^ length ds - 1 = omega (arith, pow-suc 2 (length ds), pow-pos (length ds)) in
     rw (low, high) (ap {B = List ℕ} (λ l. d ∷ l) (kept-full ds))
 
-pub all-kept : (lanes octets after : List ℕ) (at full : ℕ) → at + length lanes ≤ length octets → full ≡ 2 ^ length lanes - 1
+pub all-kept : (lanes octets after : List ℕ) (at keep full : ℕ) → keep ≡ full → at + length lanes ≤ length octets → full ≡ 2 ^ length lanes - 1
     → length after ≡ length octets → after ≡ placed at (front (length lanes) (length lanes) lanes) octets
-    → Collected (length lanes) full lanes octets at after (at + length lanes)
-all-kept lanes octets after at full h f s e =
+    → Collected (length lanes) keep lanes octets at after (at + length lanes)
+all-kept lanes octets after at keep full k h f s e =
     let long : length (take at octets ++ lanes) ≡ at + length lanes =
     length-append (take at octets) lanes ∙ ap (λ (n : ℕ). n + length lanes) (length-take-le at octets (omega arith)) in
     record {
@@ -200,7 +200,7 @@ all-kept lanes octets after at full h f s e =
       is =
           ap (take (at + length lanes)) (e ∙ rw (front-all lanes) (sym (append-assoc (take at octets) lanes (drop (at + length lanes) octets))))
           ∙ take-at (take at octets ++ lanes) (drop (at + length lanes) octets) (at + length lanes) long
-          ∙ rw (f, kept-full lanes) refl;
+          ∙ rw (k, f, kept-full lanes) refl;
     }
 
 -- ---- as item codes

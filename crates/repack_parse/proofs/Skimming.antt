@@ -98,22 +98,22 @@ module _ (s : Shape) (input octets table : List ℕ) (st : Open) (at full : ℕ)
   pub usual-faultless : (k : ℕ) → first (transferChecks s k (rec ∷ [])) ≡ none
   usual-faultless k = data-faultless s rec k usual-fields (told .keep ∙ sym (told .strb))
 
-  pub usual-added : (lanes octets1 table1 : List ℕ) (r : Open) → lanes ≡ dataOctets s rec
-      → Filled (wordAt 4 input (at + 3) % 65536) (wordAt 4 input at % 2) lanes octets table st octets1 table1 r
+  pub usual-added : (lanes octets1 table1 : List ℕ) (r : Open) (lo hi : ℕ) → lanes ≡ dataOctets s rec → lo ≡ wordAt 4 input at
+      → hi ≡ wordAt 4 input (at + 3) → Filled (hi % 65536) (lo % 2) lanes octets table st octets1 table1 r
       → AddedData s rec octets table st octets1 table1 r
-  usual-added lanes octets1 table1 r e filled =
+  usual-added lanes octets1 table1 r lo hi e l h filled =
       add-filled s rec rec-octets rec-long octets octets1 table table table1 st st r (wordAt 4 input (at + 3) % 65536) (wordAt 4 input at % 2)
       (ready .high) (usual-fields .tdest) (told .keep) (told .strb) (told .flags) (ready .holds)
-      (λ items. paired-same s rec items table st (ready .started) (sym (told .paired))) (rw e at filled)
+      (λ items. paired-same s rec items table st (ready .started) (sym (told .paired))) (rw (e, l, h) at filled)
 
-  -- what filling needs
+  -- what filling needs, TLAST apart
   pub usual-ready : (lanes : List ℕ) → lanes ≡ dataOctets s rec
       → ((length lanes ≤ 16) × (st .items + length lanes ≤ length octets) × (length octets < 65536) × (full ≡ 2 ^ length lanes - 1))
-      × ((st .start ≤ st .items) × (st .closed < length table) × (st .pair < 4096) × (wordAt 4 input at % 2 < 2))
+      × ((st .start ≤ st .items) × (st .closed < length table) × (st .pair < 4096))
   usual-ready lanes e =
       let count : length lanes ≡ s .width = ap length e ∙ lanes-long s rec rec-octets rec-long in (
         (omega (arith, ready .high), omega (arith, ready .holds), ready .small, rw count fe),
-        (ready .started, omega (arith, ready .lists), ready .pair, omega arith),
+        (ready .started, omega (arith, ready .lists), ready .pair),
       )
 
 -- ---- a step of skimming

@@ -36,8 +36,8 @@ returns-2 : tie.Need-returns-2
 returns-2 c =
     let a = c .before .before .before .before .before .before .before .before .before .args in
     let p = c .before .before .before .before .before .before .before .before .before .pre in
-    rw (c .before .before .before .before .if3 .taken)
-    (all-kept (a .lanes .now) (a .octets .now) (c .before .before .place .last .0) (a .at) (a .full) (p .1) (p .2) (c .before .before .place .kept .0) (c .before .before .place .ensures))
+    all-kept (a .lanes .now) (a .octets .now) (c .before .before .place .last .0) (a .at) (a .keep) (a .full) (c .before .before .before .before .if3 .taken)
+    (p .1) (p .2) (c .before .before .place .kept .0) (c .before .before .place .ensures)
 
 sift-requires : tie.Need-sift-requires
 sift-requires c κs = search needs

@@ -37,9 +37,9 @@ fill-requires : tie.Need-fill-requires
 fill-requires c κs =
     let a = c .before .before .before .before .before .before .before .before .before .args in
     let p = c .before .before .before .before .before .before .before .before .before .pre in
-    rw (c .before .before .before .before .before .load4 .ensures)
-    (usual-ready (a .s) (a .input .now) (a .octets .now) (a .table .now) (a .st) (a .at) (a .full) (λ i. omega (arith, c .before .before .before .before .before .before .before .before .shared-slice-known .given i)) (p .0) (p .2) (p .3) (p .1)
-    (take (a .at + 7 + a .s .width - (a .at + 7)) (drop (a .at + 7) (a .input .now))) (lanes-taken (a .s) (a .input .now) (a .at) (p .0)))
+    let r = usual-ready (a .s) (a .input .now) (a .octets .now) (a .table .now) (a .st) (a .at) (a .full) (λ i. omega (arith, c .before .before .before .before .before .before .before .before .shared-slice-known .given i)) (p .0) (p .2) (p .3) (p .1)
+    (take (a .at + 7 + a .s .width - (a .at + 7)) (drop (a .at + 7) (a .input .now))) (lanes-taken (a .s) (a .input .now) (a .at) (p .0)) in
+    (r .0, (r .1 .0, r .1 .1, r .1 .2, omega arith))
 
 same-length : tie.Need-same-length
 same-length c = search needs
@@ -53,8 +53,8 @@ returns c =
     let p = c .before .before .before .before .before .before .before .before .before .before .before .before .before .before .pre in
     usual-added (a .s) (a .input .now) (a .octets .now) (a .table .now) (a .st) (a .at) (a .full) (λ i. omega (arith, c .before .before .before .before .before .before .before .before .before .before .before .before .before .shared-slice-known .given i)) (p .0) (p .2) (p .3) (p .1)
     (take (a .at + 7 + a .s .width - (a .at + 7)) (drop (a .at + 7) (a .input .now)))
-    (c .before .before .before .before .fill .last .0) (c .before .before .before .before .fill .last .1 .0) (c .before .before .before .before .fill .result) (lanes-taken (a .s) (a .input .now) (a .at) (p .0))
-    (rw (c .before .before .before .before .before .before .before .before .before .before .load4 .ensures, c .before .before .before .before .before .before .before .before .before .load42 .ensures) at (c .before .before .before .before .fill .ensures))
+    (c .before .before .before .before .fill .last .0) (c .before .before .before .before .fill .last .1 .0) (c .before .before .before .before .fill .result) (c .before .before .before .before .before .before .before .before .before .before .load4 .result) (c .before .before .before .before .before .before .before .before .before .load42 .result) (lanes-taken (a .s) (a .input .now) (a .at) (p .0))
+    (c .before .before .before .before .before .before .before .before .before .before .load4 .ensures) (c .before .before .before .before .before .before .before .before .before .load42 .ensures) (c .before .before .before .before .fill .ensures)
 
 pub add-usual-spec : {M : Type 1} → statement M
 add-usual-spec =
