@@ -1,3 +1,5 @@
 pub mod Field
 pub mod DataPart
 pub mod Fill
+pub mod Word
+pub mod TwoWords

@@ -1,8 +1,8 @@
 // Writing a record's octets, as stream's Layout has them: its header, and its null lanes. The lanes that carry something
 // are written by the crates above, which know what they carry.
 ghost use mathlib.Core.Path.{_≡_};
-ghost use mathlib.Core.List.{_++_};
-ghost use Prim.Native.Nat.{ℕ, _+_, _-_, _≤_, _<_};
+ghost use mathlib.Core.List.{_∷_, _++_};
+ghost use Prim.Native.Nat.{ℕ, _+_, _-_, _/_, _%_, _^_, _≤_, _<_};
 ghost use lib.ListN.{length, take, drop, replicate};
 ghost use Rattle.record.specs.Write.{headerOctets};
 
@@ -18,6 +18,19 @@ pub fn write_header(out: &mut [u8], last: u8, tid: u8, tdest: u8, keep: u32, str
     out[4] = (keep / 256 % 256) as u8;
     out[5] = (strb % 256) as u8;
     out[6] = (strb / 256 % 256) as u8;
+}
+
+// The header of a record with data on its first n lanes, as one word: eight octets are written, the last of which is 0.
+pub fn write_data_header(out: &mut [u8], last: u32, pair: u32, n: usize)
+    requires { ⌜ (8 ≤ length (now out)) × (last ≤ 1) × (pair < 65536) × (n ≤ 16) ⌝ }
+    ensures { λ _. ⌜ now (out .exit) ≡ headerOctets last (pair % 256) (pair / 256) (2 ^ n - 1) (2 ^ n - 1) ++ (0 ∷ drop 8 (now (out .entry))) ⌝ }
+{
+    let lanes = (1u64 << n) - 1;
+    words::store8(
+        out,
+        0,
+        (last as u64) + 256 * (pair as u64) + 1099528404992 * lanes,
+    );
 }
 
 // Lanes n to v - 1 of the record at the front of `out` are null.

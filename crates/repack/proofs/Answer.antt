@@ -1,12 +1,12 @@
 -- The ladder of repack's refusals, a law for each way the code returns. Assumes nothing.
 use mathlib.Core.Path.{_≡_, refl, sym, ap, _∙_, subst}
-use mathlib.Core.Bool.{true, false, not}
+use mathlib.Core.Bool.{Bool, true, false, not}
 use mathlib.Core.List.{List, [], _∷_, _++_}
 use mathlib.Core.Option.{Option, none, some}
 use Prim.Native.Nat.{ℕ, _≤_, _<_, _%_}
 use borrow.Author.Tests.{ltb-false, eqb-true, not-false}
 use lib.Dec.{ltb, eqb}
-use lib.ListN.{length, take, drop}
+use lib.ListN.{length, take, drop, replicate, length-replicate}
 use lib.Seq.{length-take-le}
 use Rattle.refusal.specs.declared.Refusal.{Refusal}
 use Rattle.refusal.specs.declared.Refusal.the-variants.{Width, Length}
@@ -20,9 +20,9 @@ use Rattle.stream.specs.Answers.{Repacked, written, lentAfter, repackRefusal, r
 use Rattle.stream.proofs.Bools.{neither}
 use Rattle.stream.proofs.First.{append-found, append-passed}
 use Rattle.stream.proofs.Repack.{WidthFits, width-fits}
-use Rattle.scratch.specs.Codes.{stretchesOf}
+use Rattle.scratch.specs.Codes.{Unmarked, stretchesOf}
 use Rattle.repack_parse.specs.Read.{Taken}
-use Rattle.repack_emit.specs.Write.{Emitted}
+use Rattle.repack_emit.specs.Write.{Held, Emitted}
 
 module _ (s : Shape) (v : ℕ) (input out : List ℕ) where
   -- the answer and the memory of a refusal, and of any outcome
@@ -72,9 +72,16 @@ length-fits s input e =
 
 -- ---- what the take's stretches need of the table
 
-module _ (s : Shape) (input items table : List ℕ) (n : ℕ) where
-  pub table-fits : Taken s input items table n → n ≤ length table
-  table-fits t = t .finished .within
+module _ (s : Shape) (input octets marks table : List ℕ) (n : ℕ) (plain : Bool) (t : Taken s input octets marks table n plain) where
+  pub table-fits : n ≤ length table
+  table-fits = t .finished .within
 
-  pub prefix-long : Taken s input items table n → n ≡ length (take n table)
-  prefix-long t = sym (length-take-le n table (t .finished .within))
+  pub prefix-long : n ≡ length (take n table)
+  prefix-long = sym (length-take-le n table (t .finished .within))
+
+  pub held-is : Held plain octets marks
+  held-is = record { same = t .sameOctets ∙ sym (t .sameMarks); unmarked = t .unmarked }
+
+-- an array of zeros marks nothing
+pub zeros-unmarked : (n : ℕ) → Unmarked (replicate {A = ℕ} n 0)
+zeros-unmarked n = rw (length-replicate {A = ℕ} n 0) refl

@@ -10,18 +10,21 @@ ghost use lib.ListN.{length};
 ghost use Rattle.stream.specs.Checks.{widthCheck, lengthCheck};
 ghost use Rattle.stream.specs.Answers.{Repacked};
 
-// The widths and the length have passed their tests. The two arrays hold the take's items, one code each, and its
-// stretches, one entry each; nothing is written to `out` before all records are read and the answer is known to fit.
+// The widths and the length have passed their tests. Three arrays hold what the take carries: an octet and a mark for each
+// item, an entry for each stretch; nothing is written to `out` before all records are read and the answer is known to fit.
 fn convert(s: Shape, v: usize, input: &[u8], out: &mut [u8]) -> Written
     requires { ⌜ (widthCheck (s .width) .found ≡ false) × (widthCheck v .found ≡ false) × (lengthCheck s (now input) .found ≡ false) ⌝ }
     ensures { λ r. ⌜ Repacked s v (now (input .entry)) (now (out .entry)) (now (out .exit)) r ⌝ }
 {
-    let mut items = [0u16; 45600];
+    let mut octets = [0u8; 45616];
+    let mut marks = [0u8; 45616];
     let mut table = [0u32; 8193];
-    let p = repack_parse::parse(s, input, &mut items, &mut table);
+    let p = repack_parse::parse(s, input, &mut octets, &mut marks, &mut table);
     match p {
         Parsed::Refused(r) => Written::Refused(r),
-        Parsed::Stretches(n) => { repack_emit::emit(out, &items, &table[..n], Shape { width: v }) }
+        Parsed::Stretches(n, plain) => {
+            repack_emit::emit(out, &octets, &marks, plain, &table[..n], Shape { width: v })
+        }
     }
 }
 

@@ -4,7 +4,7 @@ use mathlib.Core.Bool.{Bool, true, false, cond}
 use mathlib.Core.List.{List, [], _∷_, _++_, map, append-assoc}
 use mathlib.Core.Option.{Option, none, some}
 use Prim.Native.Nat.{ℕ, zero, suc, _+_, _-_, _*_, _/_, _%_, _^_, _≤_, _<_}
-use native.Mathlib.Nat.{pow-suc}
+use native.Mathlib.Nat.{pow-suc, mul-one}
 use native.Mathlib.Numerals.{add-one}
 use native.Mathlib.Omega.{arith}
 use borrow.Author.Tests.{eqb-true, eqb-false}
@@ -18,7 +18,9 @@ use Rattle.stream.specs.Packed.{fitted}
 use Rattle.stream.specs.Layout.{odd, bitOf, maskOf, Kept, octet, position, keepBit, strbBit, laneOctet, octetsOf}
 use Rattle.stream.proofs.Legal.{mask-fits}
 use Rattle.record.specs.Write.{headerOctets}
-use Rattle.scratch.specs.Codes.{keptOf}
+use Rattle.words.specs.Words.{front}
+use Rattle.scratch.specs.Codes.{dataCode, heldCode, heldCodes, keptOf}
+use Rattle.scratch.proofs.Held.{length-held}
 use Rattle.repack_emit.specs.Write.{itemOctet, itemStrobe, recordOf}
 
 -- ---- an item
@@ -83,28 +85,76 @@ strb-fits xs = rw (length-map xs itemStrobe) at (mask-fits (map itemStrobe xs))
 
 -- ---- item by item, from the last one down
 
-module _ (items : List ℕ) (j i n : ℕ) (e : i + 1 ≡ j) (h : j ≤ n) (l : n ≤ length items) where
-  slice-down : slice i n items ≡ getD items i 0 ∷ slice j n items
-  slice-down = let next : suc i ≡ j = omega arith in slice-cons i n items 0 (omega arith) l ∙ rw next refl
+-- an item of two arrays: its code's parts
+pub held-at : (i : ℕ) (ds ms : List ℕ) → i < length ds → length ds ≡ length ms → getD (heldCodes ds ms) i 0 ≡ heldCode (getD ds i 0) (getD ms i 0)
+held-at i [] ms h e = absurd (omega arith)
+held-at i (d ∷ ds) [] h e = absurd (omega arith)
+held-at zero (d ∷ ds) (m ∷ ms) h e = refl
+held-at (suc i) (d ∷ ds) (m ∷ ms) h e = held-at i ds ms (omega arith) (omega arith)
 
-  pub octets-down : (x y : ℕ) → x ≡ getD items i 0 → y ≡ x % 256 * (x / 256 % 2) → y ∷ map itemOctet (slice j n items) ≡ map itemOctet (slice i n items)
-  octets-down x y f g = rw (g, f, octet-is (getD items i 0)) (rw slice-down refl)
+held-strobe : (d m : ℕ) → d < 256 → heldCode d m / 256 % 2 ≡ 1 - m
+held-strobe d m h = omega arith
 
-  pub strb-down : (strb : ℕ) → strb ≡ maskOf (map itemStrobe (slice j n items))
-      → 2 * strb + getD items i 0 / 256 % 2 ≡ maskOf (map itemStrobe (slice i n items))
-  strb-down strb f = rw (slice-down, f, strobe-is (getD items i 0)) (omega arith)
+held-octet : (d m : ℕ) → d < 256 → heldCode d m % 256 ≡ d
+held-octet d m h = omega arith
+
+module _ (ds ms : List ℕ) (j i n : ℕ) (e : i + 1 ≡ j) (h : j ≤ n) (l : n ≤ length ds) (same : length ds ≡ length ms) (small : getD ds i 0 < 256)
+    (strobe : ℕ) (se : strobe ≡ 1 - getD ms i 0) where
+  slice-down : slice i n (heldCodes ds ms) ≡ heldCode (getD ds i 0) (getD ms i 0) ∷ slice j n (heldCodes ds ms)
+  slice-down =
+      let next : suc i ≡ j = omega arith in
+      slice-cons i n (heldCodes ds ms) 0 (omega arith) (omega (arith, length-held ds ms same))
+      ∙ rw (next, held-at i ds ms (omega arith) same) refl
+
+  pub octets-down : getD ds i 0 * strobe ∷ map itemOctet (slice j n (heldCodes ds ms)) ≡ map itemOctet (slice i n (heldCodes ds ms))
+  octets-down =
+      rw (slice-down, ← octet-is (heldCode (getD ds i 0) (getD ms i 0)))
+      (rw (held-octet (getD ds i 0) (getD ms i 0) small, held-strobe (getD ds i 0) (getD ms i 0) small, ← se) refl)
+
+  pub strb-down : (strb : ℕ) → strb ≡ maskOf (map itemStrobe (slice j n (heldCodes ds ms)))
+      → 2 * strb + strobe ≡ maskOf (map itemStrobe (slice i n (heldCodes ds ms)))
+  strb-down strb f =
+      rw slice-down
+      (omega (arith, f, se, strobe-is (heldCode (getD ds i 0) (getD ms i 0)), held-strobe (getD ds i 0) (getD ms i 0) small))
 
 pub slice-small : (items : List ℕ) (j n : ℕ) → n ≤ length items → n ≤ 16 → maskOf (map itemStrobe (slice j n items)) < 65536
 slice-small items j n h k =
     let few : length (slice j n items) ≤ 16 = rw (length-slice j n items h) (omega arith) in
     omega (arith, strb-fits (slice j n items), pow-mono few)
 
-pub octet-small : (x : ℕ) → x % 256 * (x / 256 % 2) < 256
-octet-small x = go (eqb (x / 256 % 2) 1) refl
-  where
-    go : (b : Bool) → eqb (x / 256 % 2) 1 ≡ b → x % 256 * (x / 256 % 2) < 256
-    go true e = let one : x / 256 % 2 ≡ 1 = eqb-true (x / 256 % 2) 1 e in rw one (omega arith)
-    go false e =
-        let low : x / 256 % 2 ≡ 1 → ⊥ = eqb-false (x / 256 % 2) 1 e in
-        let zero : x / 256 % 2 ≡ 0 = omega arith in
-        rw zero (omega arith)
+-- an octet or nothing is an octet
+pub octet-small : (d strobe : ℕ) → d < 256 → strobe ≤ 1 → d * strobe < 256
+octet-small d zero h s = omega arith
+octet-small d (suc zero) h s = omega arith
+octet-small d (suc (suc n)) h s = absurd (omega arith)
+
+-- ---- items that are all data
+
+data-octet : (d : ℕ) → d < 256 → itemOctet (dataCode d) ≡ d
+data-octet d h =
+    let low : (d + 256) % 256 ≡ d = omega arith in
+    let high : (d + 256) / 256 ≡ 1 = omega arith in
+    sym (octet-is (d + 256)) ∙ rw (low, high) (mul-one d)
+
+data-strobe : (d : ℕ) → d < 256 → bitOf (itemStrobe (dataCode d)) ≡ 1
+data-strobe d h = let high : (d + 256) / 256 ≡ 1 = omega arith in sym (strobe-is (d + 256)) ∙ rw high refl
+
+no-octets : (k : ℕ) (xs : List ℕ) → front k zero xs ≡ replicate {A = ℕ} k 0
+no-octets zero xs = refl
+no-octets (suc k) xs = ap {B = List ℕ} (λ l. 0 ∷ l) (no-octets k (drop 1 xs))
+
+pub data-octets : (v n : ℕ) (ds : List ℕ) → ((i : ℕ) → getD ds i 0 < 256) → n ≤ v → n ≤ length ds
+    → front v n ds ≡ map itemOctet (take n (map dataCode ds)) ++ replicate {A = ℕ} (v - n) 0
+data-octets zero zero ds b h l = refl
+data-octets zero (suc n) ds b h l = absurd (omega arith)
+data-octets (suc v) zero ds b h l = no-octets (suc v) ds ∙ (let all : suc v - 0 ≡ suc v = omega arith in rw all refl)
+data-octets (suc v) (suc n) [] b h l = absurd (omega arith)
+data-octets (suc v) (suc n) (d ∷ ds) b h l =
+    let one : suc v - suc n ≡ v - n = omega arith in
+    rw (one, data-octet d (b 0)) (ap {B = List ℕ} (λ l. d ∷ l) (data-octets v n ds (λ i. b (suc i)) (omega arith) (omega arith)))
+
+pub data-strb : (n : ℕ) (ds : List ℕ) → ((i : ℕ) → getD ds i 0 < 256) → n ≤ length ds → maskOf (map itemStrobe (take n (map dataCode ds))) ≡ 2 ^ n - 1
+data-strb zero ds b l = refl
+data-strb (suc n) [] b l = absurd (omega arith)
+data-strb (suc n) (d ∷ ds) b l =
+    omega (arith, data-strobe d (b 0), data-strb n ds (λ i. b (suc i)) (omega arith), pow-suc 2 n, pow-pos n)

@@ -5,16 +5,18 @@ use mathlib.Core.List.{List, [], _∷_, _++_, map, append-assoc, append-nil}
 use mathlib.Core.Option.{Option, none, some}
 use Prim.Native.Nat.{ℕ, zero, suc, _+_, _-_, _*_, _/_, _%_, _^_, _≤_, _<_}
 use native.Mathlib.Omega.{arith}
-use lib.ListN.{length, take, drop, replicate, length-append, length-drop, length-take, length-map, length-replicate, drop-of-length-le}
-use lib.Seq.{take-all, take-at, drop-at, drop-drop, length-take-le, take-append-seam}
+use lib.ListN.{length, getD, take, drop, replicate, length-append, length-drop, length-take, length-map, length-replicate, drop-of-length-le}
+use lib.Seq.{take-all, take-at, drop-at, drop-drop, drop-append-add, length-take-le, take-append-seam}
+use Rattle.words.specs.Words.{front, placed as placedAt}
+use Rattle.words.proofs.Words.{length-front}
 use Rattle.stream.specs.declared.Shape.{Shape}
 use Rattle.stream.specs.Items.{Pair}
 use Rattle.stream.specs.Packed.{fitted}
 use Rattle.stream.specs.Layout.{size, odd, bitOf, maskOf, Kept, keepBit, strbBit, laneOctet, octetsOf}
 use Rattle.record.specs.Write.{headerOctets}
-use Rattle.scratch.specs.Codes.{keptOf, pairFrom}
+use Rattle.scratch.specs.Codes.{dataCode, keptOf, pairFrom}
 use Rattle.repack_emit.specs.Write.{itemOctet, itemStrobe, recordOf, Writing, Writes}
-use Rattle.repack_emit.proofs.Lanes.{lanes-octets, lanes-strb, lanes-keep}
+use Rattle.repack_emit.proofs.Lanes.{lanes-octets, lanes-strb, lanes-keep, data-octets, data-strb}
 
 -- ---- a record at its place
 
@@ -128,6 +130,29 @@ record-written t out out1 out2 out3 items n pair last keep strb k i h p l ke se 
     ++ (map itemOctet (take n items) ++ (replicate {A = ℕ} (t .width - m) 0 ++ drop (7 + t .width) out))
     ≡ octetsOf (recordOf (t .width) (pairFrom pair) (take n items) (odd last)) ++ drop (7 + t .width) out)
     long (record-octets t pair last (take n items) (drop (7 + t .width) out) (omega arith) p l))
+
+-- what the two writes of a record with data alone come to
+pub plain-written : (t : Shape) (out out1 out2 ds : List ℕ) (n pair last : ℕ) → n ≤ t .width → 1 ≤ t .width → t .width ≤ length ds
+    → pair < 65536 → last ≤ 1 → ((i : ℕ) → getD ds i 0 < 256)
+    → out1 ≡ headerOctets last (pair % 256) (pair / 256) (2 ^ n - 1) (2 ^ n - 1) ++ (0 ∷ drop 8 out)
+    → out2 ≡ placedAt 7 (front (t .width) n ds) out1
+    → out2 ≡ octetsOf (recordOf (t .width) (pairFrom pair) (take n (map dataCode ds)) (odd last)) ++ drop (size t) out
+unfolding size
+plain-written t out out1 out2 ds n pair last k w d p l b e f =
+    let long : length (take n (map dataCode ds)) ≡ n = length-take-le n (map dataCode ds) (omega (arith, length-map ds dataCode)) in
+    let low : last % 256 ≡ last = omega arith in
+    let high : pair / 256 % 256 ≡ pair / 256 = omega arith in
+    let octs : List ℕ = map itemOctet (take n (map dataCode ds)) in
+    let hdr : List ℕ = headerOctets last (pair % 256) (pair / 256) (2 ^ n - 1) (2 ^ n - 1) in
+    let one : t .width ≡ suc (t .width - 1) = omega arith in
+    let there : 8 + (t .width - 1) ≡ 7 + t .width = omega arith in
+    let rest : drop (t .width) (0 ∷ drop 8 out) ≡ drop (7 + t .width) out =
+    ap (λ (m : ℕ). drop m (0 ∷ drop 8 out)) one ∙ drop-drop (t .width - 1) 8 out ∙ rw there refl in
+    let back : drop (7 + t .width) (hdr ++ (0 ∷ drop 8 out)) ≡ drop (7 + t .width) out = drop-append-add hdr (0 ∷ drop 8 out) (t .width) ∙ rest in
+    f ∙ rw (e, length-front (t .width) n ds, back, data-octets (t .width) n ds b k (omega arith))
+    (ap (λ (xs : List ℕ). hdr ++ xs) (append-assoc octs (replicate {A = ℕ} (t .width - n) 0) (drop (7 + t .width) out))
+    ∙ (rw (low, high, data-strb n ds b (omega arith), long) at
+    (record-octets t pair last (take n (map dataCode ds)) (drop (7 + t .width) out) (omega (arith, long)) p l)))
 
 -- a record's octets are its header's and its lanes'
 pub size-is : (t : Shape) → size t ≡ 7 + t .width

@@ -8,15 +8,16 @@ use native.Mathlib.Nat.{add-div-right, div-eq-of-lt, div-le-self}
 use native.Mathlib.Numerals.{add-one}
 use native.Mathlib.Omega.{arith}
 use lib.ListN.{length, getD, take, drop, length-append, length-drop, length-take, length-map, take-append-drop, drop-of-length-le}
-use lib.Seq.{take-all, take-take, take-nil, drop-drop, drop-cons, length-take-le}
+use lib.Seq.{take-all, take-take, take-nil, drop-drop, drop-cons, getD-drop, length-take-le}
 use Rattle.stream.specs.declared.Shape.{Shape}
 use Rattle.stream.specs.Items.{Pair, Transfer}
 use Rattle.stream.specs.Packed.{Stretch, fitted, spread, packStretch, packStretches}
 use Rattle.stream.specs.Layout.{size, odd, Kept, octetsOf, octets}
 use Rattle.stream.proofs.Pack.{Wide, wide-append, wide-spread, length-fitted, length-spread}
 use Rattle.stream.proofs.Records.{octets-sized, length-octets, octets-append}
-use Rattle.scratch.specs.Codes.{keptOf, pairFrom, entryCount, stretchOf, stretchesOf, total}
-use Rattle.repack_emit.specs.Write.{recordOf, stretchOctets, countOf, Writing, Writes}
+use Rattle.scratch.specs.Codes.{heldCodes, keptOf, pairFrom, entryCount, stretchOf, stretchesOf, total}
+use Rattle.scratch.proofs.Held.{drop-held, unmarked-at, clear-unmarked}
+use Rattle.repack_emit.specs.Write.{Held, recordOf, stretchOctets, countOf, Writing, Writes}
 
 -- ---- lists
 
@@ -186,14 +187,28 @@ records-few n v h k = omega (arith, div-le-self (n - 1) v)
 pub lent-items : (items : List ℕ) (from : ℕ) → take (length items - from) (drop from items) ≡ drop from items
 lent-items items from = take-all (length items - from) (drop from items) (omega (arith, length-drop from items))
 
+-- items held from a place on
+pub held-part : (plain : Bool) (ds ms : List ℕ) (from : ℕ) → Held plain ds ms
+    → Held plain (take (length ds - from) (drop from ds)) (take (length ms - from) (drop from ms))
+held-part plain ds ms from h =
+    rw (lent-items ds from, lent-items ms from)
+    (record {
+      same = rw (length-drop from ds, length-drop from ms, h .same) refl;
+      unmarked = λ p. clear-unmarked (drop from ms) (λ i. getD-drop from ms i 0 ∙ unmarked-at ms (h .unmarked p) (from + i));
+    })
+
+pub held-from : (ds ms : List ℕ) (from : ℕ) → length ds ≡ length ms
+    → heldCodes (take (length ds - from) (drop from ds)) (take (length ms - from) (drop from ms)) ≡ drop from (heldCodes ds ms)
+held-from ds ms from e = rw (lent-items ds from, lent-items ms from) (sym (drop-held from ds ms e))
+
 pub odd-bit : (x : ℕ) → odd (x % 2) ≡ odd x
 odd-bit x = let same : x % 2 % 2 ≡ x % 2 = omega arith in rw same refl
 
-pub stretching-starts : (v : ℕ) (pair : Pair) (last : Bool) (items out : List ℕ) (at count : ℕ) → count ≤ length items
-    → at + length (stretchOctets v pair (take count items) last) ≤ length out
-    → Stretching v pair last items out at (stretchOctets v pair (take count items) last) out at 0 count
-stretching-starts v pair last items out at count h r =
-    record { within = omega arith; same = refl; room = r; writes = λ before whole rest f. f }
+pub stretching-starts : (v : ℕ) (pair : Pair) (last : Bool) (items out : List ℕ) (at start count : ℕ) → start + count ≤ length items
+    → at + length (stretchOctets v pair (take count (drop start items)) last) ≤ length out
+    → Stretching v pair last items out at (stretchOctets v pair (take count (drop start items)) last) out at start count
+stretching-starts v pair last items out at start count h r =
+    record { within = h; same = refl; room = r; writes = λ before whole rest f. f }
 
 -- ---- the invariant over a table
 
@@ -220,7 +235,7 @@ module _ (v : ℕ) (items table out₀ out : List ℕ) (to from k : ℕ) (p : Pa
     abbrev later : List ℕ
     later = octets (packStretches v (stretchesOf (drop (k + 1) table) (drop (from + entryCount (getD table k 0)) items)))
 
-    total-step : total (drop k table) ≡ entryCount (getD table k 0) + total (drop (k + 1) table)
+    pub total-step : total (drop k table) ≡ entryCount (getD table k 0) + total (drop (k + 1) table)
     total-step = rw (add-one k, drop-cons table k 0 h) refl
 
     this-stretch : octets (packStretches v (stretchesOf (drop k table) (drop from items))) ≡ these ++ later

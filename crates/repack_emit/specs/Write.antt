@@ -1,6 +1,6 @@
 -- What is written of stretches that are held as codes, and what holds while it is written, stated by what remains.
 use mathlib.Core.Path.{_≡_}
-use mathlib.Core.Bool.{Bool}
+use mathlib.Core.Bool.{Bool, true}
 use mathlib.Core.List.{List, [], _∷_, _++_, map}
 use mathlib.Core.Option.{Option, some}
 use Prim.Native.Nat.{ℕ, _+_, _-_, _/_, _≤_}
@@ -12,7 +12,7 @@ use Rattle.stream.specs.Packed.{fitted, spread, packStretches}
 use Rattle.stream.specs.Layout.{Kept, strbBit, laneOctet, octetsOf, octets}
 use Rattle.stream.specs.Checks.{first, roomCheck}
 use Rattle.stream.specs.Answers.{written, lentAfter}
-use Rattle.scratch.specs.Codes.{keptOf, entryCount, stretchesOf}
+use Rattle.scratch.specs.Codes.{Unmarked, keptOf, entryCount, stretchesOf}
 
 -- the data octet and the strobe of an item
 abbrev pub itemOctet : ℕ → ℕ
@@ -21,6 +21,11 @@ itemOctet x = laneOctet (some (keptOf x))
 abbrev pub itemStrobe : ℕ → Bool
 itemStrobe x = strbBit (some (keptOf x))
 
+-- items as two arrays hold them, with a flag that is true only where none is marked
+pub record Held (plain : Bool) (octets marks : List ℕ) : Type 0 where
+  pub same : length octets ≡ length marks
+  pub unmarked : plain ≡ true → Unmarked marks
+
 -- one record with the items of these codes from lane 0 up
 abbrev pub recordOf : ℕ → Pair → List ℕ → Bool → Transfer Kept
 recordOf v pair codes last = record { pair = pair; lanes = fitted v (map some (map keptOf codes)); last = last }
@@ -28,6 +33,10 @@ recordOf v pair codes last = record { pair = pair; lanes = fitted v (map some (m
 -- the octets of a stretch with the items of these codes
 abbrev pub stretchOctets : ℕ → Pair → List ℕ → Bool → List ℕ
 stretchOctets v pair codes last = octets (spread ((length codes - 1) / v) v pair (map some (map keptOf codes)) last)
+
+-- the octets of the packed form of a table's stretches
+abbrev pub packedFrom : ℕ → List ℕ → List ℕ → List ℕ
+packedFrom v table codes = octets (packStretches v (stretchesOf table codes))
 
 -- how many records the stretches of a table give
 abbrev pub countOf : ℕ → List ℕ → ℕ

@@ -3,14 +3,14 @@ use mathlib.Core.Path.{_≡_, refl, sym, ap, _∙_}
 use mathlib.Core.Bool.{Bool, true, false, cond, _||_}
 use mathlib.Core.List.{List, [], _∷_, _++_}
 use mathlib.Core.Option.{Option, none, some}
-use Prim.Native.Nat.{ℕ, suc, _^_, _≤_, _<_}
+use Prim.Native.Nat.{ℕ, zero, suc, _/_, _^_, _≤_, _<_}
 use native.Mathlib.Omega.{arith}
-use borrow.Author.Tests.{leb-false, ltb-false}
+use borrow.Author.Tests.{leb-false, ltb-false, lt-leb, le-ltb}
 use lib.Dec.{leb, ltb}
 use Rattle.refusal.specs.declared.Refusal.{Refusal}
 use Rattle.refusal.specs.declared.Refusal.the-variants.{Field as FieldAt, Reserved as ReservedAt}
 use Rattle.stream.specs.declared.Shape.{Shape}
-use Rattle.stream.specs.Layout.{typesOf, anyReserved}
+use Rattle.stream.specs.Layout.{odd, laneType, typesOf, isReserved, anyReserved, tkeep, tstrb}
 use Rattle.stream.specs.Checks.{first, transferFlags, transferChecks, fieldFault, reservedFault}
 use Rattle.stream.proofs.Bools.{neither}
 use Rattle.record.specs.declared.Header.{Header}
@@ -41,6 +41,31 @@ fields-of s h e =
       keep = leb-false (2 ^ s .width) (h .keep) (y .1);
       strb = leb-false (2 ^ s .width) (h .strb) (x .1);
     }
+
+-- and a header with all that has no such fault
+pub fields-none : (s : Shape) (h : Header) → Fields s h → headerFault transferFlags s h ≡ false
+fields-none s h f =
+    rw (
+      lt-leb 2 (h .flags) (f .flags),
+      le-ltb 15 (h .tdest) (f .tdest),
+      lt-leb (2 ^ s .width) (h .keep) (f .keep),
+      lt-leb (2 ^ s .width) (h .strb) (f .strb),
+    ) refl
+
+-- where TKEEP and TSTRB are one mask, no lane is reserved
+reserved-none : (w k : ℕ) → anyReserved (typesOf w k k) ≡ false
+reserved-none zero k = refl
+reserved-none (suc w) k = go (reserved-none w (k / 2)) (odd k) refl
+  where
+    go : anyReserved (typesOf w (k / 2) (k / 2)) ≡ false → (b : Bool) → odd k ≡ b
+        → (isReserved (laneType (odd k) (odd k)) || anyReserved (typesOf w (k / 2) (k / 2))) ≡ false
+    go ih true e = rw e ih
+    go ih false e = rw e ih
+
+-- so a record of data lanes whose fields are as they should be has no fault
+pub data-faultless : (s : Shape) (rec : List ℕ) (k : ℕ) → Fields s (headerOf rec) → tkeep rec ≡ tstrb rec
+    → first (transferChecks s k (rec ∷ [])) ≡ none
+data-faultless s rec k f e = rw (fields-none s (headerOf rec) f, e, reserved-none (s .width) (tstrb rec)) refl
 
 module _ (h : Header) (s : Shape) {b : Bool} (e : b ≡ headerFault transferFlags s h) where
   pub judge-field : b ≡ true → Field ≡ judged h s

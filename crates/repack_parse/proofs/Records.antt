@@ -19,12 +19,14 @@ use Rattle.stream.specs.Checks.{transferFlags}
 use Rattle.record.specs.declared.Header.{Header}
 use Rattle.record.specs.Header.{headerOf, headerFault}
 use Rattle.scratch.specs.declared.Open.{Open}
-use Rattle.scratch.specs.Codes.{keptOf, sifted, pairCode, pairFrom}
+use Rattle.scratch.specs.Codes.{heldCodes, keptOf, sifted, pairCode, pairFrom}
 use Rattle.scratch.specs.Stands.{keptAt, Stands}
 use Rattle.scratch.proofs.Codes.{sifted-kept}
+use Rattle.scratch.proofs.Held.{length-held}
 use Rattle.scratch.proofs.Stands.{gather-stands}
-use Rattle.repack_gather.specs.Gather.{Gathered}
-use Rattle.repack_parse.specs.Read.{Few, Turned, Ended, Added, Ready}
+use Rattle.repack_gather.specs.Gather.{Gathered, Clear, Marks}
+use Rattle.repack_gather.proofs.Lanes.{collected-codes}
+use Rattle.repack_parse.specs.Read.{Few, Turned, Ended, Added, Filled, AddedData, AddedMarked, Ready}
 use Rattle.repack_parse.proofs.Faults.{Fields, fields-of}
 
 -- a record has an octet for each lane behind its header
@@ -66,8 +68,28 @@ pair-back tid tdest h =
     let high : (tid + 256 * tdest) / 256 ≡ tdest = omega arith in
     λ i. record { tid = low i; tdest = high i }
 
+-- a record's pair as one number
+abbrev pub codeOf : List ℕ → ℕ
+codeOf rec = pairCode (pairOf rec .tid) (pairOf rec .tdest)
+
+-- the open stretch has the record's pair, and stands as before
+pub record Paired (s : Shape) (rec codes table : List ℕ) (st : Open) (table1 : List ℕ) (o : Open) : Type 0 where
+  pub same : length table1 ≡ length table
+  pub items : o .items ≡ st .items
+  pub paired : o .pair ≡ codeOf rec
+  pub started : o .start ≤ o .items
+  pub few : (k : ℕ) → Few st k 0 → Few o k 0
+  pub stands :
+      (rest : List (Item Kept)) (all : List (Stretch Kept))
+      → Stands (take (st .items) codes) (take (st .closed) table) st (transferItems (transferOf s rec) ++ rest) all
+      → Stands (take (st .items) codes) (take (o .closed) table1) o (transferItems (transferOf s rec) ++ rest) all
+
+pub paired-same : (s : Shape) (rec items table : List ℕ) (st : Open) → st .start ≤ st .items → st .pair ≡ codeOf rec → Paired s rec items table st table st
+paired-same s rec items table st b e =
+    record { same = refl; items = refl; paired = e; started = b; few = λ k h. h; stands = λ rest all h. h }
+
 module _ (s : Shape) (rec : List ℕ) (oct : Octets rec) (long : length rec ≡ size s) where
-  lanes-long : length (dataOctets s rec) ≡ s .width
+  pub lanes-long : length (dataOctets s rec) ≡ s .width
   lanes-long = length-take-le (s .width) (drop 7 rec) (omega (arith, length-drop 7 rec, size-low s))
 
   abbrev more : List ℕ
@@ -87,8 +109,8 @@ module _ (s : Shape) (rec : List ℕ) (oct : Octets rec) (long : length rec ≡ 
       → Added s rec items table st items table st
   add-none items table st b p k f =
       record {
-        sameItems = refl;
         sameTable = refl;
+        beyond = omega arith;
         kept = omega arith;
         pair = p;
         started = b;
@@ -96,12 +118,18 @@ module _ (s : Shape) (rec : List ℕ) (oct : Octets rec) (long : length rec ≡ 
         stands = λ rest all h. rw (no-items k f) at h;
       }
 
-  -- ---- a record with an item
+  -- ---- a record with an item, and its pair
+
+  tid-small : pairOf rec .tid < 256
+  tid-small = octet-at rec 1 oct
+
+  code-pair : pairFrom (codeOf rec) ≡ pairOf rec
+  code-pair = pair-back (pairOf rec .tid) (pairOf rec .tdest) tid-small
+
+  pub code-small : pairOf rec .tdest ≤ 15 → codeOf rec < 4096
+  code-small h = omega (arith, tid-small)
 
   module _ (fields : Fields s (headerOf rec)) (some : tkeep rec + flags rec ≡ 0 → ⊥) where
-    tid-small : pairOf rec .tid < 256
-    tid-small = octet-at rec 1 oct
-
     has-item : length (map keptOf more) ≡ 0 → tlast rec ≡ false → ⊥
     has-item e l =
         let even : flags rec / 2 ^ 0 % 2 ≡ 1 → ⊥ = eqb-false (flags rec / 2 ^ 0 % 2) 1 l in
@@ -109,98 +137,174 @@ module _ (s : Shape) (rec : List ℕ) (oct : Octets rec) (long : length rec ≡ 
         sifted-some (s .width) (tkeep rec) (tstrb rec) (dataOctets s rec) (fields .keep) (omega arith)
         (rw (length-map more keptOf, lanes-long) at e)
 
-    abbrev code : ℕ
-    code = pairCode (pairOf rec .tid) (pairOf rec .tdest)
+    pub paired-turned : (items table table1 : List ℕ) (st o : Open) → Turned (codeOf rec) table st table1 o → Paired s rec items table st table1 o
+    paired-turned items table table1 st o turned =
+        record {
+          same = turned .same;
+          items = turned .items;
+          paired = turned .paired;
+          started = turned .started;
+          few = turned .few;
+          stands =
+              λ rest all.
+              rw (← more-kept)
+              (starts (pairOf rec) (map keptOf more) (tlast rec) rest has-item
+              (λ R. Stands (take (st .items) items) (take (st .closed) table) st R all → Stands (take (st .items) items) (take (o .closed) table1) o R all)
+              (λ i js e. turned .stands (take (st .items) items) i js all (e ∙ sym code-pair)));
+        }
 
-    code-pair : pairFrom code ≡ pairOf rec
-    code-pair = pair-back (pairOf rec .tid) (pairOf rec .tdest) tid-small
+  -- ---- its bytes and its end
 
-    -- the record's items, its end apart
-    apart-items : (p : ℕ) → p ≡ code → (rest : List (Item Kept))
-        → transferItems (transferOf s rec) ++ rest
-        ≡ map (byte (pairFrom p)) (map keptOf more) ++ (cond (tlast rec) (end (pairFrom p) ∷ []) [] ++ rest)
-    apart-items p e rest =
-        rw (e, code-pair, ← more-kept)
-        (append-assoc (map (byte (pairOf rec)) (map keptOf more)) (cond (tlast rec) (end (pairOf rec) ∷ []) []) rest)
+  -- the record's items, its end apart
+  apart-items : (p : ℕ) → p ≡ codeOf rec → (rest : List (Item Kept))
+      → transferItems (transferOf s rec) ++ rest
+      ≡ map (byte (pairFrom p)) (map keptOf more) ++ (cond (tlast rec) (end (pairFrom p) ∷ []) [] ++ rest)
+  apart-items p e rest =
+      rw (e, code-pair, ← more-kept)
+      (append-assoc (map (byte (pairOf rec)) (map keptOf more)) (cond (tlast rec) (end (pairOf rec) ∷ []) []) rest)
 
-    module _ (items items1 table table1 table2 : List ℕ) (st o r : Open) (n : ℕ) (ready : Ready s items table st)
-        (turned : Turned code table st table1 o)
-        (gathered : Gathered (tkeep rec) (tstrb rec) (dataOctets s rec) items (o .items) items1 n)
-        (ended : Ended (flags rec) table1 (keptAt o n) table2 r) where
-      turned-stands : (rest : List (Item Kept)) (all : List (Stretch Kept))
-          → Stands (take (st .items) items) (take (st .closed) table) st (transferItems (transferOf s rec) ++ rest) all
-          → Stands (take (st .items) items) (take (o .closed) table1) o (transferItems (transferOf s rec) ++ rest) all
-      turned-stands rest all =
-          rw (← more-kept)
-          (starts (pairOf rec) (map keptOf more) (tlast rec) rest has-item
-          (λ R. Stands (take (st .items) items) (take (st .closed) table) st R all → Stands (take (st .items) items) (take (o .closed) table1) o R all)
-          (λ i js e. turned .stands (take (st .items) items) i js all (e ∙ sym code-pair)))
+  module _ (items items1 table table1 table2 : List ℕ) (st o r : Open) (n : ℕ) (high : s .width ≤ 16) (tdest : pairOf rec .tdest ≤ 15)
+      (holds : st .items + s .width ≤ length items) (paired : Paired s rec items table st table1 o)
+      (gathered : Gathered (tkeep rec) (tstrb rec) (dataOctets s rec) items (o .items) items1 n)
+      (ended : Ended (flags rec) table1 (keptAt o n) table2 r) where
+    reached : n ≤ length items1
+    reached = omega (arith, gathered .within, gathered .same, paired .items, holds, lanes-long)
 
-      reached : n ≤ length items1
-      reached = omega (arith, gathered .within, gathered .same, turned .items, ready .holds, lanes-long)
+    counted : n ≡ o .items + length more
+    counted =
+        let before : length (take (o .items) items) ≡ o .items = length-take-le (o .items) items (omega (arith, paired .items, holds)) in
+        let both : length (take n items1) ≡ length (take (o .items) items) + length more =
+        ap length (gathered .is) ∙ length-append (take (o .items) items) more in
+        omega (arith, length-take-le n items1 reached)
 
-      counted : n ≡ o .items + length more
-      counted =
-          let before : length (take (o .items) items) ≡ o .items = length-take-le (o .items) items (omega (arith, turned .items, ready .holds)) in
-          let both : length (take n items1) ≡ length (take (o .items) items) + length more =
-          ap length (gathered .is) ∙ length-append (take (o .items) items) more in
-          omega (arith, length-take-le n items1 reached)
+    gathered-stands : (rest : List (Item Kept)) (all : List (Stretch Kept))
+        → Stands (take (st .items) items) (take (o .closed) table1) o (transferItems (transferOf s rec) ++ rest) all
+        → Stands (take n items1) (take (o .closed) table1) (keptAt o n) (cond (tlast rec) (end (pairFrom (o .pair)) ∷ []) [] ++ rest) all
+    gathered-stands rest all h =
+        rw (gathered .is, paired .items)
+        (gather-stands (take (st .items) items) (take (o .closed) table1) o all more (cond (tlast rec) (end (pairFrom (o .pair)) ∷ []) [] ++ rest) n
+        (paired .started) counted
+        (subst (λ R. Stands (take (st .items) items) (take (o .closed) table1) o R all) (apart-items (o .pair) (paired .paired) rest) h))
 
-      gathered-stands : (rest : List (Item Kept)) (all : List (Stretch Kept))
-          → Stands (take (st .items) items) (take (o .closed) table1) o (transferItems (transferOf s rec) ++ rest) all
-          → Stands (take n items1) (take (o .closed) table1) (keptAt o n) (cond (tlast rec) (end (pairFrom (o .pair)) ∷ []) [] ++ rest) all
-      gathered-stands rest all h =
-          rw (gathered .is, turned .items)
-          (gather-stands (take (st .items) items) (take (o .closed) table1) o all more (cond (tlast rec) (end (pairFrom (o .pair)) ∷ []) [] ++ rest) n
-          (turned .started) counted
-          (subst (λ R. Stands (take (st .items) items) (take (o .closed) table1) o R all) (apart-items (o .pair) (turned .paired) rest) h))
+    pub add-some : Added s rec items table st items1 table2 r
+    add-some =
+        record {
+          sameTable = ended .same ∙ paired .same;
+          beyond = omega (arith, ended .items, gathered .beyond, paired .items);
+          kept = omega (arith, ended .items, gathered .within, lanes-long, paired .items);
+          pair = omega (arith, ended .pair, paired .paired, code-small tdest);
+          started = ended .started;
+          few =
+              λ k h.
+              ended .few k (omega (arith, paired .few k h, gathered .within, lanes-long, high, paired .items));
+          stands = λ rest all h.
+              subst (λ m. Stands (take m items1) (take (r .closed) table2) r rest all) (sym (ended .items))
+              (ended .stands (take n items1) rest all (gathered-stands rest all (paired .stands rest all h)));
+        }
 
-      pub add-some : Added s rec items table st items1 table2 r
-      add-some =
-          record {
-            sameItems = gathered .same;
-            sameTable = ended .same ∙ turned .same;
-            kept = omega (arith, ended .items, gathered .within, lanes-long, turned .items);
-            pair = omega (arith, ended .pair, turned .paired, fields .tdest, tid-small);
-            started = ended .started;
-            few =
-                λ k h.
-                ended .few k (omega (arith, turned .few k h, gathered .within, lanes-long, ready .high));
-            stands = λ rest all h.
-                subst (λ m. Stands (take m items1) (take (r .closed) table2) r rest all) (sym (ended .items))
-                (ended .stands (take n items1) rest all (gathered-stands rest all (turned-stands rest all h)));
-          }
+  -- where each kept lane is data
+  pub add-filled : (octets octets1 table table1 table2 : List ℕ) (st o r : Open) (keep last : ℕ) → s .width ≤ 16 → pairOf rec .tdest ≤ 15
+      → tkeep rec ≡ keep → tstrb rec ≡ keep → flags rec ≡ last → st .items + s .width ≤ length octets
+      → ((items : List ℕ) → Paired s rec items table st table1 o)
+      → Filled keep last (dataOctets s rec) octets table1 o octets1 table2 r → AddedData s rec octets table st octets1 table2 r
+  add-filled octets octets1 table table1 table2 st o r keep last high tdest k t f holds paired filled =
+      record {
+        same = filled .collected .same;
+        added =
+            λ marks l c.
+            let p = paired (heldCodes octets marks) in
+            let clear : Clear (o .items) marks = λ i b. c i (omega (arith, p .items)) in
+            let long : length (heldCodes octets marks) ≡ length octets = length-held octets marks (sym l) in
+            let gathered : Gathered (tkeep rec) (tstrb rec) (dataOctets s rec) (heldCodes octets marks) (o .items) (heldCodes octets1 marks) (r .items) =
+            rw (k, t)
+            (collected-codes keep (dataOctets s rec) octets octets1 marks (o .items) (r .items)
+            (omega (arith, filled .collected .within, lanes-long, p .items)) l clear (filled .collected)) in
+            let ended : Ended (flags rec) table1 (keptAt o (r .items)) table2 r = rw f (filled .ended) in
+            add-some (heldCodes octets marks) (heldCodes octets1 marks) table table1 table2 st o r (r .items) high tdest (rw long holds) p gathered ended;
+      }
 
--- the same, of the values that the code has
-module _ (s : Shape) (rec items items1 table table1 table2 lanes : List ℕ) (h : Header) (st o r : Open) (n p : ℕ)
-    (byte-at : (i : ℕ) → getD rec i 0 < 256) (long : length rec ≡ size s) (e : h ≡ headerOf rec)
-    (sound : headerFault transferFlags s h ≡ false) (ready : Ready s items table st) where
-  pub added-none : h .keep + h .flags ≡ 0 → Added s rec items table st items table st
-  added-none z =
+-- ---- the same, of the values that the code has
+
+module _ (s : Shape) (rec octets table table1 : List ℕ) (h : Header) (st o : Open) (byte-at : (i : ℕ) → getD rec i 0 < 256) (long : length rec ≡ size s)
+    (e : h ≡ headerOf rec) (sound : headerFault transferFlags s h ≡ false) (ready : Ready s octets table st) where
+  pub added-none : (items : List ℕ) → h .keep + h .flags ≡ 0 → Added s rec items table st items table st
+  added-none items z =
       let sum : tkeep rec + flags rec ≡ 0 = rw e at z in
       add-none s rec (octets-of rec byte-at) long items table st (ready .started) (ready .pair) (omega arith) (omega arith)
 
-  pub added-some : (h .keep + h .flags ≡ 0 → ⊥) → p ≡ pairCode (h .tid) (h .tdest) → lanes ≡ dataOctets s rec
-      → Turned p table st table1 o → Gathered (h .keep) (h .strb) lanes items (o .items) items1 n
-      → Ended (h .flags) table1 (keptAt o n) table2 r → Added s rec items table st items1 table2 r
-  added-some z pe le turned gathered ended =
-      let fields : Fields s (headerOf rec) = rw e at (fields-of s h sound) in
-      let some : tkeep rec + flags rec ≡ 0 → ⊥ = rw e at z in
-      let pc : p ≡ pairCode (pairOf rec .tid) (pairOf rec .tdest) = pe ∙ rw e refl in
-      add-some s rec (octets-of rec byte-at) long fields some items items1 table table1 table2 st o r n ready (rw pc at turned) (rw (le, e) at gathered)
-      (rw e at ended)
+  fields : Fields s (headerOf rec)
+  fields = rw e at (fields-of s h sound)
 
-  -- what ending needs of the state after gathering
-  pub end-ready : p ≡ pairCode (h .tid) (h .tdest) → lanes ≡ dataOctets s rec
-      → Turned p table st table1 o → Gathered (h .keep) (h .strb) lanes items (o .items) items1 n
-      → (o .start ≤ n) × (n < 65536) × (o .closed < length table1) × (o .pair < 4096) × (h .flags < 2)
-  end-ready pe le turned gathered =
-      let fields = fields-of s h sound in
-      let tid : h .tid < 256 = rw e (byte-at 1) in
-      let lane : length lanes ≡ s .width = ap length le ∙ lanes-long s rec (octets-of rec byte-at) long in (
-        omega (arith, turned .started, gathered .beyond),
-        omega (arith, gathered .within, turned .items, ready .holds, ready .small),
-        omega (arith, turned .closed, turned .same, ready .lists),
-        omega (arith, turned .paired, fields .tdest),
-        fields .flags,
-      )
+  module _ (some : h .keep + h .flags ≡ 0 → ⊥) (p : ℕ) (pe : p ≡ pairCode (h .tid) (h .tdest)) (turned : Turned p table st table1 o)
+      (lanes : List ℕ) (le : lanes ≡ dataOctets s rec) where
+    item-there : tkeep rec + flags rec ≡ 0 → ⊥
+    item-there = rw e at some
+
+    paired : (items : List ℕ) → Paired s rec items table st table1 o
+    paired items =
+        let pc : p ≡ codeOf rec = pe ∙ rw e refl in
+        paired-turned s rec (octets-of rec byte-at) long fields item-there items table table1 st o (rw pc at turned)
+
+    lane-count : length lanes ≡ s .width
+    lane-count = ap length le ∙ lanes-long s rec (octets-of rec byte-at) long
+
+    pub added-data : (octets1 table2 : List ℕ) (r : Open) → h .keep ≡ h .strb
+        → Filled (h .keep) (h .flags) lanes octets table1 o octets1 table2 r → AddedData s rec octets table st octets1 table2 r
+    added-data octets1 table2 r d filled =
+        let strb : tstrb rec ≡ h .keep = sym (rw e at d) ∙ rw e refl in
+        add-filled s rec (octets-of rec byte-at) long octets octets1 table table1 table2 st o r (h .keep) (h .flags) (ready .high) (fields .tdest)
+        (rw e refl) strb (rw e refl) (ready .holds) paired (rw le at filled)
+
+    pub added-marked : (octets1 marks marks1 table2 : List ℕ) (r : Open) (n : ℕ) → length marks ≡ length octets → Clear (st .items) marks
+        → Marks (h .keep) (h .strb) lanes octets marks (o .items) octets1 marks1 n → Ended (h .flags) table1 (keptAt o n) table2 r
+        → AddedMarked s rec octets marks table st octets1 marks1 table2 r
+    added-marked octets1 marks marks1 table2 r n l c marked ended =
+        let q = paired (heldCodes octets marks) in
+        let same : length (heldCodes octets marks) ≡ length octets = length-held octets marks (sym l) in
+        record {
+          added =
+              add-some s rec (octets-of rec byte-at) long (heldCodes octets marks) (heldCodes octets1 marks1) table table1 table2 st o r n (ready .high)
+              (fields .tdest) (rw same (ready .holds)) q (rw (le, e) at (marked .gathered)) (rw e at ended);
+          clear = λ i b. marked .clear (λ j g. c j (omega (arith, q .items))) i (omega (arith, ended .items));
+        }
+
+    -- what filling needs of the state after turning
+    pub fill-ready : (full : ℕ) → full ≡ 2 ^ s .width - 1
+        → ((length lanes ≤ 16) × (o .items + length lanes ≤ length octets) × (length octets < 65536) × (full ≡ 2 ^ length lanes - 1))
+        × ((o .start ≤ o .items) × (o .closed < length table1) × (o .pair < 4096) × (h .flags < 2))
+    fill-ready full fe =
+        let tid : h .tid < 256 = rw e (byte-at 1) in
+        let f = fields-of s h sound in (
+          (
+            omega (arith, lane-count, ready .high),
+            omega (arith, turned .items, lane-count, ready .holds),
+            ready .small,
+            rw lane-count fe,
+          ),
+          (
+            turned .started,
+            omega (arith, turned .closed, turned .same, ready .lists),
+            omega (arith, turned .paired, f .tdest),
+            f .flags,
+          ),
+        )
+
+    -- and ending, of the state after gathering
+    pub end-ready : (octets1 marks marks1 : List ℕ) (n : ℕ) → Marks (h .keep) (h .strb) lanes octets marks (o .items) octets1 marks1 n
+        → (o .start ≤ n) × (n < 65536) × (o .closed < length table1) × (o .pair < 4096) × (h .flags < 2)
+    end-ready octets1 marks marks1 n marked =
+        let f = fill-ready (2 ^ s .width - 1) refl in (
+          omega (arith, f .1 .0, marked .gathered .beyond),
+          omega (arith, f .0 .1, f .0 .2, marked .gathered .within),
+          f .1 .1,
+          f .1 .2,
+          f .1 .3,
+        )
+
+-- ---- a record of data, with the marks that were there
+
+pub data-marked : (s : Shape) (rec octets marks table : List ℕ) (st : Open) (octets1 table1 : List ℕ) (r : Open) → length marks ≡ length octets
+    → Clear (st .items) marks → AddedData s rec octets table st octets1 table1 r → AddedMarked s rec octets marks table st octets1 marks table1 r
+data-marked s rec octets marks table st octets1 table1 r l c d =
+    let a = d .added marks l c in
+    record { added = a; clear = λ i b. c i (omega (arith, a .beyond)) }

@@ -16,7 +16,8 @@ use Rattle.scratch.specs.Codes.{keptOf, pairFrom, entryOf, stretchesOf, total}
 use Rattle.scratch.specs.Stands.{closedAt, pairedAt, keptAt, Stands}
 use Rattle.scratch.proofs.Codes.{stretches-more}
 use Rattle.scratch.proofs.Stands.{opened, made, close-stands, turn-stands, gather-stands, all-closed, pairs-differ, cut-apart, cut-last}
-use Rattle.repack_parse.specs.Read.{Turned, Ended, Finished}
+use Rattle.repack_gather.specs.Gather.{Collected}
+use Rattle.repack_parse.specs.Read.{Turned, Ended, Filled, Finished}
 
 -- ---- closing
 
@@ -104,23 +105,40 @@ end-none table st s =
 
 -- what is closed is the whole take's
 pub finished : (items table : List ℕ) (st : Open) (all : List (Stretch Kept)) → st .start ≡ st .items
-    → Stands (take (st .items) items) (take (st .closed) table) st [] all → Finished (st .closed) items table all
+    → Stands (take (st .items) items) (take (st .closed) table) st [] all
+    → Finished (st .closed) items table all × (total (take (st .closed) table) ≡ st .items)
 finished items table st all e h =
     let held : st .items ≤ length items = omega (arith, h .kept, length-take (st .items) items) in
-    let within : total (take (st .closed) table) ≤ length (take (st .items) items) = omega (arith, h .kept, h .started) in
-    record {
-      within = omega (arith, h .closed, length-take (st .closed) table);
-      held = omega (arith, h .started);
-      is =
-          ap (stretchesOf (take (st .closed) table)) (sym (take-append-drop (st .items) items))
-          ∙ stretches-more (take (st .closed) table) (take (st .items) items) (drop (st .items) items) within
-          ∙ sym (all-closed (take (st .items) items) (take (st .closed) table) st all e h);
-    }
+    let within : total (take (st .closed) table) ≤ length (take (st .items) items) = omega (arith, h .kept, h .started) in (
+      record {
+        within = omega (arith, h .closed, length-take (st .closed) table);
+        held = omega (arith, h .started);
+        is =
+            ap (stretchesOf (take (st .closed) table)) (sym (take-append-drop (st .items) items))
+            ∙ stretches-more (take (st .closed) table) (take (st .items) items) (drop (st .items) items) within
+            ∙ sym (all-closed (take (st .items) items) (take (st .closed) table) st all e h);
+      },
+      h .started ∙ e,
+    )
 
 pub finish-close : (items table : List ℕ) (st : Open) (all : List (Stretch Kept)) (s : st .start ≤ st .items) (b : st .items < 65536)
     (m : st .closed < length table) → (st .start ≡ st .items → ⊥) → Stands (take (st .items) items) (take (st .closed) table) st [] all
     → Finished (st .closed + 1) items (set table (st .closed) (entryOf (st .items - st .start) 0 (st .pair))) all
+    × (total (take (st .closed + 1) (set table (st .closed) (entryOf (st .items - st .start) 0 (st .pair)))) ≡ st .items)
 finish-close items table st all s b m n h =
     finished items (set table (st .closed) (entryOf (st .items - st .start) 0 (st .pair))) (closedAt st (st .pair)) all refl
     (closed-stands table st s b m (take (st .items) items) [] [] all 0 (st .pair) (omega arith)
     (cut-last (pairFrom (st .pair)) (opened st (take (st .items) items)) (some-open table st s b m (take (st .items) items) n (h .kept))) h)
+
+-- ---- lanes that are data, and their record's end
+
+pub filled : (keep flags : ℕ) (lanes octets table octets1 table1 : List ℕ) (st p r : Open) (n : ℕ) → p ≡ keptAt st n
+    → Collected (length lanes) keep lanes octets (st .items) octets1 n → Ended flags table p table1 r
+    → Filled keep flags lanes octets table st octets1 table1 r
+filled keep flags lanes octets table octets1 table1 st p r n e c d =
+    let ended : Ended flags table (keptAt st n) table1 r = rw e at d in
+    let same : n ≡ r .items = sym (ended .items) in
+    record {
+      collected = subst (λ (m : ℕ). Collected (length lanes) keep lanes octets (st .items) octets1 m) same c;
+      ended = subst (λ (m : ℕ). Ended flags table (keptAt st m) table1 r) same ended;
+    }

@@ -19,10 +19,15 @@ use Rattle.stream.specs.Layout.{size, Kept, transferOf, pieces, recordCount, re
 use Rattle.refusal.specs.declared.Refusal.the-variants.{Field, Reserved}
 use Rattle.stream.specs.Checks.{Check, first, transferFlags, fieldFault, reservedFault, transferChecks}
 use Rattle.stream.proofs.Records.{size-pos}
+use Rattle.stream.proofs.Bools.{no-such}
 use Rattle.stream.proofs.First.{first-none}
 use Rattle.scratch.specs.declared.Open.{Open}
+use Rattle.scratch.specs.Codes.{heldCodes, Unmarked, total}
 use Rattle.scratch.specs.Stands.{Stands}
+use Rattle.scratch.proofs.Held.{unmarked-at}
+use Rattle.repack_gather.specs.Gather.{Clear}
 use Rattle.repack_parse.specs.Read.{Few, Added, Ready, Sounds, Finished, Taken}
+use Rattle.repack_parse.specs.Reading.{Reading, Holding}
 use Rattle.repack_parse.proofs.Records.{size-low}
 
 -- ---- the first record of a take
@@ -76,40 +81,35 @@ checks-found s k r rs f e = go (fieldFault transferFlags s r) (reservedFault s r
 
 -- ---- the invariant
 
--- k records, up to octet `at`, are read without fault; what is left decides the rest
-pub record Reading (s : Shape) (input items table : List ℕ) (st : Open) (at k : ℕ) : Type 0 where
-  pub within : at ≤ length input
-  pub whole : length (drop at input) % size s ≡ 0
-  pub faults : first (transferChecks s 0 (records s input)) ≡ first (transferChecks s k (records s (drop at input)))
-  pub sameItems : length items ≡ 45600
-  pub sameTable : length table ≡ 8193
-  pub started : st .start ≤ st .items
-  pub pair : st .pair < 4096
-  pub kept : 23 * st .items ≤ 16 * at
-  pub many : 8 * k ≤ at
-  pub few : Few st k 0
-  pub stands :
-      Stands (take (st .items) items) (take (st .closed) table) st (streamItems s (drop at input)) (cut (streamItems s input))
+abbrev pub start : Open
+start = record { items = 0; start = 0; closed = 0; pair = 0 }
 
-pub reading-starts : (s : Shape) (input items table : List ℕ) → length input % size s ≡ 0 → length items ≡ 45600 → length table ≡ 8193
-    → Reading s input items table (record { items = 0; start = 0; closed = 0; pair = 0 }) 0 0
-reading-starts s input items table w i t =
+pub reading-starts : (s : Shape) (input octets table : List ℕ) → 1 ≤ s .width → s .width ≤ 16 → length input ≤ 65536 → length input % size s ≡ 0
+    → length octets ≡ 45616 → length table ≡ 8193 → Reading s input octets table start 0
+reading-starts s input octets table low high short w i t =
+    let zeroth : 0 / size s ≡ 0 = zero-div (size s) in
     record {
+      low = low;
+      high = high;
+      short = short;
       within = omega arith;
       whole = w;
-      faults = refl;
-      sameItems = i;
+      faults = rw zeroth refl;
+      sameOctets = i;
       sameTable = t;
       started = omega arith;
       pair = omega arith;
       kept = omega arith;
-      many = omega arith;
-      few = omega arith;
-      stands = record { kept = refl; closed = refl; started = refl; is = refl };
+      many = rw zeroth (omega arith);
+      few = rw zeroth (omega arith);
     }
 
-module _ (s : Shape) (input items table : List ℕ) (st : Open) (at k : ℕ) (low : 1 ≤ s .width) (high : s .width ≤ 16)
-    (short : length input ≤ 65536) (r : Reading s input items table st at k) where
+pub holding-starts : (s : Shape) (input octets marks table : List ℕ) → length marks ≡ length octets → Unmarked marks
+    → Holding s input octets marks table start 0
+holding-starts s input octets marks table l u =
+    record { long = l; clear = λ i b. unmarked-at marks u i; stands = record { kept = refl; closed = refl; started = refl; is = refl } }
+
+module _ (s : Shape) (input octets table : List ℕ) (st : Open) (at : ℕ) (r : Reading s input octets table st at) where
   module _ (more : at < length input) where
     left : 0 < length (drop at input)
     left = rw (length-drop at input) (omega arith)
@@ -118,54 +118,70 @@ module _ (s : Shape) (input items table : List ℕ) (st : Open) (at k : ℕ) (lo
     pub reading-fits : at + size s ≤ length input
     reading-fits = omega (arith, record-fits s (drop at input) (r .whole) left, length-drop at input)
 
-    pub reading-ready : Ready s items table st
+    pub reading-ready : Ready s octets table st
     reading-ready =
         let room = reading-fits in
         let long = size-low s in
         record {
-          low = low;
-          high = high;
+          low = r .low;
+          high = r .high;
           started = r .started;
           pair = r .pair;
-          holds = omega (arith, r .kept, r .sameItems);
-          small = omega (arith, r .sameItems);
-          lists = omega (arith, r .few, r .started, r .many, r .sameTable);
+          holds = omega (arith, r .kept, r .sameOctets, r .short, r .low);
+          small = omega (arith, r .sameOctets);
+          lists = omega (arith, r .few, r .started, r .many, r .sameTable, r .short, r .low);
         }
 
     -- a record's fault is the take's
-    pub reading-refused : (rec : List ℕ) (f : Refusal) → rec ≡ take (size s) (drop at input) → first (transferChecks s k (rec ∷ [])) ≡ some f
-        → first (transferChecks s 0 (records s input)) ≡ some f
+    pub reading-refused : (rec : List ℕ) (f : Refusal) → rec ≡ take (size s) (drop at input)
+        → first (transferChecks s (at / size s) (rec ∷ [])) ≡ some f → first (transferChecks s 0 (records s input)) ≡ some f
     reading-refused rec f e h =
         r .faults
         ∙ rw (records-step s (drop at input) (r .whole) left)
-        (checks-found s k (take (size s) (drop at input)) (records s (drop (size s) (drop at input))) f (rw e at h))
+        (checks-found s (at / size s) (take (size s) (drop at input)) (records s (drop (size s) (drop at input))) f (rw e at h))
 
-    pub reading-next : (rec items' table' : List ℕ) (st' : Open) → rec ≡ take (size s) (drop at input)
-        → Sounds s rec k items table st items' table' st' → Reading s input items' table' st' (at + size s) (k + 1)
-    reading-next rec items' table' st' e h =
-        let a = h .added in
-        let room = reading-fits in
-        let long = size-low s in
-        record {
-          within = room;
-          whole = rw (← drop-drop (size s) at input) (rest-whole s (drop at input) (r .whole) left);
-          faults =
-              r .faults
-              ∙ rw (records-step s (drop at input) (r .whole) left)
-              (checks-after s k (take (size s) (drop at input)) (records s (drop (size s) (drop at input))) (rw e at (h .faultless))
-              ∙ rw (drop-drop (size s) at input, add-one k) refl);
-          sameItems = a .sameItems ∙ r .sameItems;
-          sameTable = a .sameTable ∙ r .sameTable;
-          started = a .started;
-          pair = a .pair;
-          kept = omega (arith, a .kept, r .kept);
-          many = omega (arith, r .many);
-          few = a .few k (r .few);
-          stands =
-              a .stands (streamItems s (drop (at + size s) input)) (cut (streamItems s input))
-              (subst (λ R. Stands (take (st .items) items) (take (st .closed) table) st R (cut (streamItems s input)))
-              (items-step s (drop at input) (r .whole) left ∙ rw (e, drop-drop (size s) at input) refl) (r .stands));
-        }
+    -- the next record's place
+    next-place : (at + size s) / size s ≡ at / size s + 1
+    next-place = add-div-right at (size-pos s)
+
+    module _ (rec octets' table' : List ℕ) (st' : Open) (e : rec ≡ take (size s) (drop at input)) where
+      pub reading-next : (codes codes' : List ℕ) → first (transferChecks s (at / size s) (rec ∷ [])) ≡ none → length octets' ≡ length octets
+          → Added s rec codes table st codes' table' st' → Reading s input octets' table' st' (at + size s)
+      reading-next codes codes' sound l a =
+          let room = reading-fits in
+          let long = size-low s in
+          record {
+            low = r .low;
+            high = r .high;
+            short = r .short;
+            within = room;
+            whole = rw (← drop-drop (size s) at input) (rest-whole s (drop at input) (r .whole) left);
+            faults =
+                r .faults
+                ∙ rw (records-step s (drop at input) (r .whole) left)
+                (checks-after s (at / size s) (take (size s) (drop at input)) (records s (drop (size s) (drop at input))) (rw e at sound)
+                ∙ rw (drop-drop (size s) at input, next-place, add-one (at / size s)) refl);
+            sameOctets = l ∙ r .sameOctets;
+            sameTable = a .sameTable ∙ r .sameTable;
+            started = a .started;
+            pair = a .pair;
+            kept = omega (arith, a .kept, r .kept, r .high);
+            many = rw next-place (omega (arith, r .many, r .low));
+            few = rw next-place (a .few (at / size s) (r .few));
+          }
+
+      pub holding-next : (marks marks' : List ℕ) → length octets' ≡ length octets → length marks' ≡ length marks → Clear (st' .items) marks'
+          → Added s rec (heldCodes octets marks) table st (heldCodes octets' marks') table' st'
+          → Holding s input octets marks table st at → Holding s input octets' marks' table' st' (at + size s)
+      holding-next marks marks' l m c a h =
+          record {
+            long = m ∙ h .long ∙ sym l;
+            clear = c;
+            stands =
+                a .stands (streamItems s (drop (at + size s) input)) (cut (streamItems s input))
+                (subst (λ R. Stands (take (st .items) (heldCodes octets marks)) (take (st .closed) table) st R (cut (streamItems s input)))
+                (items-step s (drop at input) (r .whole) left ∙ rw (e, drop-drop (size s) at input) refl) (h .stands));
+          }
 
   -- nothing is left
   module _ (done : length input ≤ at) where
@@ -178,19 +194,65 @@ module _ (s : Shape) (input items table : List ℕ) (st : Open) (at k : ℕ) (lo
     pub reading-faultless : first (transferChecks s 0 (records s input)) ≡ none
     reading-faultless = r .faults ∙ rw none-left (rw no-records refl)
 
-    pub reading-stands : Stands (take (st .items) items) (take (st .closed) table) st [] (cut (streamItems s input))
-    reading-stands =
-        subst (λ R. Stands (take (st .items) items) (take (st .closed) table) st R (cut (streamItems s input)))
-        (rw none-left (rw no-records refl)) (r .stands)
+    pub holding-stands : (marks : List ℕ) → Holding s input octets marks table st at
+        → Stands (take (st .items) (heldCodes octets marks)) (take (st .closed) table) st [] (cut (streamItems s input))
+    holding-stands marks h =
+        subst (λ R. Stands (take (st .items) (heldCodes octets marks)) (take (st .closed) table) st R (cut (streamItems s input)))
+        (rw none-left (rw no-records refl)) (h .stands)
 
     -- what closing the last stretch needs
     pub reading-closes : (st .start ≤ st .items) × (st .items < 65536) × (st .closed < length table) × (st .pair < 4096)
     reading-closes = (
       r .started,
-      omega (arith, r .kept, r .within),
-      omega (arith, r .few, r .started, r .many, r .within, r .sameTable),
+      omega (arith, r .kept, r .within, r .short),
+      omega (arith, r .few, r .started, r .many, r .within, r .sameTable, r .short),
       r .pair,
     )
+
+    -- the whole take is read
+    pub taken : (marks table' : List ℕ) (n : ℕ) (plain : Bool) → length marks ≡ length octets → (plain ≡ true → Unmarked marks)
+        → Finished n (heldCodes octets marks) table' (cut (streamItems s input)) → total (take n table') ≡ st .items
+        → Taken s input octets marks table' n plain
+    taken marks table' n plain l u f t =
+        record {
+          faultless = reading-faultless;
+          finished = f;
+          sameOctets = r .sameOctets;
+          sameMarks = l ∙ r .sameOctets;
+          room = omega (arith, t, r .kept, r .within, r .short, r .sameOctets);
+          unmarked = u;
+        }
+
+-- ---- reading it, record by record
+
+-- and where `plain` is told, no item is marked
+pub record Parsing (s : Shape) (input octets marks table : List ℕ) (st : Open) (at : ℕ) (plain : Bool) : Type 0 where
+  pub reading : Reading s input octets table st at
+  pub holding : Holding s input octets marks table st at
+  pub unmarked : plain ≡ true → Unmarked marks
+
+module _ (s : Shape) (input octets marks table : List ℕ) (st : Open) (at : ℕ) (r : Reading s input octets table st at)
+    (h : Holding s input octets marks table st at) (more : at < length input) (rec : List ℕ) (e : rec ≡ take (size s) (drop at input))
+    (octets' marks' table' : List ℕ) (st' : Open) (plain : Bool) (l : length octets' ≡ length octets) (m : length marks' ≡ length marks)
+    (sound : Sounds s rec (at / size s) octets marks table st octets' marks' table' st') where
+  parsing-sound : (plain ≡ true → Unmarked marks') → Parsing s input octets' marks' table' st' (at + size s) plain
+  parsing-sound u =
+      let a = sound .added in
+      record {
+        reading =
+            reading-next s input octets table st at r more rec octets' table' st' e (heldCodes octets marks) (heldCodes octets' marks') (sound .faultless) l
+            (a .added);
+        holding = holding-next s input octets table st at r more rec octets' table' st' e marks marks' l m (a .clear) (a .added) h;
+        unmarked = u;
+      }
+
+  -- no mark is touched
+  pub parsing-read : marks' ≡ marks → (plain ≡ true → Unmarked marks) → Parsing s input octets' marks' table' st' (at + size s) plain
+  parsing-read same u = parsing-sound (λ t. rw same (u t))
+
+  -- some are
+  pub parsing-marked : plain ≡ false → Parsing s input octets' marks' table' st' (at + size s) plain
+  parsing-marked f = parsing-sound (λ t. no-such f t)
 
 -- ---- the part of the input that is lent as the next record
 

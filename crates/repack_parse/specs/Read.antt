@@ -1,6 +1,6 @@
--- What each step of reading a take does to the item codes, to the table of stretches and to the state.
+-- What each step of reading a take does to the held items, to the table of stretches and to the state.
 use mathlib.Core.Path.{_≡_}
-use mathlib.Core.Bool.{Bool, cond}
+use mathlib.Core.Bool.{Bool, true, cond}
 use mathlib.Core.List.{List, [], _∷_, _++_, map}
 use mathlib.Core.Option.{Option, none, some}
 use Prim.Native.Nat.{ℕ, suc, _+_, _*_, _≤_, _<_}
@@ -16,10 +16,11 @@ use Rattle.record.specs.declared.Fault.{Fault}
 use Rattle.record.specs.declared.Fault.the-variants.{Sound, Field, Reserved}
 use Rattle.record.specs.Header.{headerFault}
 use Rattle.scratch.specs.declared.Open.{Open}
-use Rattle.scratch.specs.Codes.{pairFrom, stretchesOf, total}
-use Rattle.scratch.specs.Stands.{Stands}
+use Rattle.scratch.specs.Codes.{heldCodes, Unmarked, pairFrom, stretchesOf, total}
+use Rattle.scratch.specs.Stands.{keptAt, Stands}
+use Rattle.repack_gather.specs.Gather.{Collected, Clear}
 use Rattle.repack_parse.specs.declared.Next.{Next}
-use Rattle.repack_parse.specs.declared.Next.the-variants.{Read, Refused as NotRead}
+use Rattle.repack_parse.specs.declared.Next.the-variants.{Read, Marked, Refused as NotRead}
 use Rattle.repack_parse.specs.declared.Parsed.{Parsed}
 use Rattle.repack_parse.specs.declared.Parsed.the-variants.{Stretches, Refused}
 
@@ -57,8 +58,8 @@ pub record Ended (flags : ℕ) (table : List ℕ) (st : Open) (after : List ℕ)
 
 -- one record more is read
 pub record Added (s : Shape) (rec items table : List ℕ) (st : Open) (itemsAfter tableAfter : List ℕ) (r : Open) : Type 0 where
-  pub sameItems : length itemsAfter ≡ length items
   pub sameTable : length tableAfter ≡ length table
+  pub beyond : st .items ≤ r .items
   pub kept : r .items ≤ st .items + s .width
   pub pair : r .pair < 4096
   pub started : r .start ≤ r .items
@@ -68,24 +69,46 @@ pub record Added (s : Shape) (rec items table : List ℕ) (st : Open) (itemsAfte
       → Stands (take (st .items) items) (take (st .closed) table) st (transferItems (transferOf s rec) ++ rest) all
       → Stands (take (r .items) itemsAfter) (take (r .closed) tableAfter) r rest all
 
+-- Lanes of which each kept one is data, and their record's end: octets behind those of the open stretch, and perhaps a
+-- table entry more.
+pub record Filled (keep flags : ℕ) (lanes octets table : List ℕ) (st : Open) (octetsAfter tableAfter : List ℕ) (r : Open) : Type 0 where
+  pub collected : Collected (length lanes) keep lanes octets (st .items) octetsAfter (r .items)
+  pub ended : Ended flags table (keptAt st (r .items)) tableAfter r
+
+-- One record more, of which each kept lane is data: it needs no mark, where none stands yet.
+pub record AddedData (s : Shape) (rec octets table : List ℕ) (st : Open) (octetsAfter tableAfter : List ℕ) (r : Open) : Type 0 where
+  pub same : length octetsAfter ≡ length octets
+  pub added :
+      (marks : List ℕ) → length marks ≡ length octets → Clear (st .items) marks
+      → Added s rec (heldCodes octets marks) table st (heldCodes octetsAfter marks) tableAfter r
+
+-- one record more, with position lanes
+pub record AddedMarked (s : Shape) (rec octets marks table : List ℕ) (st : Open) (octetsAfter marksAfter tableAfter : List ℕ) (r : Open) : Type 0 where
+  pub added : Added s rec (heldCodes octets marks) table st (heldCodes octetsAfter marksAfter) tableAfter r
+  pub clear : Clear (r .items) marksAfter
+
 -- a state that another record can be read from: the arrays have room for it
-pub record Ready (s : Shape) (items table : List ℕ) (st : Open) : Type 0 where
+pub record Ready (s : Shape) (octets table : List ℕ) (st : Open) : Type 0 where
   pub low : 1 ≤ s .width
   pub high : s .width ≤ 16
   pub started : st .start ≤ st .items
   pub pair : st .pair < 4096
-  pub holds : st .items + s .width ≤ length items
-  pub small : length items < 65536
+  pub holds : st .items + s .width ≤ length octets
+  pub small : length octets < 65536
   pub lists : st .closed + 1 < length table
 
-pub record Sounds (s : Shape) (rec : List ℕ) (k : ℕ) (items table : List ℕ) (st : Open) (itemsAfter tableAfter : List ℕ) (r : Open) : Type 0 where
+-- a record without fault whose place is k, read
+pub record Sounds (s : Shape) (rec : List ℕ) (k : ℕ) (octets marks table : List ℕ) (st : Open) (octetsAfter marksAfter tableAfter : List ℕ) (r : Open) : Type 0 where
   pub faultless : first (transferChecks s k (rec ∷ [])) ≡ none
-  pub added : Added s rec items table st itemsAfter tableAfter r
+  pub added : AddedMarked s rec octets marks table st octetsAfter marksAfter tableAfter r
 
--- what reading record k gives
-abbrev pub NextIs : Shape → List ℕ → ℕ → List ℕ → List ℕ → Open → List ℕ → List ℕ → Next → Type 0
-NextIs s rec k items table st itemsAfter tableAfter (NotRead f) = first (transferChecks s k (rec ∷ [])) ≡ some f
-NextIs s rec k items table st itemsAfter tableAfter (Read r) = Sounds s rec k items table st itemsAfter tableAfter r
+-- what reading the record at place k gives; no mark is touched unless the answer says so
+abbrev pub NextIs : Shape → List ℕ → ℕ → List ℕ → List ℕ → List ℕ → Open → List ℕ → List ℕ → List ℕ → Next → Type 0
+NextIs s rec k octets marks table st octetsAfter marksAfter tableAfter (NotRead f) = first (transferChecks s k (rec ∷ [])) ≡ some f
+NextIs s rec k octets marks table st octetsAfter marksAfter tableAfter (Read r) =
+    Sounds s rec k octets marks table st octetsAfter marksAfter tableAfter r × (marksAfter ≡ marks)
+NextIs s rec k octets marks table st octetsAfter marksAfter tableAfter (Marked r) =
+    Sounds s rec k octets marks table st octetsAfter marksAfter tableAfter r
 
 -- n stretches in the table, all that a take has
 pub record Finished (n : ℕ) (items table : List ℕ) (all : List (Stretch Kept)) : Type 0 where
@@ -93,11 +116,17 @@ pub record Finished (n : ℕ) (items table : List ℕ) (all : List (Stretch Kept
   pub held : total (take n table) ≤ length items
   pub is : stretchesOf (take n table) items ≡ all
 
-pub record Taken (s : Shape) (input items table : List ℕ) (n : ℕ) : Type 0 where
+-- What a take without fault is read to: its stretches, held in octets and marks. A reader of 16 octets from any item on
+-- stays in the octets; and where `plain` is told, no item is a position item.
+pub record Taken (s : Shape) (input octets marks table : List ℕ) (n : ℕ) (plain : Bool) : Type 0 where
   pub faultless : first (transferChecks s 0 (records s input)) ≡ none
-  pub finished : Finished n items table (cut (streamItems s input))
+  pub finished : Finished n (heldCodes octets marks) table (cut (streamItems s input))
+  pub sameOctets : length octets ≡ 45616
+  pub sameMarks : length marks ≡ 45616
+  pub room : total (take n table) + 16 ≤ length octets
+  pub unmarked : plain ≡ true → Unmarked marks
 
 -- what reading a take gives: the first fault of its records, or its stretches
-abbrev pub ParsedIs : Shape → List ℕ → List ℕ → List ℕ → Parsed → Type 0
-ParsedIs s input items table (Refused f) = first (transferChecks s 0 (records s input)) ≡ some f
-ParsedIs s input items table (Stretches n) = Taken s input items table n
+abbrev pub ParsedIs : Shape → List ℕ → List ℕ → List ℕ → List ℕ → Parsed → Type 0
+ParsedIs s input octets marks table (Refused f) = first (transferChecks s 0 (records s input)) ≡ some f
+ParsedIs s input octets marks table (Stretches n plain) = Taken s input octets marks table n plain

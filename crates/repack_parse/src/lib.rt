@@ -1,5 +1,7 @@
-// Reads a take of transfer records, once, into item codes and a table of stretches, or refuses it.
-// Nothing is written to the caller's memory here.
+// Reads a take of transfer records, once, into held items and a table of stretches, or refuses it. The usual records are
+// read in usual.rt. Nothing is written to the caller's memory here.
+mod usual;
+
 use record::Fault;
 use record::Header;
 use refusal::Refusal;
@@ -9,24 +11,26 @@ ghost use mathlib.Core.Path.{_≡_};
 ghost use mathlib.Core.Bool.{false};
 ghost use mathlib.Core.List.{List, []};
 ghost use Rattle.stream.specs.Packed.{Stretch};
-ghost use Prim.Native.Nat.{ℕ, _-_, _%_, _≤_, _<_};
+ghost use Prim.Native.Nat.{ℕ, _+_, _-_, _/_, _%_, _^_, _≤_, _<_};
 ghost use lib.ListN.{length, take, set};
 ghost use Rattle.stream.specs.Layout.{size, Kept};
 ghost use Rattle.stream.specs.Checks.{transferFlags};
 ghost use Rattle.record.specs.Header.{headerOf, headerFault};
-ghost use Rattle.scratch.specs.Codes.{entryOf};
-ghost use Rattle.scratch.specs.Stands.{closedAt, pairedAt, Stands};
-ghost use Rattle.repack_parse.specs.Read.{judged, Turned, Ended, Added, Ready, Finished, NextIs, ParsedIs};
+ghost use Rattle.scratch.specs.Codes.{Unmarked, pairCode, entryOf, total};
+ghost use Rattle.scratch.specs.Stands.{closedAt, pairedAt, keptAt, Stands};
+ghost use Rattle.repack_gather.specs.Gather.{Clear};
+ghost use Rattle.repack_parse.specs.Read.{judged, Turned, Ended, Filled, AddedData, AddedMarked, Ready, Finished, NextIs, ParsedIs};
 
-// What reading one record gives: how far the take has been read, or the record's fault.
+// What reading one record gives: how far the take has been read, with no mark or with some, or the record's fault.
 pub enum Next {
     Read(Open),
+    Marked(Open),
     Refused(Refusal),
 }
 
-// What reading a take gives: so many stretches in the table, or the first fault.
+// What reading a take gives: so many stretches in the table and whether every item is data, or the first fault.
 pub enum Parsed {
-    Stretches(usize),
+    Stretches(usize, bool),
     Refused(Refusal),
 }
 
@@ -89,24 +93,80 @@ fn end(table: &mut [u32], st: Open, flags: u32) -> Open
     close(table, st, 1)
 }
 
-// One record more, which has no fault. A record with no item changes nothing, whatever its pair.
-fn add(s: Shape, rec: &[u8], h: Header, items: &mut [u16], table: &mut [u32], st: Open) -> Open
-    requires { ⌜ (h ≡ headerOf (now rec)) × (length (now rec) ≡ size s) × (headerFault transferFlags s h ≡ false) × Ready s (now items) (now table) st ⌝ }
-    ensures { λ r. ⌜ Added s (now (rec .entry)) (now (items .entry)) (now (table .entry)) st (now (items .exit)) (now (table .exit)) r ⌝ }
+// The same state with so many items.
+fn with_items(st: Open, n: usize) -> Open
+    ensures { λ r. ⌜ r ≡ keptAt st n ⌝ }
 {
-    if h.keep + h.flags == 0 {
-        return st;
-    }
-    let o = turn(table, st, widen(h.tid) + 256 * widen(h.tdest));
-    let e = 7 + s.width;
-    let n = repack_gather::gather(items, o.items, &rec[7..e], h.keep, h.strb);
-    let p = Open {
+    Open {
         items: n,
-        start: o.start,
-        closed: o.closed,
-        pair: o.pair,
-    };
-    end(table, p, h.flags)
+        start: st.start,
+        closed: st.closed,
+        pair: st.pair,
+    }
+}
+
+// The pair of a header as one number.
+fn pair_code(h: Header) -> u32
+    ensures { λ r. ⌜ r ≡ pairCode (h .tid) (h .tdest) ⌝ }
+{
+    widen(h.tid) + 256 * widen(h.tdest)
+}
+
+// The mask of all lanes.
+fn full_mask(s: Shape) -> u32
+    requires { ⌜ s .width ≤ 16 ⌝ }
+    ensures { λ r. ⌜ r ≡ 2 ^ s .width - 1 ⌝ }
+{
+    (1u32 << s.width) - 1
+}
+
+// A record's lanes, of which each kept one is data, for the open stretch; then its end.
+fn fill(
+    octets: &mut [u8],
+    table: &mut [u32],
+    st: Open,
+    lanes: &[u8],
+    keep: u32,
+    full: u32,
+    flags: u32,
+) -> Open
+    requires { ⌜ (length (now lanes) ≤ 16) × (st .items + length (now lanes) ≤ length (now octets)) × (length (now octets) < 65536) × (full ≡ 2 ^ length (now lanes) - 1) ⌝ }
+    requires { ⌜ (st .start ≤ st .items) × (st .closed < length (now table)) × (st .pair < 4096) × (flags < 2) ⌝ }
+    ensures { λ r. ⌜ Filled keep flags (now (lanes .entry)) (now (octets .entry)) (now (table .entry)) st (now (octets .exit)) (now (table .exit)) r ⌝ }
+{
+    let n = repack_gather::gather(octets, st.items, lanes, keep, full);
+    end(table, with_items(st, n), flags)
+}
+
+// One record more, which has no fault and an item, and of which each kept lane is data.
+fn add_data(s: Shape, rec: &[u8], h: Header, octets: &mut [u8], table: &mut [u32], st: Open) -> Open
+    requires { ⌜ (h ≡ headerOf (now rec)) × (length (now rec) ≡ size s) × (headerFault transferFlags s h ≡ false) × (h .keep + h .flags ≡ 0 → ⊥) × (h .keep ≡ h .strb) ⌝ }
+    requires { ⌜ Ready s (now octets) (now table) st ⌝ }
+    ensures { λ r. ⌜ AddedData s (now (rec .entry)) (now (octets .entry)) (now (table .entry)) st (now (octets .exit)) (now (table .exit)) r ⌝ }
+{
+    let o = turn(table, st, pair_code(h));
+    let e = 7 + s.width;
+    fill(octets, table, o, &rec[7..e], h.keep, full_mask(s), h.flags)
+}
+
+// One record more, which has no fault and an item, and may have position lanes.
+fn add_marked(
+    s: Shape,
+    rec: &[u8],
+    h: Header,
+    octets: &mut [u8],
+    marks: &mut [u8],
+    table: &mut [u32],
+    st: Open,
+) -> Open
+    requires { ⌜ (h ≡ headerOf (now rec)) × (length (now rec) ≡ size s) × (headerFault transferFlags s h ≡ false) × (h .keep + h .flags ≡ 0 → ⊥) ⌝ }
+    requires { ⌜ Ready s (now octets) (now table) st × (length (now marks) ≡ length (now octets)) × Clear (st .items) (now marks) ⌝ }
+    ensures { λ r. ⌜ AddedMarked s (now (rec .entry)) (now (octets .entry)) (now (marks .entry)) (now (table .entry)) st (now (octets .exit)) (now (marks .exit)) (now (table .exit)) r ⌝ }
+{
+    let o = turn(table, st, pair_code(h));
+    let e = 7 + s.width;
+    let n = repack_gather::sift_marked(octets, marks, o.items, &rec[7..e], h.keep, h.strb);
+    end(table, with_items(o, n), h.flags)
 }
 
 // The record's fault, FIELD before RESERVED.
@@ -123,31 +183,40 @@ fn judge(h: Header, s: Shape) -> Fault
     Fault::Sound
 }
 
-// Judges and adds record k.
-fn read_record(
+// Judges and adds the record at octet `at` of the take, of any kind. One with no item changes nothing, whatever its pair.
+fn unusual(
     s: Shape,
     rec: &[u8],
-    k: usize,
-    items: &mut [u16],
+    at: usize,
+    octets: &mut [u8],
+    marks: &mut [u8],
     table: &mut [u32],
     st: Open,
 ) -> Next
-    requires { ⌜ (length (now rec) ≡ size s) × Ready s (now items) (now table) st ⌝ }
-    ensures { λ r. ⌜ NextIs s (now (rec .entry)) k (now (items .entry)) (now (table .entry)) st (now (items .exit)) (now (table .exit)) r ⌝ }
+    requires { ⌜ (length (now rec) ≡ size s) × Ready s (now octets) (now table) st × (length (now marks) ≡ length (now octets)) × Clear (st .items) (now marks) ⌝ }
+    ensures { λ r. ⌜ NextIs s (now (rec .entry)) (at / size s) (now (octets .entry)) (now (marks .entry)) (now (table .entry)) st (now (octets .exit)) (now (marks .exit)) (now (table .exit)) r ⌝ }
 {
     let h = record::read_header(rec);
     let f = judge(h, s);
     match f {
-        Fault::Field => Next::Refused(Refusal::Field(k)),
-        Fault::Reserved => Next::Refused(Refusal::Reserved(k)),
-        Fault::Sound => Next::Read(add(s, rec, h, items, table, st)),
+        Fault::Field => Next::Refused(Refusal::Field(at / record::record_size(s))),
+        Fault::Reserved => Next::Refused(Refusal::Reserved(at / record::record_size(s))),
+        Fault::Sound => {
+            if h.keep + h.flags == 0 {
+                return Next::Read(st);
+            }
+            if h.keep == h.strb {
+                return Next::Read(add_data(s, rec, h, octets, table, st));
+            }
+            Next::Marked(add_marked(s, rec, h, octets, marks, table, st))
+        }
     }
 }
 
 // After the last record: what is still open is closed without an end. Answers the number of stretches.
 fn finish(table: &mut [u32], st: Open) -> usize
     requires { ⌜ (st .start ≤ st .items) × (st .items < 65536) × (st .closed < length (now table)) × (st .pair < 4096) ⌝ }
-    ensures { λ r. ⌜ ((items : List ℕ) (all : List (Stretch Kept)) → Stands (take (st .items) items) (take (st .closed) (now (table .entry))) st [] all → Finished r items (now (table .exit)) all) ⌝ }
+    ensures { λ r. ⌜ ((items : List ℕ) (all : List (Stretch Kept)) → Stands (take (st .items) items) (take (st .closed) (now (table .entry))) st [] all → Finished r items (now (table .exit)) all × (total (take r (now (table .exit))) ≡ st .items)) ⌝ }
 {
     if st.start == st.items {
         return st.closed;
@@ -155,13 +224,21 @@ fn finish(table: &mut [u32], st: Open) -> usize
     close(table, st, 0).closed
 }
 
-// Reads a take whose widths and length have passed their tests: item codes into `items`, one entry a stretch into `table`.
-pub fn parse(s: Shape, input: &[u8], items: &mut [u16], table: &mut [u32]) -> Parsed
+// Reads a take whose widths and length have passed their tests: the items' octets and marks, one entry a stretch into
+// `table`. No mark stands at the start. Usual records are skimmed; each other one is judged in full.
+pub fn parse(
+    s: Shape,
+    input: &[u8],
+    octets: &mut [u8],
+    marks: &mut [u8],
+    table: &mut [u32],
+) -> Parsed
     requires { ⌜ (1 ≤ s .width) × (s .width ≤ 16) × (length (now input) ≤ 65536) × (length (now input) % size s ≡ 0) ⌝ }
-    requires { ⌜ (length (now items) ≡ 45600) × (length (now table) ≡ 8193) ⌝ }
-    ensures { λ r. ⌜ ParsedIs s (now (input .entry)) (now (items .exit)) (now (table .exit)) r ⌝ }
+    requires { ⌜ (length (now octets) ≡ 45616) × (length (now marks) ≡ 45616) × (length (now table) ≡ 8193) × Unmarked (now marks) ⌝ }
+    ensures { λ r. ⌜ ParsedIs s (now (input .entry)) (now (octets .exit)) (now (marks .exit)) (now (table .exit)) r ⌝ }
 {
     let z = record::record_size(s);
+    let full = full_mask(s);
     let mut st = Open {
         items: 0,
         start: 0,
@@ -169,19 +246,26 @@ pub fn parse(s: Shape, input: &[u8], items: &mut [u16], table: &mut [u32]) -> Pa
         pair: 0,
     };
     let mut at = 0;
-    let mut k = 0;
-    while at < input.len() {
-        let e = at + z;
-        match read_record(s, &input[at..e], k, items, table, st) {
+    let mut plain = true;
+    loop {
+        let p = usual::skim(s, full, input, at, octets, table, st);
+        let from = p.at;
+        if input.len() <= from {
+            return Parsed::Stretches(finish(table, p.st), plain);
+        }
+        let e = from + z;
+        match unusual(s, &input[from..e], from, octets, marks, table, p.st) {
             Next::Refused(r) => {
                 return Parsed::Refused(r);
             }
             Next::Read(o) => {
                 st = o;
             }
+            Next::Marked(o) => {
+                st = o;
+                plain = false;
+            }
         }
         at = e;
-        k += 1;
     }
-    Parsed::Stretches(finish(table, st))
 }

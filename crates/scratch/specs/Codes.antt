@@ -1,8 +1,10 @@
--- The codes of items and of stretches, as repack's two scratch arrays hold them.
+-- The codes of items and of stretches, as repack's scratch arrays hold them: an item's octet in one array, its mark in
+-- another, a stretch's entry in a third.
+use mathlib.Core.Path.{_≡_}
 use mathlib.Core.Bool.{Bool, true, false, cond}
 use mathlib.Core.List.{List, [], _∷_, map}
-use Prim.Native.Nat.{ℕ, zero, suc, _+_, _*_, _/_, _%_}
-use lib.ListN.{getD, take, drop}
+use Prim.Native.Nat.{ℕ, zero, suc, _+_, _-_, _*_, _/_, _%_}
+use lib.ListN.{length, getD, take, drop, replicate}
 use Rattle.stream.specs.Items.{Pair}
 use Rattle.stream.specs.Packed.{Stretch}
 use Rattle.stream.specs.Layout.{odd, Kept, octet, position}
@@ -11,6 +13,24 @@ use Rattle.stream.specs.Layout.{odd, Kept, octet, position}
 
 abbrev pub itemCode : ℕ → ℕ → ℕ
 itemCode strb d = d + 256 * (strb % 2)
+
+-- a data item's code
+abbrev pub dataCode : ℕ → ℕ
+dataCode d = d + 256
+
+-- An item as it is held: its octet, and a mark that is 0 for data and 1 for position.
+abbrev pub heldCode : ℕ → ℕ → ℕ
+heldCode d mark = d + 256 * (1 - mark)
+
+-- the codes of the items that two arrays of one length hold
+abbrev pub heldCodes : List ℕ → List ℕ → List ℕ
+heldCodes [] ms = []
+heldCodes (d ∷ ds) [] = []
+heldCodes (d ∷ ds) (m ∷ ms) = heldCode d m ∷ heldCodes ds ms
+
+-- no item is marked: every one is data
+abbrev pub Unmarked : List ℕ → Type 0
+Unmarked ms = ms ≡ replicate {A = ℕ} (length ms) 0
 
 -- what an item's code stands for; every number stands for something
 unfoldable pub keptOf : ℕ → Kept

@@ -1,9 +1,16 @@
 -- `repack_emit::emit` meets its contract: ROOM where the records do not fit, else all of them. Assumes nothing.
 use native.Mathlib.Omega.{arith}
+use Rattle.scratch.specs.Codes.{heldCodes}
+use Rattle.scratch.proofs.Held.{length-held}
 use Rattle.repack_emit.proofs.Answer.{product-fits, packed-long, emit-refused, emit-written}
 use borrow.Author.Needs.{needs}
 use Rattle.repack_emit.proofs.emit.Statement.{statement}
 use Rattle.repack_emit.proofs.emit.Tie as tie
+use Rattle.repack_emit.proofs.emit.Reads as reads
+use Rattle.repack_emit.proofs.emit.Lts as lts
+use Rattle.record.proofs.record_size.Reads as record-size-reads
+use Rattle.repack_emit.proofs.count.Reads as count-reads
+use Rattle.repack_emit.proofs.put_all.Reads as put-all-reads
 
 cast-count : tie.Need-cast-count
 cast-count c = search needs
@@ -15,19 +22,30 @@ record-size-requires : tie.Need-record-size-requires
 record-size-requires c κs = search needs
 
 mul-if1 : tie.Need-mul-if1
-mul-if1 c = record { fits = product-fits (c .before .before .before .before .before .before .args .t) (c .before .count .result) (c .record-size .result) (c .before .before .before .before .before .before .pre .1) (c .record-size .ensures) (c .before .count .ensures .1) }
+mul-if1 c = record { fits = product-fits (c .before .before .before .before .before .before .before .args .t) (c .before .count .result) (c .record-size .result) (c .before .before .before .before .before .before .before .pre .1) (c .record-size .ensures) (c .before .count .ensures .1) }
 
 returns : tie.Need-returns
-returns c = emit-refused (c .before .before .before .before .before .before .before .args .t) (c .before .before .before .before .before .before .before .args .items .now) (c .before .before .before .before .before .before .before .args .table .now) (c .before .before .before .before .before .before .before .args .out .now) (c .before .before .count .result) (c .before .record-size .result) (c .before .before .before .before .before .before .before .pre .2) (c .before .before .count .ensures .0) (c .before .record-size .ensures) (c .if1 .taken)
+returns c =
+    let a = c .before .before .before .before .before .before .before .before .args in
+    let p = c .before .before .before .before .before .before .before .before .pre in
+    emit-refused (a .t) (heldCodes (a .octets .now) (a .marks .now)) (a .table .now) (a .out .now) (c .before .before .count .result) (c .before .record-size .result) (omega (arith, p .2, length-held (a .octets .now) (a .marks .now) (p .3 .same))) (c .before .before .count .ensures .0) (c .before .record-size .ensures) (c .if1 .taken)
 
 put-all-requires : tie.Need-put-all-requires
-put-all-requires c κs = (c .before .before .before .before .before .before .before .before .pre .0, c .before .before .before .before .before .before .before .before .pre .1, c .before .before .before .before .before .before .before .before .pre .2, rw (packed-long (c .before .before .before .before .before .before .before .before .args .t) (c .before .before .before .before .before .before .before .before .args .items .now) (c .before .before .before .before .before .before .before .before .args .table .now) (c .before .before .before .before .before .before .before .before .args .out .now) (c .before .before .before .count .result) (c .before .before .record-size .result) (c .before .before .before .before .before .before .before .before .pre .2) (c .before .before .before .count .ensures .0) (c .before .before .record-size .ensures)) (c .before .if1 .left))
+put-all-requires c κs =
+    let a = c .before .before .before .before .before .before .before .before .before .args in
+    let p = c .before .before .before .before .before .before .before .before .before .pre in
+    let long = packed-long (a .t) (heldCodes (a .octets .now) (a .marks .now)) (a .table .now) (a .out .now) (c .before .before .before .count .result) (c .before .before .record-size .result) (omega (arith, p .2, length-held (a .octets .now) (a .marks .now) (p .3 .same))) (c .before .before .before .count .ensures .0) (c .before .before .record-size .ensures) in
+    (p .0, p .1, p .2, p .3, rw long (c .before .if1 .left))
 
 same-length : tie.Need-same-length
 same-length c = search needs
 
 returns-2 : tie.Need-returns-2
-returns-2 c = emit-written (c .before .before .before .before .before .before .before .before .before .before .before .args .t) (c .before .before .before .before .before .before .before .before .before .before .before .args .items .now) (c .before .before .before .before .before .before .before .before .before .before .before .args .table .now) (c .before .before .before .before .before .before .before .before .before .before .before .args .out .now) (c .before .before .before .before .before .before .count .result) (c .before .before .before .before .before .record-size .result) (c .before .before .before .before .before .before .before .before .before .before .before .pre .2) (c .before .before .before .before .before .before .count .ensures .0) (c .before .before .before .before .before .record-size .ensures) (c .before .before .put-all .last .0) (c .before .before .before .before .if1 .left) (c .before .before .put-all .ensures)
+returns-2 c =
+    let a = c .before .before .before .before .before .before .before .before .before .before .before .before .args in
+    let p = c .before .before .before .before .before .before .before .before .before .before .before .before .pre in
+    emit-written (a .t) (heldCodes (a .octets .now) (a .marks .now)) (a .table .now) (a .out .now) (c .before .before .before .before .before .before .count .result) (c .before .before .before .before .before .record-size .result) (omega (arith, p .2, length-held (a .octets .now) (a .marks .now) (p .3 .same))) (c .before .before .before .before .before .before .count .ensures .0) (c .before .before .before .before .before .record-size .ensures)
+    (c .before .before .put-all .last .0) (c .before .before .before .before .if1 .left) (c .before .before .put-all .ensures)
 
 pub emit-spec : {M : Type 1} → statement M
 emit-spec =

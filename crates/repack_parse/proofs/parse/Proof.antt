@@ -1,92 +1,139 @@
--- `repack_parse::parse` meets its contract: a record at a time, and then the last stretch. Assumes nothing.
-use mathlib.Core.Path.{_≡_, refl, sym, ap, _∙_, subst}
-use Prim.Native.Nat.{ℕ, _+_, _-_, _≤_, _<_}
+-- `repack_parse::parse` meets its contract: the usual records, then one of another kind, and at last the open stretch. Assumes nothing.
+use mathlib.Core.Path.{_≡_, refl, sym, _∙_}
+use mathlib.Core.Bool.{false}
+use Prim.Native.Nat.{_+_, _-_, _<_}
 use native.Mathlib.Omega.{arith}
-use borrow.Author.Needs.{needs}
-use lib.ListN.{length, take, drop, length-drop}
-use lib.Seq.{length-take-le}
-use Rattle.stream.specs.Layout.{size}
+use lib.ListN.{length, take, drop}
 use Rattle.stream.proofs.Records.{size-pos}
-use Rattle.repack_parse.proofs.Records.{size-low}
-use Rattle.repack_parse.proofs.Take.{Reading, reading-starts, reading-fits, reading-ready, reading-refused, reading-next, reading-faultless, reading-stands, reading-closes, this-record, this-long}
+use Rattle.repack_parse.proofs.Take.{reading-starts, holding-starts, reading-fits, reading-ready, reading-refused, reading-closes, holding-stands, taken, Parsing, parsing-read, parsing-marked, this-record, this-long}
+use borrow.Author.Needs.{needs}
 use Rattle.repack_parse.proofs.parse.Statement.{statement}
 use Rattle.repack_parse.proofs.parse.Tie as tie
 
 abbrev Inv-loop : tie.InvT-loop
-Inv-loop s input items₀ table₀ z st₀ at₀ k₀ items table st at k = Reading s input items table st at k
+Inv-loop s input octets₀ marks₀ table₀ z full st₀ at₀ plain₀ octets marks table st at plain = Parsing s input octets marks table st at plain
 
 abbrev μ-loop : tie.MeasureT-loop
-μ-loop s input items₀ table₀ z st₀ at₀ k₀ items table st at k = length input - at
+μ-loop s input octets₀ marks₀ table₀ z full st₀ at₀ plain₀ octets marks table st at plain = length input - at
 
 record-size-requires : tie.Need-record-size-requires Inv-loop μ-loop
-record-size-requires c κs = search needs
+record-size-requires c κs = c .before .before .before .before .pre .0 .1
+
+full-mask-requires : tie.Need-full-mask-requires Inv-loop μ-loop
+full-mask-requires c κs = c .before .before .before .before .before .pre .0 .1
 
 loop-holds : tie.Need-loop-holds Inv-loop μ-loop
-loop-holds c = reading-starts (c .before .before .before .before .args .s) (c .before .before .before .before .args .input .now) (c .before .before .before .before .args .items .now) (c .before .before .before .before .args .table .now) (c .before .before .before .before .pre .0 .3) (c .before .before .before .before .pre .1 .0) (c .before .before .before .before .pre .1 .1)
+loop-holds c =
+    let a = c .before .before .before .before .before .before .args in
+    let p = c .before .before .before .before .before .before .pre in
+    record {
+      reading = reading-starts (a .s) (a .input .now) (a .octets .now) (a .table .now) (p .0 .0) (p .0 .1) (p .0 .2) (p .0 .3) (p .1 .0) (p .1 .2);
+      holding = holding-starts (a .s) (a .input .now) (a .octets .now) (a .marks .now) (a .table .now) (p .1 .1 ∙ sym (p .1 .0)) (p .1 .3);
+      unmarked = λ t. p .1 .3;
+    }
+
+skim-requires : tie.Need-skim-requires Inv-loop μ-loop
+skim-requires c κs = (c .before .before .before .full-mask .ensures, c .before .before .loop .inv .reading)
+
+finish-requires : tie.Need-finish-requires Inv-loop μ-loop
+finish-requires c κs =
+    let a = c .before .before .before .before .before .before .before .before .before .before .before .before .before .before .before .before .args in
+    reading-closes (a .s) (a .input .now) (c .before .before .before .before .before .before .skim .last .1 .1 .1 .1 .0) (c .before .before .before .before .before .before .skim .last .1 .1 .1 .1 .1 .0) (c .before .before .before .before .before .before .skim .result .st) (c .before .before .before .before .before .before .skim .result .at) (c .before .before .before .before .before .before .skim .ensures .reading) (c .before .if1 .taken)
+
+same-length : tie.Need-same-length Inv-loop μ-loop
+same-length c = c .before .before .before .before .before .before .before .before .before .skim .ensures .reading .sameOctets ∙ sym (c .before .before .before .before .before .before .before .before .before .before .before .before .before .before .before .before .before .before .before .pre .1 .0)
+
+same-length-2 : tie.Need-same-length-2 Inv-loop μ-loop
+same-length-2 c = c .before .before .before .before .before .before .before .before .before .before .before .before .loop .inv .holding .long ∙ c .before .before .before .before .before .before .before .before .before .before .before .before .loop .inv .reading .sameOctets ∙ sym (c .before .before .before .before .before .before .before .before .before .before .before .before .before .before .before .before .before .before .before .pre .1 .1)
+
+same-length-3 : tie.Need-same-length-3 Inv-loop μ-loop
+same-length-3 c = c .before .before .finish .kept .0 ∙ c .before .before .before .before .before .before .before .before .before .skim .ensures .reading .sameTable ∙ sym (c .before .before .before .before .before .before .before .before .before .before .before .before .before .before .before .before .before .before .before .pre .1 .2)
+
+returns : tie.Need-returns Inv-loop μ-loop
+returns c =
+    let a = c .before .before .before .before .before .before .before .before .before .before .before .before .before .before .before .before .before .before .before .args in
+    let h = (c .before .before .before .before .before .before .before .before .before .skim .ensures .holding (c .before .before .before .before .before .before .before .before .before .before .before .before .loop .marks) (c .before .before .before .before .before .before .before .before .before .before .before .before .loop .inv .holding)) in
+    let f = c .before .before .finish .ensures _ _ (holding-stands (a .s) (a .input .now) (c .before .before .before .before .before .before .before .before .before .skim .last .1 .1 .1 .1 .0) (c .before .before .before .before .before .before .before .before .before .skim .last .1 .1 .1 .1 .1 .0) (c .before .before .before .before .before .before .before .before .before .skim .result .st) (c .before .before .before .before .before .before .before .before .before .skim .result .at) (c .before .before .before .before .before .before .before .before .before .skim .ensures .reading) (c .before .before .before .before .if1 .taken) (c .before .before .before .before .before .before .before .before .before .before .before .before .loop .marks) h) in
+    taken (a .s) (a .input .now) (c .before .before .before .before .before .before .before .before .before .skim .last .1 .1 .1 .1 .0) (c .before .before .before .before .before .before .before .before .before .skim .last .1 .1 .1 .1 .1 .0) (c .before .before .before .before .before .before .before .before .before .skim .result .st) (c .before .before .before .before .before .before .before .before .before .skim .result .at) (c .before .before .before .before .before .before .before .before .before .skim .ensures .reading) (c .before .before .before .before .if1 .taken) (c .before .before .before .before .before .before .before .before .before .before .before .before .loop .marks) (c .before .before .finish .last .0) (c .before .before .finish .result) (c .before .before .before .before .before .before .before .before .before .before .before .before .loop .plain) (h .long) (c .before .before .before .before .before .before .before .before .before .before .before .before .loop .inv .unmarked) (f .0) (f .1)
 
 add-e : tie.Need-add-e Inv-loop μ-loop
-add-e c = omega (arith, c .before .before .record-size .ensures, reading-fits (c .before .before .before .before .before .before .args .s) (c .before .before .before .before .before .before .args .input .now) (c .before .loop .items) (c .before .loop .table) (c .before .loop .st) (c .before .loop .at) (c .before .loop .k) (c .before .before .before .before .before .before .pre .0 .0) (c .before .before .before .before .before .before .pre .0 .1) (c .before .before .before .before .before .before .pre .0 .2) (c .before .loop .inv) (c .loop-test .taken))
+add-e c =
+    let a = c .before .before .before .before .before .before .before .before .before .before .before .before .before .before .before .args in
+    omega (arith, c .before .before .before .before .before .before .before .before .before .before .record-size .ensures, reading-fits (a .s) (a .input .now) (c .before .before .before .before .before .skim .last .1 .1 .1 .1 .0) (c .before .before .before .before .before .skim .last .1 .1 .1 .1 .1 .0) (c .before .before .before .before .before .skim .result .st) (c .before .before .before .before .before .skim .result .at) (c .before .before .before .before .before .skim .ensures .reading) (c .if1 .left))
 
-sub-read-record : tie.Need-sub-read-record Inv-loop μ-loop
-sub-read-record c = search needs
+sub-unusual : tie.Need-sub-unusual Inv-loop μ-loop
+sub-unusual c = search needs
 
-part-read-record-start : tie.Need-part-read-record-start Inv-loop μ-loop
-part-read-record-start c = search needs
+part-unusual-start : tie.Need-part-unusual-start Inv-loop μ-loop
+part-unusual-start c = search needs
 
-part-read-record-end : tie.Need-part-read-record-end Inv-loop μ-loop
-part-read-record-end c = omega (arith, c .before .before .record-size .ensures, reading-fits (c .before .before .before .before .before .before .args .s) (c .before .before .before .before .before .before .args .input .now) (c .before .loop .items) (c .before .loop .table) (c .before .loop .st) (c .before .loop .at) (c .before .loop .k) (c .before .before .before .before .before .before .pre .0 .0) (c .before .before .before .before .before .before .pre .0 .1) (c .before .before .before .before .before .before .pre .0 .2) (c .before .loop .inv) (c .loop-test .taken))
+part-unusual-end : tie.Need-part-unusual-end Inv-loop μ-loop
+part-unusual-end c =
+    let a = c .before .before .before .before .before .before .before .before .before .before .before .before .before .before .before .args in
+    omega (arith, c .before .before .before .before .before .before .before .before .before .before .record-size .ensures, reading-fits (a .s) (a .input .now) (c .before .before .before .before .before .skim .last .1 .1 .1 .1 .0) (c .before .before .before .before .before .skim .last .1 .1 .1 .1 .1 .0) (c .before .before .before .before .before .skim .result .st) (c .before .before .before .before .before .skim .result .at) (c .before .before .before .before .before .skim .ensures .reading) (c .if1 .left))
 
-read-record-requires : tie.Need-read-record-requires Inv-loop μ-loop
-read-record-requires c κs = (this-long (c .before .before .before .before .before .before .before .before .before .args .s) (c .before .before .before .before .before .before .before .before .before .args .input .now) (c .before .before .before .before .loop .at) (c .before .before .before .before .before .record-size .result) (c .before .before .before .before .before .record-size .ensures) (reading-fits (c .before .before .before .before .before .before .before .before .before .args .s) (c .before .before .before .before .before .before .before .before .before .args .input .now) (c .before .before .before .before .loop .items) (c .before .before .before .before .loop .table) (c .before .before .before .before .loop .st) (c .before .before .before .before .loop .at) (c .before .before .before .before .loop .k) (c .before .before .before .before .before .before .before .before .before .pre .0 .0) (c .before .before .before .before .before .before .before .before .before .pre .0 .1) (c .before .before .before .before .before .before .before .before .before .pre .0 .2) (c .before .before .before .before .loop .inv) (c .before .before .before .loop-test .taken)), reading-ready (c .before .before .before .before .before .before .before .before .before .args .s) (c .before .before .before .before .before .before .before .before .before .args .input .now) (c .before .before .before .before .loop .items) (c .before .before .before .before .loop .table) (c .before .before .before .before .loop .st) (c .before .before .before .before .loop .at) (c .before .before .before .before .loop .k) (c .before .before .before .before .before .before .before .before .before .pre .0 .0) (c .before .before .before .before .before .before .before .before .before .pre .0 .1) (c .before .before .before .before .before .before .before .before .before .pre .0 .2) (c .before .before .before .before .loop .inv) (c .before .before .before .loop-test .taken))
+unusual-requires : tie.Need-unusual-requires Inv-loop μ-loop
+unusual-requires c κs =
+    let a = c .before .before .before .before .before .before .before .before .before .before .before .before .before .before .before .before .before .before .before .args in
+    let h = (c .before .before .before .before .before .before .before .before .before .skim .ensures .holding (c .before .before .before .before .before .before .before .before .before .before .before .before .loop .marks) (c .before .before .before .before .before .before .before .before .before .before .before .before .loop .inv .holding)) in
+    let fits = reading-fits (a .s) (a .input .now) (c .before .before .before .before .before .before .before .before .before .skim .last .1 .1 .1 .1 .0) (c .before .before .before .before .before .before .before .before .before .skim .last .1 .1 .1 .1 .1 .0) (c .before .before .before .before .before .before .before .before .before .skim .result .st) (c .before .before .before .before .before .before .before .before .before .skim .result .at) (c .before .before .before .before .before .before .before .before .before .skim .ensures .reading) (c .before .before .before .before .if1 .left) in (
+      this-long (a .s) (a .input .now) (c .before .before .before .before .before .before .before .before .before .skim .result .at) (c .before .before .before .before .before .before .before .before .before .before .before .before .before .before .record-size .result) (c .before .before .before .before .before .before .before .before .before .before .before .before .before .before .record-size .ensures) fits,
+      reading-ready (a .s) (a .input .now) (c .before .before .before .before .before .before .before .before .before .skim .last .1 .1 .1 .1 .0) (c .before .before .before .before .before .before .before .before .before .skim .last .1 .1 .1 .1 .1 .0) (c .before .before .before .before .before .before .before .before .before .skim .result .st) (c .before .before .before .before .before .before .before .before .before .skim .result .at) (c .before .before .before .before .before .before .before .before .before .skim .ensures .reading) (c .before .before .before .before .if1 .left),
+      h .long,
+      h .clear,
+    )
 
 enum-known-r : tie.Need-enum-known-r Inv-loop μ-loop
 enum-known-r c = search needs
 
-same-length : tie.Need-same-length Inv-loop μ-loop
-same-length c = c .before .before .before .before .before .before .before .read-record .kept .1 .1 .1 .0 ∙ c .before .before .before .before .before .before .before .before .before .before .before .before .loop .inv .sameItems ∙ sym (c .before .before .before .before .before .before .before .before .before .before .before .before .before .before .before .before .before .pre .1 .0)
+same-length-4 : tie.Need-same-length-4 Inv-loop μ-loop
+same-length-4 c = c .before .before .before .before .before .before .before .before .before .unusual .kept .1 .1 .1 .0 ∙ c .before .before .before .before .before .before .before .before .before .before .before .before .before .before .before .before .before .before .before .skim .ensures .reading .sameOctets ∙ sym (c .before .before .before .before .before .before .before .before .before .before .before .before .before .before .before .before .before .before .before .before .before .before .before .before .before .before .before .before .before .pre .1 .0)
 
-same-length-2 : tie.Need-same-length-2 Inv-loop μ-loop
-same-length-2 c = c .before .before .before .before .before .before .before .read-record .kept .1 .1 .1 .1 .0 ∙ c .before .before .before .before .before .before .before .before .before .before .before .before .loop .inv .sameTable ∙ sym (c .before .before .before .before .before .before .before .before .before .before .before .before .before .before .before .before .before .pre .1 .1)
+same-length-5 : tie.Need-same-length-5 Inv-loop μ-loop
+same-length-5 c = c .before .before .before .before .before .before .before .before .before .unusual .kept .1 .1 .1 .1 .0 ∙ c .before .before .before .before .before .before .before .before .before .before .before .before .before .before .before .before .before .before .before .before .before .before .loop .inv .holding .long ∙ c .before .before .before .before .before .before .before .before .before .before .before .before .before .before .before .before .before .before .before .before .before .before .loop .inv .reading .sameOctets ∙ sym (c .before .before .before .before .before .before .before .before .before .before .before .before .before .before .before .before .before .before .before .before .before .before .before .before .before .before .before .before .before .pre .1 .1)
 
-returns : tie.Need-returns Inv-loop μ-loop
-returns c =
-    reading-refused (c .before .before .before .before .before .before .before .before .before .before .before .before .before .before .before .before .before .args .s) (c .before .before .before .before .before .before .before .before .before .before .before .before .before .before .before .before .before .args .input .now) (c .before .before .before .before .before .before .before .before .before .before .before .before .loop .items) (c .before .before .before .before .before .before .before .before .before .before .before .before .loop .table) (c .before .before .before .before .before .before .before .before .before .before .before .before .loop .st) (c .before .before .before .before .before .before .before .before .before .before .before .before .loop .at) (c .before .before .before .before .before .before .before .before .before .before .before .before .loop .k) (c .before .before .before .before .before .before .before .before .before .before .before .before .before .before .before .before .before .pre .0 .0) (c .before .before .before .before .before .before .before .before .before .before .before .before .before .before .before .before .before .pre .0 .1) (c .before .before .before .before .before .before .before .before .before .before .before .before .before .before .before .before .before .pre .0 .2) (c .before .before .before .before .before .before .before .before .before .before .before .before .loop .inv) (c .before .before .before .before .before .before .before .before .before .before .before .loop-test .taken) (take (c .before .before .before .before .before .before .before .before .before .before .before .before .loop .at + c .before .before .before .before .before .before .before .before .before .before .before .before .before .record-size .result - c .before .before .before .before .before .before .before .before .before .before .before .before .loop .at) (drop (c .before .before .before .before .before .before .before .before .before .before .before .before .loop .at) (c .before .before .before .before .before .before .before .before .before .before .before .before .before .before .before .before .before .args .input .now))) (c .before .r .given .0 .0)
-    (this-record (c .before .before .before .before .before .before .before .before .before .before .before .before .before .before .before .before .before .args .s) (c .before .before .before .before .before .before .before .before .before .before .before .before .before .before .before .before .before .args .input .now) (c .before .before .before .before .before .before .before .before .before .before .before .before .loop .at) (c .before .before .before .before .before .before .before .before .before .before .before .before .before .record-size .result) (c .before .before .before .before .before .before .before .before .before .before .before .before .before .record-size .ensures))
-    (rw (c .before .r .given .1) at (c .before .before .before .before .before .before .before .read-record .ensures))
+same-length-6 : tie.Need-same-length-6 Inv-loop μ-loop
+same-length-6 c = c .before .before .before .before .before .before .before .before .before .unusual .kept .1 .1 .1 .1 .1 .0 ∙ c .before .before .before .before .before .before .before .before .before .before .before .before .before .before .before .before .before .before .before .skim .ensures .reading .sameTable ∙ sym (c .before .before .before .before .before .before .before .before .before .before .before .before .before .before .before .before .before .before .before .before .before .before .before .before .before .before .before .before .before .pre .1 .2)
+
+returns-2 : tie.Need-returns-2 Inv-loop μ-loop
+returns-2 c =
+    let a = c .before .before .before .before .before .before .before .before .before .before .before .before .before .before .before .before .before .before .before .before .before .before .before .before .before .before .before .before .before .args in
+    reading-refused (a .s) (a .input .now) (c .before .before .before .before .before .before .before .before .before .before .before .before .before .before .before .before .before .before .before .skim .last .1 .1 .1 .1 .0) (c .before .before .before .before .before .before .before .before .before .before .before .before .before .before .before .before .before .before .before .skim .last .1 .1 .1 .1 .1 .0) (c .before .before .before .before .before .before .before .before .before .before .before .before .before .before .before .before .before .before .before .skim .result .st) (c .before .before .before .before .before .before .before .before .before .before .before .before .before .before .before .before .before .before .before .skim .result .at) (c .before .before .before .before .before .before .before .before .before .before .before .before .before .before .before .before .before .before .before .skim .ensures .reading) (c .before .before .before .before .before .before .before .before .before .before .before .before .before .before .if1 .left) (take (c .before .before .before .before .before .before .before .before .before .before .before .before .before .before .before .before .before .before .before .skim .result .at + c .before .before .before .before .before .before .before .before .before .before .before .before .before .before .before .before .before .before .before .before .before .before .before .before .record-size .result - c .before .before .before .before .before .before .before .before .before .before .before .before .before .before .before .before .before .before .before .skim .result .at) (drop (c .before .before .before .before .before .before .before .before .before .before .before .before .before .before .before .before .before .before .before .skim .result .at) (a .input .now))) (c .before .r .given .0 .0) (this-record (a .s) (a .input .now) (c .before .before .before .before .before .before .before .before .before .before .before .before .before .before .before .before .before .before .before .skim .result .at) (c .before .before .before .before .before .before .before .before .before .before .before .before .before .before .before .before .before .before .before .before .before .before .before .before .record-size .result) (c .before .before .before .before .before .before .before .before .before .before .before .before .before .before .before .before .before .before .before .before .before .before .before .before .record-size .ensures))
+    (rw (c .before .r .given .1) at (c .before .before .before .before .before .before .before .before .before .unusual .ensures))
 
 enum-known-o : tie.Need-enum-known-o Inv-loop μ-loop
 enum-known-o c = search needs
 
-add-k : tie.Need-add-k Inv-loop μ-loop
-add-k c = omega (arith, c .before .before .before .before .before .before .before .before .before .before .before .before .loop .inv .many, c .before .before .before .before .before .before .before .before .before .before .before .before .loop .inv .within, c .before .before .before .before .before .before .before .before .before .before .before .before .before .before .before .before .before .pre .0 .2)
+enum-known-o-2 : tie.Need-enum-known-o-2 Inv-loop μ-loop
+enum-known-o-2 c = search needs
 
 loop-less : tie.Need-loop-less Inv-loop μ-loop
-loop-less c = omega (arith, c .before .before .before .before .before .before .before .before .before .before .before .before .before .record-size .ensures, size-low (c .before .before .before .before .before .before .before .before .before .before .before .before .before .before .before .before .before .args .s), c .before .before .before .before .before .before .before .before .before .before .before .loop-test .taken, reading-fits (c .before .before .before .before .before .before .before .before .before .before .before .before .before .before .before .before .before .args .s) (c .before .before .before .before .before .before .before .before .before .before .before .before .before .before .before .before .before .args .input .now) (c .before .before .before .before .before .before .before .before .before .before .before .before .loop .items) (c .before .before .before .before .before .before .before .before .before .before .before .before .loop .table) (c .before .before .before .before .before .before .before .before .before .before .before .before .loop .st) (c .before .before .before .before .before .before .before .before .before .before .before .before .loop .at) (c .before .before .before .before .before .before .before .before .before .before .before .before .loop .k) (c .before .before .before .before .before .before .before .before .before .before .before .before .before .before .before .before .before .pre .0 .0) (c .before .before .before .before .before .before .before .before .before .before .before .before .before .before .before .before .before .pre .0 .1) (c .before .before .before .before .before .before .before .before .before .before .before .before .before .before .before .before .before .pre .0 .2) (c .before .before .before .before .before .before .before .before .before .before .before .before .loop .inv) (c .before .before .before .before .before .before .before .before .before .before .before .loop-test .taken))
+loop-less c =
+    let a = c .before .before .before .before .before .before .before .before .before .before .before .before .before .before .before .before .before .before .before .before .before .before .before .before .before .before .before .before .before .args in
+    omega (arith, c .before .before .before .before .before .before .before .before .before .before .before .before .before .before .before .before .before .before .before .before .before .before .before .before .record-size .ensures, size-pos (a .s), c .before .before .before .before .before .before .before .before .before .before .before .before .before .before .before .before .before .before .before .skim .ensures .on, c .before .before .before .before .before .before .before .before .before .before .before .before .before .before .if1 .left, reading-fits (a .s) (a .input .now) (c .before .before .before .before .before .before .before .before .before .before .before .before .before .before .before .before .before .before .before .skim .last .1 .1 .1 .1 .0) (c .before .before .before .before .before .before .before .before .before .before .before .before .before .before .before .before .before .before .before .skim .last .1 .1 .1 .1 .1 .0) (c .before .before .before .before .before .before .before .before .before .before .before .before .before .before .before .before .before .before .before .skim .result .st) (c .before .before .before .before .before .before .before .before .before .before .before .before .before .before .before .before .before .before .before .skim .result .at) (c .before .before .before .before .before .before .before .before .before .before .before .before .before .before .before .before .before .before .before .skim .ensures .reading) (c .before .before .before .before .before .before .before .before .before .before .before .before .before .before .if1 .left))
 
 loop-again : tie.Need-loop-again Inv-loop μ-loop
 loop-again c =
-    subst
-    (λ (z : ℕ). Reading (c .before .before .before .before .before .before .before .before .before .before .before .before .before .before .before .before .before .args .s) (c .before .before .before .before .before .before .before .before .before .before .before .before .before .before .before .before .before .args .input .now) (c .before .before .before .before .before .before .before .read-record .last .1 .1 .1 .0) (c .before .before .before .before .before .before .before .read-record .last .1 .1 .1 .1 .0) (c .before .o .given .0 .0) (c .before .before .before .before .before .before .before .before .before .before .before .before .loop .at + z) (c .before .before .before .before .before .before .before .before .before .before .before .before .loop .k + 1))
-    (sym (c .before .before .before .before .before .before .before .before .before .before .before .before .before .record-size .ensures))
-    (reading-next (c .before .before .before .before .before .before .before .before .before .before .before .before .before .before .before .before .before .args .s) (c .before .before .before .before .before .before .before .before .before .before .before .before .before .before .before .before .before .args .input .now) (c .before .before .before .before .before .before .before .before .before .before .before .before .loop .items) (c .before .before .before .before .before .before .before .before .before .before .before .before .loop .table) (c .before .before .before .before .before .before .before .before .before .before .before .before .loop .st) (c .before .before .before .before .before .before .before .before .before .before .before .before .loop .at) (c .before .before .before .before .before .before .before .before .before .before .before .before .loop .k) (c .before .before .before .before .before .before .before .before .before .before .before .before .before .before .before .before .before .pre .0 .0) (c .before .before .before .before .before .before .before .before .before .before .before .before .before .before .before .before .before .pre .0 .1) (c .before .before .before .before .before .before .before .before .before .before .before .before .before .before .before .before .before .pre .0 .2) (c .before .before .before .before .before .before .before .before .before .before .before .before .loop .inv) (c .before .before .before .before .before .before .before .before .before .before .before .loop-test .taken) (take (c .before .before .before .before .before .before .before .before .before .before .before .before .loop .at + c .before .before .before .before .before .before .before .before .before .before .before .before .before .record-size .result - c .before .before .before .before .before .before .before .before .before .before .before .before .loop .at) (drop (c .before .before .before .before .before .before .before .before .before .before .before .before .loop .at) (c .before .before .before .before .before .before .before .before .before .before .before .before .before .before .before .before .before .args .input .now))) (c .before .before .before .before .before .before .before .read-record .last .1 .1 .1 .0) (c .before .before .before .before .before .before .before .read-record .last .1 .1 .1 .1 .0) (c .before .o .given .0 .0)
-    (this-record (c .before .before .before .before .before .before .before .before .before .before .before .before .before .before .before .before .before .args .s) (c .before .before .before .before .before .before .before .before .before .before .before .before .before .before .before .before .before .args .input .now) (c .before .before .before .before .before .before .before .before .before .before .before .before .loop .at) (c .before .before .before .before .before .before .before .before .before .before .before .before .before .record-size .result) (c .before .before .before .before .before .before .before .before .before .before .before .before .before .record-size .ensures))
-    (rw (c .before .o .given .1) at (c .before .before .before .before .before .before .before .read-record .ensures)))
+    let a = c .before .before .before .before .before .before .before .before .before .before .before .before .before .before .before .before .before .before .before .before .before .before .before .before .before .before .before .before .before .args in
+    let n = rw (c .before .o .given .1) at (c .before .before .before .before .before .before .before .before .before .unusual .ensures) in
+    rw (c .before .before .before .before .before .before .before .before .before .before .before .before .before .before .before .before .before .before .before .before .before .before .before .before .record-size .ensures)
+    (parsing-read (a .s) (a .input .now) (c .before .before .before .before .before .before .before .before .before .before .before .before .before .before .before .before .before .before .before .skim .last .1 .1 .1 .1 .0) (c .before .before .before .before .before .before .before .before .before .before .before .before .before .before .before .before .before .before .before .before .before .before .loop .marks) (c .before .before .before .before .before .before .before .before .before .before .before .before .before .before .before .before .before .before .before .skim .last .1 .1 .1 .1 .1 .0) (c .before .before .before .before .before .before .before .before .before .before .before .before .before .before .before .before .before .before .before .skim .result .st) (c .before .before .before .before .before .before .before .before .before .before .before .before .before .before .before .before .before .before .before .skim .result .at) (c .before .before .before .before .before .before .before .before .before .before .before .before .before .before .before .before .before .before .before .skim .ensures .reading)
+    (c .before .before .before .before .before .before .before .before .before .before .before .before .before .before .before .before .before .before .before .skim .ensures .holding (c .before .before .before .before .before .before .before .before .before .before .before .before .before .before .before .before .before .before .before .before .before .before .loop .marks) (c .before .before .before .before .before .before .before .before .before .before .before .before .before .before .before .before .before .before .before .before .before .before .loop .inv .holding)) (c .before .before .before .before .before .before .before .before .before .before .before .before .before .before .if1 .left) (take (c .before .before .before .before .before .before .before .before .before .before .before .before .before .before .before .before .before .before .before .skim .result .at + c .before .before .before .before .before .before .before .before .before .before .before .before .before .before .before .before .before .before .before .before .before .before .before .before .record-size .result - c .before .before .before .before .before .before .before .before .before .before .before .before .before .before .before .before .before .before .before .skim .result .at) (drop (c .before .before .before .before .before .before .before .before .before .before .before .before .before .before .before .before .before .before .before .skim .result .at) (a .input .now))) (this-record (a .s) (a .input .now) (c .before .before .before .before .before .before .before .before .before .before .before .before .before .before .before .before .before .before .before .skim .result .at) (c .before .before .before .before .before .before .before .before .before .before .before .before .before .before .before .before .before .before .before .before .before .before .before .before .record-size .result) (c .before .before .before .before .before .before .before .before .before .before .before .before .before .before .before .before .before .before .before .before .before .before .before .before .record-size .ensures))
+    (c .before .before .before .before .before .before .before .before .before .unusual .last .1 .1 .1 .0) (c .before .before .before .before .before .before .before .before .before .unusual .last .1 .1 .1 .1 .0) (c .before .before .before .before .before .before .before .before .before .unusual .last .1 .1 .1 .1 .1 .0) (c .before .o .given .0 .0) (c .before .before .before .before .before .before .before .before .before .before .before .before .before .before .before .before .before .before .before .before .before .before .loop .plain) (c .before .before .before .before .before .before .before .before .before .unusual .kept .1 .1 .1 .0) (c .before .before .before .before .before .before .before .before .before .unusual .kept .1 .1 .1 .1 .0) (n .0) (n .1) (c .before .before .before .before .before .before .before .before .before .before .before .before .before .before .before .before .before .before .before .before .before .before .loop .inv .unmarked))
 
-finish-requires : tie.Need-finish-requires Inv-loop μ-loop
-finish-requires c κs = reading-closes (c .before .before .before .before .before .before .before .args .s) (c .before .before .before .before .before .before .before .args .input .now) (c .before .before .loop .items) (c .before .before .loop .table) (c .before .before .loop .st) (c .before .before .loop .at) (c .before .before .loop .k) (c .before .before .before .before .before .before .before .pre .0 .0) (c .before .before .before .before .before .before .before .pre .0 .1) (c .before .before .before .before .before .before .before .pre .0 .2) (c .before .before .loop .inv) (c .before .loop-test .left)
+loop-less-2 : tie.Need-loop-less-2 Inv-loop μ-loop
+loop-less-2 c =
+    let a = c .before .before .before .before .before .before .before .before .before .before .before .before .before .before .before .before .before .before .before .before .before .before .before .before .before .before .before .before .before .args in
+    omega (arith, c .before .before .before .before .before .before .before .before .before .before .before .before .before .before .before .before .before .before .before .before .before .before .before .before .record-size .ensures, size-pos (a .s), c .before .before .before .before .before .before .before .before .before .before .before .before .before .before .before .before .before .before .before .skim .ensures .on, c .before .before .before .before .before .before .before .before .before .before .before .before .before .before .if1 .left, reading-fits (a .s) (a .input .now) (c .before .before .before .before .before .before .before .before .before .before .before .before .before .before .before .before .before .before .before .skim .last .1 .1 .1 .1 .0) (c .before .before .before .before .before .before .before .before .before .before .before .before .before .before .before .before .before .before .before .skim .last .1 .1 .1 .1 .1 .0) (c .before .before .before .before .before .before .before .before .before .before .before .before .before .before .before .before .before .before .before .skim .result .st) (c .before .before .before .before .before .before .before .before .before .before .before .before .before .before .before .before .before .before .before .skim .result .at) (c .before .before .before .before .before .before .before .before .before .before .before .before .before .before .before .before .before .before .before .skim .ensures .reading) (c .before .before .before .before .before .before .before .before .before .before .before .before .before .before .if1 .left))
 
-same-length-3 : tie.Need-same-length-3 Inv-loop μ-loop
-same-length-3 c = c .before .before .before .before .before .loop .inv .sameItems ∙ sym (c .before .before .before .before .before .before .before .before .before .before .pre .1 .0)
-
-same-length-4 : tie.Need-same-length-4 Inv-loop μ-loop
-same-length-4 c = c .before .before .finish .kept .0 ∙ c .before .before .before .before .before .loop .inv .sameTable ∙ sym (c .before .before .before .before .before .before .before .before .before .before .pre .1 .1)
-
-returns-2 : tie.Need-returns-2 Inv-loop μ-loop
-returns-2 c =
-    record {
-      faultless = reading-faultless (c .before .before .before .before .before .before .before .before .before .before .args .s) (c .before .before .before .before .before .before .before .before .before .before .args .input .now) (c .before .before .before .before .before .loop .items) (c .before .before .before .before .before .loop .table) (c .before .before .before .before .before .loop .st) (c .before .before .before .before .before .loop .at) (c .before .before .before .before .before .loop .k) (c .before .before .before .before .before .before .before .before .before .before .pre .0 .0) (c .before .before .before .before .before .before .before .before .before .before .pre .0 .1) (c .before .before .before .before .before .before .before .before .before .before .pre .0 .2) (c .before .before .before .before .before .loop .inv) (c .before .before .before .before .loop-test .left);
-      finished = c .before .before .finish .ensures (c .before .before .before .before .before .loop .items) _ (reading-stands (c .before .before .before .before .before .before .before .before .before .before .args .s) (c .before .before .before .before .before .before .before .before .before .before .args .input .now) (c .before .before .before .before .before .loop .items) (c .before .before .before .before .before .loop .table) (c .before .before .before .before .before .loop .st) (c .before .before .before .before .before .loop .at) (c .before .before .before .before .before .loop .k) (c .before .before .before .before .before .before .before .before .before .before .pre .0 .0) (c .before .before .before .before .before .before .before .before .before .before .pre .0 .1) (c .before .before .before .before .before .before .before .before .before .before .pre .0 .2) (c .before .before .before .before .before .loop .inv) (c .before .before .before .before .loop-test .left));
-    }
+loop-again-2 : tie.Need-loop-again-2 Inv-loop μ-loop
+loop-again-2 c =
+    let a = c .before .before .before .before .before .before .before .before .before .before .before .before .before .before .before .before .before .before .before .before .before .before .before .before .before .before .before .before .before .args in
+    let n = rw (c .before .o2 .given .1) at (c .before .before .before .before .before .before .before .before .before .unusual .ensures) in
+    rw (c .before .before .before .before .before .before .before .before .before .before .before .before .before .before .before .before .before .before .before .before .before .before .before .before .record-size .ensures)
+    (parsing-marked (a .s) (a .input .now) (c .before .before .before .before .before .before .before .before .before .before .before .before .before .before .before .before .before .before .before .skim .last .1 .1 .1 .1 .0) (c .before .before .before .before .before .before .before .before .before .before .before .before .before .before .before .before .before .before .before .before .before .before .loop .marks) (c .before .before .before .before .before .before .before .before .before .before .before .before .before .before .before .before .before .before .before .skim .last .1 .1 .1 .1 .1 .0) (c .before .before .before .before .before .before .before .before .before .before .before .before .before .before .before .before .before .before .before .skim .result .st) (c .before .before .before .before .before .before .before .before .before .before .before .before .before .before .before .before .before .before .before .skim .result .at) (c .before .before .before .before .before .before .before .before .before .before .before .before .before .before .before .before .before .before .before .skim .ensures .reading)
+    (c .before .before .before .before .before .before .before .before .before .before .before .before .before .before .before .before .before .before .before .skim .ensures .holding (c .before .before .before .before .before .before .before .before .before .before .before .before .before .before .before .before .before .before .before .before .before .before .loop .marks) (c .before .before .before .before .before .before .before .before .before .before .before .before .before .before .before .before .before .before .before .before .before .before .loop .inv .holding)) (c .before .before .before .before .before .before .before .before .before .before .before .before .before .before .if1 .left) (take (c .before .before .before .before .before .before .before .before .before .before .before .before .before .before .before .before .before .before .before .skim .result .at + c .before .before .before .before .before .before .before .before .before .before .before .before .before .before .before .before .before .before .before .before .before .before .before .before .record-size .result - c .before .before .before .before .before .before .before .before .before .before .before .before .before .before .before .before .before .before .before .skim .result .at) (drop (c .before .before .before .before .before .before .before .before .before .before .before .before .before .before .before .before .before .before .before .skim .result .at) (a .input .now))) (this-record (a .s) (a .input .now) (c .before .before .before .before .before .before .before .before .before .before .before .before .before .before .before .before .before .before .before .skim .result .at) (c .before .before .before .before .before .before .before .before .before .before .before .before .before .before .before .before .before .before .before .before .before .before .before .before .record-size .result) (c .before .before .before .before .before .before .before .before .before .before .before .before .before .before .before .before .before .before .before .before .before .before .before .before .record-size .ensures))
+    (c .before .before .before .before .before .before .before .before .before .unusual .last .1 .1 .1 .0) (c .before .before .before .before .before .before .before .before .before .unusual .last .1 .1 .1 .1 .0) (c .before .before .before .before .before .before .before .before .before .unusual .last .1 .1 .1 .1 .1 .0) (c .before .o2 .given .0 .0) false (c .before .before .before .before .before .before .before .before .before .unusual .kept .1 .1 .1 .0) (c .before .before .before .before .before .before .before .before .before .unusual .kept .1 .1 .1 .1 .0) n refl)
 
 pub parse-spec : {M : Type 1} → statement M
 parse-spec =
@@ -95,21 +142,27 @@ parse-spec =
     Inv-loop
     μ-loop
     record-size-requires
+    full-mask-requires
     loop-holds
-    add-e
-    sub-read-record
-    part-read-record-start
-    part-read-record-end
-    read-record-requires
-    enum-known-r
+    skim-requires
+    finish-requires
     same-length
     same-length-2
+    same-length-3
     returns
+    add-e
+    sub-unusual
+    part-unusual-start
+    part-unusual-end
+    unusual-requires
+    enum-known-r
+    same-length-4
+    same-length-5
+    same-length-6
+    returns-2
     enum-known-o
-    add-k
+    enum-known-o-2
     loop-less
     loop-again
-    finish-requires
-    same-length-3
-    same-length-4
-    returns-2)
+    loop-less-2
+    loop-again-2)

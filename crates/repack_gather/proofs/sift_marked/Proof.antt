@@ -1,0 +1,67 @@
+-- `repack_gather::sift_marked` meets its contract: lane by lane, what is left to keep gets shorter. Assumes nothing.
+use native.Mathlib.Omega.{arith}
+use mathlib.Core.Path.{_∙_, sym}
+use Prim.Native.Nat.{_-_}
+use lib.ListN.{length}
+use Rattle.repack_gather.proofs.Marked.{Marking, marking-starts, marking-lane, marking-done}
+use borrow.Author.Needs.{needs}
+use Rattle.repack_gather.proofs.sift_marked.Statement.{statement}
+use Rattle.repack_gather.proofs.sift_marked.Tie as tie
+
+abbrev Inv-loop : tie.InvT-loop
+Inv-loop octets₀ marks₀ at lanes keep strb n₀ k₀ t₀ j₀ octets marks n k t j = Marking keep strb lanes octets₀ marks₀ at octets marks n k t j
+
+abbrev μ-loop : tie.MeasureT-loop
+μ-loop octets₀ marks₀ at lanes keep strb n₀ k₀ t₀ j₀ octets marks n k t j = length lanes - j
+
+loop-holds : tie.Need-loop-holds Inv-loop μ-loop
+loop-holds c = let a = c .before .before .before .args in marking-starts (a .keep) (a .strb) (a .lanes .now) (a .octets .now) (a .marks .now) (a .at) (c .before .before .before .pre .0)
+
+shared-slice-read-keep-marked : tie.Need-shared-slice-read-keep-marked Inv-loop μ-loop
+shared-slice-read-keep-marked c = search needs
+
+keep-marked-requires : tie.Need-keep-marked-requires Inv-loop μ-loop
+keep-marked-requires c κs = search needs
+
+add-j : tie.Need-add-j Inv-loop μ-loop
+add-j c = search needs
+
+loop-less : tie.Need-loop-less Inv-loop μ-loop
+loop-less c = search needs
+
+loop-again : tie.Need-loop-again Inv-loop μ-loop
+loop-again c =
+    let a = c .before .before .before .before .before .before .before .before .before .before .before .before .before .args in
+    let l = c .before .before .before .before .before .before .before .before .before .loop in
+    let e = c .before .before .before .before .keep-marked .ensures in
+    marking-lane (a .keep) (a .strb) (a .lanes .now) (a .octets .now) (a .marks .now) (a .at) (c .before .before .before .before .before .before .before .before .before .before .before .before .before .pre .0) (l .octets) (l .marks) (l .n) (l .k) (l .t) (l .j) (l .inv)
+    (c .before .before .before .before .before .before .before .before .before .before .before .before .before .pre .1) (c .before .before .before .before .before .before .before .before .loop-test .taken) (c .before .before .before .before .keep-marked .last .0) (c .before .before .before .before .keep-marked .last .1 .0) (c .before .before .before .before .keep-marked .result) (e .0) (e .1) (e .2)
+
+same-length : tie.Need-same-length Inv-loop μ-loop
+same-length c = c .before .loop .inv .sameOctets
+
+same-length-2 : tie.Need-same-length-2 Inv-loop μ-loop
+same-length-2 c = c .before .loop .inv .sameMarks ∙ sym (c .before .before .before .before .before .pre .0)
+
+returns : tie.Need-returns Inv-loop μ-loop
+returns c =
+    let a = c .before .before .before .before .before .args in
+    let l = c .before .loop in
+    marking-done (a .keep) (a .strb) (a .lanes .now) (a .octets .now) (a .marks .now) (a .at) (c .before .before .before .before .before .pre .0) (l .octets) (l .marks) (l .n) (l .k) (l .t) (l .j) (l .inv)
+    (c .loop-test .left)
+
+pub sift-marked-spec : {M : Type 1} → statement M
+sift-marked-spec =
+    tie.close
+    (tie.spec
+    Inv-loop
+    μ-loop
+    loop-holds
+    shared-slice-read-keep-marked
+    keep-marked-requires
+    add-j
+    loop-less
+    loop-again
+    same-length
+    same-length-2
+    returns)

@@ -1,0 +1,144 @@
+-- The usual record: what its two words tell of it, that it has no fault, and that adding it is a step of reading. Assumes
+-- nothing.
+use mathlib.Core.Path.{_≡_, refl, sym, ap, _∙_}
+use mathlib.Core.List.{List, [], _∷_}
+use mathlib.Core.Option.{none}
+use Prim.Native.Nat.{ℕ, zero, suc, _+_, _-_, _*_, _/_, _%_, _^_, _≤_, _<_}
+use native.Mathlib.Omega.{arith}
+use native.Mathlib.Nat.{add-zero}
+use lib.Pow.{pow-pos}
+use lib.ListN.{length, getD, take, drop, replicate, length-drop, length-replicate}
+use lib.Seq.{getD-drop, getD-take, drop-drop, drop-at, take-add, take-take, length-take-le}
+use Rattle.stream.specs.declared.Shape.{Shape}
+use Rattle.stream.specs.Layout.{size, dataOctets, tkeep, tstrb, flags, pairOf}
+use Rattle.stream.specs.Legal.{Octets}
+use Rattle.stream.proofs.Legal.{octets-take, octets-drop}
+use Rattle.stream.specs.Checks.{first, transferChecks}
+use Rattle.words.specs.Words.{wordAt}
+use Rattle.record.specs.declared.Header.{Header}
+use Rattle.record.specs.Header.{headerOf}
+use Rattle.record.specs.Usual.{Usual, UsualWords}
+use Rattle.scratch.specs.declared.Open.{Open}
+use Rattle.scratch.specs.Codes.{heldCodes}
+use Rattle.scratch.proofs.Held.{unmarked-at}
+use Rattle.repack_gather.specs.Gather.{Clear}
+use Rattle.repack_parse.specs.Read.{Ready, Filled, Added, AddedData}
+use Rattle.repack_parse.specs.Reading.{UsualAt, Reading, Holding, Skimmed}
+use Rattle.repack_parse.proofs.Faults.{Fields, data-faultless}
+use Rattle.repack_parse.proofs.Records.{size-low, octets-of, codeOf, lanes-long, paired-same, add-filled}
+use Rattle.repack_parse.proofs.Take.{reading-next, holding-next}
+
+-- ---- the words of a record that starts at octet `a`
+
+word-drop : (k a : ℕ) (xs : List ℕ) (i : ℕ) → wordAt k xs (a + i) ≡ wordAt k (drop a xs) i
+word-drop zero a xs i = refl
+word-drop (suc k) a xs i =
+    let next : a + i + 1 ≡ a + (i + 1) = omega arith in
+    rw (getD-drop a xs i 0, next, word-drop k a xs (i + 1)) refl
+
+pub usual-told : (input : List ℕ) (at pair full lo hi : ℕ) → ((i : ℕ) → getD input i 0 < 256) → lo ≡ wordAt 4 input at → hi ≡ wordAt 4 input (at + 3)
+    → UsualWords lo hi pair full → UsualAt input at pair full
+usual-told input at pair full lo hi b l h u =
+    let low : wordAt 4 input at ≡ wordAt 4 (drop at input) 0 = sym (rw (add-zero at) refl) ∙ word-drop 4 at input 0 in
+    rw (← l, ← h) (u (drop at input) (octets-drop at input (octets-of input b)) (l ∙ low) (h ∙ word-drop 4 at input 3))
+
+-- ---- the record itself
+
+-- its header is there before its lanes
+header-taken : (n : ℕ) (xs : List ℕ) → 7 ≤ n → headerOf (take n xs) ≡ headerOf xs
+header-taken n xs h =
+    rw (
+      getD-take n xs 0 0 (omega arith),
+      getD-take n xs 1 0 (omega arith),
+      getD-take n xs 2 0 (omega arith),
+      getD-take n xs 3 0 (omega arith),
+      getD-take n xs 4 0 (omega arith),
+      getD-take n xs 5 0 (omega arith),
+      getD-take n xs 6 0 (omega arith),
+    ) refl
+
+-- and its lanes behind it
+behind : (v w : ℕ) (xs : List ℕ) → v ≤ length xs → drop v (take (v + w) xs) ≡ take w (drop v xs)
+behind v w xs h = rw (take-add v w xs) (drop-at (take v xs) (take w (drop v xs)) v (length-take-le v xs h))
+
+pub lanes-taken : (s : Shape) (input : List ℕ) (at : ℕ) → at + size s ≤ length input
+    → take (at + 7 + s .width - (at + 7)) (drop (at + 7) input) ≡ dataOctets s (take (size s) (drop at input))
+unfolding size
+lanes-taken s input at h =
+    let wide : at + 7 + s .width - (at + 7) ≡ s .width = omega arith in
+    let there : 7 ≤ length (drop at input) = rw (length-drop at input) (omega arith) in
+    rw (wide, behind 7 (s .width) (drop at input) there, drop-drop 7 at input) (sym (take-take (s .width) (s .width) (drop (at + 7) input) (omega arith)))
+
+module _ (s : Shape) (input octets table : List ℕ) (st : Open) (at full : ℕ) (b : (i : ℕ) → getD input i 0 < 256) (fits : at + size s ≤ length input)
+    (fe : full ≡ 2 ^ s .width - 1) (ready : Ready s octets table st) (u : UsualAt input at (st .pair) full) where
+  abbrev rec : List ℕ
+  rec = take (size s) (drop at input)
+
+  rec-octets : Octets rec
+  rec-octets = octets-take (size s) (drop at input) (octets-drop at input (octets-of input b))
+
+  rec-long : length rec ≡ size s
+  rec-long = length-take-le (size s) (drop at input) (rw (length-drop at input) (omega arith))
+
+  told : Usual (wordAt 4 input at) (wordAt 4 input (at + 3)) (st .pair) full (headerOf rec)
+  told = rw (header-taken (size s) (drop at input) (omega (arith, size-low s))) u
+
+  usual-fields : Fields s (headerOf rec)
+  usual-fields =
+      let keep = told .keep in
+      let strb = told .strb in
+      let pos = pow-pos (s .width) in
+      record {
+        flags = omega (arith, told .flags);
+        tdest = omega (arith, told .paired, ready .pair);
+        keep = omega (arith, told .within);
+        strb = omega (arith, told .within);
+      }
+
+  pub usual-faultless : (k : ℕ) → first (transferChecks s k (rec ∷ [])) ≡ none
+  usual-faultless k = data-faultless s rec k usual-fields (told .keep ∙ sym (told .strb))
+
+  pub usual-added : (lanes octets1 table1 : List ℕ) (r : Open) (lo hi : ℕ) → lanes ≡ dataOctets s rec → lo ≡ wordAt 4 input at
+      → hi ≡ wordAt 4 input (at + 3) → Filled (hi % 65536) (lo % 2) lanes octets table st octets1 table1 r
+      → AddedData s rec octets table st octets1 table1 r
+  usual-added lanes octets1 table1 r lo hi e l h filled =
+      add-filled s rec rec-octets rec-long octets octets1 table table table1 st st r (wordAt 4 input (at + 3) % 65536) (wordAt 4 input at % 2)
+      (ready .high) (usual-fields .tdest) (told .keep) (told .strb) (told .flags) (ready .holds)
+      (λ items. paired-same s rec items table st (ready .started) (sym (told .paired))) (rw (e, l, h) at filled)
+
+  -- what filling needs, TLAST apart
+  pub usual-ready : (lanes : List ℕ) → lanes ≡ dataOctets s rec
+      → ((length lanes ≤ 16) × (st .items + length lanes ≤ length octets) × (length octets < 65536) × (full ≡ 2 ^ length lanes - 1))
+      × ((st .start ≤ st .items) × (st .closed < length table) × (st .pair < 4096))
+  usual-ready lanes e =
+      let count : length lanes ≡ s .width = ap length e ∙ lanes-long s rec rec-octets rec-long in (
+        (omega (arith, ready .high), omega (arith, ready .holds), ready .small, rw count fe),
+        (ready .started, omega (arith, ready .lists), ready .pair),
+      )
+
+-- ---- a step of skimming
+
+pub skimmed-none : (s : Shape) (input octets table : List ℕ) (st : Open) (from : ℕ) → Reading s input octets table st from
+    → Skimmed s input octets table st from octets table st from
+skimmed-none s input octets table st from r = record { on = omega arith; reading = r; holding = λ marks h. h }
+
+module _ (s : Shape) (input octets table : List ℕ) (st : Open) (from : ℕ) (octets1 table1 : List ℕ) (st1 : Open) (at : ℕ)
+    (k : Skimmed s input octets table st from octets1 table1 st1 at) where
+  pub skimmed-next : (octets2 table2 : List ℕ) (st2 : Open) → at < length input → first (transferChecks s (at / size s) (take (size s) (drop at input) ∷ [])) ≡ none
+      → AddedData s (take (size s) (drop at input)) octets1 table1 st1 octets2 table2 st2
+      → Skimmed s input octets table st from octets2 table2 st2 (at + size s)
+  skimmed-next octets2 table2 st2 more sound a =
+      let zeros = replicate {A = ℕ} (length octets1) 0 in
+      let zero-at : Clear (st1 .items) zeros = λ i h. unmarked-at zeros (rw (length-replicate {A = ℕ} (length octets1) 0) refl) i in
+      let plain = a .added zeros (length-replicate {A = ℕ} (length octets1) 0) zero-at in
+      record {
+        on = omega (arith, k .on);
+        reading =
+            reading-next s input octets1 table1 st1 at (k .reading) more (take (size s) (drop at input)) octets2 table2 st2 refl
+            (heldCodes octets1 zeros) (heldCodes octets2 zeros) sound (a .same) plain;
+        holding =
+            λ marks h.
+            let g = k .holding marks h in
+            holding-next s input octets1 table1 st1 at (k .reading) more (take (size s) (drop at input)) octets2 table2 st2 refl marks marks (a .same) refl
+            (λ i b. g .clear i (omega (arith, plain .beyond))) (a .added marks (g .long) (g .clear)) g;
+      }

@@ -1,0 +1,63 @@
+-- `words::place_some` meets its contract: two groups of four that may overlap. Assumes nothing.
+use mathlib.Core.Path.{_≡_}
+use native.Mathlib.Omega.{arith}
+use Rattle.words.proofs.Words.{rows}
+use borrow.Author.Needs.{needs}
+use Rattle.words.proofs.place_some.Statement.{statement}
+use Rattle.words.proofs.place_some.Tie as tie
+use Rattle.words.proofs.place_some.Reads as reads
+use Rattle.words.proofs.place_some.Lts as lts
+use Rattle.words.proofs.beyond.Reads as beyond-reads
+use Rattle.words.proofs.place4.Reads as place4-reads
+
+place4-requires : tie.Need-place4-requires
+place4-requires c κs = search needs
+
+add-place4 : tie.Need-add-place4
+add-place4 c = search needs
+
+sub-place4 : tie.Need-sub-place4
+sub-place4 c = search needs
+
+sub-place4-2 : tie.Need-sub-place4-2
+sub-place4-2 c = search needs
+
+sub-beyond : tie.Need-sub-beyond
+sub-beyond c = search needs
+
+beyond-requires : tie.Need-beyond-requires
+beyond-requires c κs = search needs
+
+place4-requires-2 : tie.Need-place4-requires-2
+place4-requires-2 c κs = search needs
+
+same-length : tie.Need-same-length
+same-length c = search needs
+
+returns : tie.Need-returns
+returns c = let a = c .before .before .before .before .before .before .before .before .before .before .before .before .args in
+    rows (a .to .now) (a .from .now) (c .before .before .before .before .before .before .before .before .place4 .last .0) (c .before .before .place42 .last .0) (a .at) (a .n) 4 (a .v) (c .before .before .before .beyond .result)
+    (omega (arith, c .before .before .before .before .before .before .before .before .before .before .before .before .pre .0)) (omega (arith, c .before .before .before .before .before .before .before .before .before .before .before .before .pre .1)) (omega (arith, c .before .before .before .before .before .before .before .before .before .before .before .before .pre .3)) (c .before .before .before .beyond .ensures) (c .before .before .before .before .before .before .before .before .place4 .ensures) (c .before .before .place42 .ensures)
+
+same-length-2 : tie.Need-same-length-2
+same-length-2 c = search needs
+
+returns-2 : tie.Need-returns-2
+returns-2 c = let all : c .before .before .before .before .before .before .before .args .v ≡ 4 = omega (arith, c .before .before .before .before .before .before .before .pre .0, c .if1 .left) in
+    rw all (c .before .before .before .place4 .ensures)
+
+pub place-some-spec : {M : Type 1} → statement M
+place-some-spec =
+    tie.close
+    (tie.spec
+    place4-requires
+    add-place4
+    sub-place4
+    sub-place4-2
+    sub-beyond
+    beyond-requires
+    place4-requires-2
+    same-length
+    returns
+    same-length-2
+    returns-2)
