@@ -5,11 +5,12 @@
  * returns, keeps nothing of its own between calls, allocates nothing, calls nothing back, prints nothing and reads no file.
  *
  * What the caller takes care of:
- *   - each pointer points to that many readable octets as the length after it says (for `out`, and for `capture` of
- *     urd_fill_in: writable ones), and is not NULL, even where its length is 0;
- *   - `out` shares no octet with the input of the same call;
+ *   - each pointer points to that many readable octets as the length after it says (for `out`, for `text`, and for
+ *     `capture` of urd_fill_in: writable ones), and is not NULL, even where its length is 0;
+ *   - `out` and `text` share no octet with each other, nor with the input of the same call;
  *   - nothing else writes those octets until the call has returned. Calls on other octets may run at the same time;
- *   - 160 KB of stack are free: urd_repack works in arrays of its own, of 124 KB; the other calls need less than 1 KB.
+ *   - 160 KB of stack are free: urd_repack works in arrays of its own, of 124 KB; the other calls need less than 1 KB. For
+ *     urd_report it is 288 KB: it has arrays of 128 KB, and repacks.
  *
  * Octets. A capture (paper 01: a take) is records of 7 + width octets, width 1 to 16, at most 65,536 octets in all:
  *   octet 0     bit 0 TLAST, bit 1 TVALID, bit 2 TREADY, bit 3 ARESETn; in a transfer record bit 0 alone
@@ -128,7 +129,29 @@ urd_stream_answer urd_downsize(size_t width, size_t v, const uint8_t *input, siz
 urd_part_answer urd_data_octets(size_t width, const uint8_t *capture, size_t capture_length, size_t k);
 
 /* ---- the report ---- */
-/* No call yet. Refusal 15 belongs here. */
+
+/* The verdicts. */
+#define URD_CLEAN 0
+#define URD_BROKEN 1
+#define URD_REFUSED 2
+
+/* What urd_report answers. */
+typedef struct urd_report_answer {
+    uint32_t verdict;   /* one of the three above */
+    uint32_t refusal;   /* refused: the refusal's number */
+    uint32_t rule;      /* broken: the rule, 1 to 4 */
+    uint64_t place;     /* refused: the record of refusal 3; broken: the cycle */
+    uint64_t transfers; /* clean: the transfers harvested */
+    uint64_t packets;   /* clean: how many of them have TLAST */
+    uint64_t records;   /* clean: the records written to `out` */
+    uint64_t text;      /* octets of the report's text at the front of `text`; 0 where it does not fit (103 are enough) */
+    uint64_t octets;    /* clean: octets of the result at the front of `out` */
+} urd_report_answer;
+
+/* The report on cycle records by a setup sheet. `sheet_read` and `capture_read` are 0 where the file can't be read, else not.
+ * Refusals: 15, 1 (either width), 6 (lanes mode), 2 (a capture that can't be read, too), 3 (place: the record), 5.
+ * Lent memory: `out` gets the result if clean, `text` the report's lines if they fit; nothing else in them changes. */
+urd_report_answer urd_report(const uint8_t *sheet, size_t sheet_length, uint32_t sheet_read, const uint8_t *capture, size_t capture_length, uint32_t capture_read, uint8_t *out, size_t out_length, uint8_t *text, size_t text_length);
 
 #ifdef __cplusplus
 }

@@ -122,6 +122,50 @@ static void p1(void)
     writes(urd_repack, 4, 2, TRANSFER, 2, "00 01 02 03 00 01 00 11 00 01 01 02 01 00 01 00 44 00");
 }
 
+/* ---- the report ---- */
+
+#define SHEET "width_in=4\nwidth_out=2\nmode=pack\ntlast=wired\n"
+
+/* One report: its numbers, its text, its result, and every octet of both rooms. */
+static void reports(const char *sheet, uint32_t sheet_read, const char *take, uint32_t take_read, size_t out_length, size_t text_length, urd_report_answer expected, const char *told, const char *result, const char *what)
+{
+    uint8_t input[256], out[128], text[128], lines[128];
+    size_t length = octets_of(take, input);
+    memset(out, TAIL, sizeof out);
+    memset(text, TAIL, sizeof text);
+    memset(lines, TAIL, sizeof lines);
+    memcpy(lines, told, strlen(told));
+    urd_report_answer a = urd_report((const uint8_t *)sheet, strlen(sheet), sheet_read, input, length, take_read, out, out_length, text, text_length);
+    check(a.verdict == expected.verdict && a.refusal == expected.refusal && a.rule == expected.rule && a.place == expected.place, what);
+    check(a.transfers == expected.transfers && a.packets == expected.packets && a.records == expected.records, what);
+    check(a.text == strlen(told) && a.octets == octets_of(result, input), "how long text and result are");
+    check(memcmp(text, lines, sizeof text) == 0, "the text, and nothing else");
+    room_is(out, sizeof out, result, "the result, and nothing else");
+}
+
+static void p1_report(void)
+{
+    const urd_report_answer clean = {URD_CLEAN, 0, 0, 0, 1, 1, 2, 0, 0};
+    const char *told = "verdict=clean\ntransfers=1\npackets=1\nrecords=2\n";
+    const char *result = "00 01 02 03 00 01 00 11 00 01 01 02 01 00 01 00 44 00";
+    reports(SHEET, 1, TAKE, 1, 128, 128, clean, told, result, "P1");
+    reports(SHEET, 0x80000000, TAKE, 256, 18, strlen(told), clean, told, result, "P1 in rooms that just fit");
+    reports(SHEET, 1, TAKE, 1, 18, strlen(told) - 1, clean, "", result, "P1, and no room for the text");
+}
+
+static void report_refusals(void)
+{
+    const urd_report_answer sheet = {URD_REFUSED, URD_SHEET, 0, 0, 0, 0, 0, 0, 0}, length = {URD_REFUSED, URD_LENGTH, 0, 0, 0, 0, 0, 0, 0};
+    const urd_report_answer field = {URD_REFUSED, URD_FIELD, 0, 1, 0, 0, 0, 0, 0}, room = {URD_REFUSED, URD_ROOM, 0, 0, 0, 0, 0, 0, 0};
+    const urd_report_answer broken = {URD_BROKEN, 0, 3, 1, 0, 0, 0, 0, 0};
+    reports(SHEET, 0, TAKE, 1, 128, 128, sheet, "verdict=refused\nrefusal=15\nat=0\n", "", "a sheet that can't be read");
+    reports("width_in=4\n", 1, TAKE, 0, 128, 128, sheet, "verdict=refused\nrefusal=15\nat=0\n", "", "15 before 2");
+    reports(SHEET, 1, TAKE, 0, 128, 128, length, "verdict=refused\nrefusal=2\nat=0\n", "", "a take that can't be read");
+    reports(SHEET, 1, TAKE " 1F 01 02 0D 00 09 00 11 22 33 44", 1, 128, 128, field, "verdict=refused\nrefusal=3\nat=1\n", "", "a field of record 1");
+    reports(SHEET, 1, "0A 01 02 0D 00 09 00 11 22 33 44 " TAKE, 1, 0, 128, broken, "verdict=broken\ncycle=1\nrule=3\n", "", "broken before 5");
+    reports(SHEET, 1, TAKE, 1, 17, 128, room, "verdict=refused\nrefusal=5\nat=0\n", "", "one octet too few");
+}
+
 static void s1(void) { writes(urd_repack, 4, 4, TRANSFER, 1, "01 01 02 07 00 05 00 11 00 44 00"); }
 static void s2(void) { writes(urd_downsize, 4, 2, TRANSFER, 2, "00 01 02 01 00 01 00 11 00 01 01 02 03 00 02 00 00 44"); }
 static void s3(void) { writes(urd_repack, 1, 1, ITEM " " END_ONLY, 1, "01 00 00 01 00 01 00 AA"); }
@@ -225,7 +269,7 @@ static void layout(void)
     urd_burst_answer ones;
     memset(&ones, 0xFF, sizeof ones);
     check((int64_t)ones.step == -1, "step is signed");
-    check(sizeof(size_t) == 8 && sizeof(urd_burst_answer) == 24 && sizeof(urd_stream_answer) == 24 && sizeof(urd_part_answer) == 24, "sizes");
+    check(sizeof(size_t) == 8 && sizeof(urd_burst_answer) == 24 && sizeof(urd_stream_answer) == 24 && sizeof(urd_part_answer) == 24 && sizeof(urd_report_answer) == 64, "sizes");
     IS(urd_burst_answer, refusal, 0, 4);
     IS(urd_burst_answer, lower, 4, 4);
     IS(urd_burst_answer, upper, 8, 4);
@@ -238,6 +282,15 @@ static void layout(void)
     IS(urd_part_answer, refusal, 0, 4);
     IS(urd_part_answer, start, 8, 8);
     IS(urd_part_answer, length, 16, 8);
+    IS(urd_report_answer, verdict, 0, 4);
+    IS(urd_report_answer, refusal, 4, 4);
+    IS(urd_report_answer, rule, 8, 4);
+    IS(urd_report_answer, place, 16, 8);
+    IS(urd_report_answer, transfers, 24, 8);
+    IS(urd_report_answer, packets, 32, 8);
+    IS(urd_report_answer, records, 40, 8);
+    IS(urd_report_answer, text, 48, 8);
+    IS(urd_report_answer, octets, 56, 8);
 }
 
 static void fill_in(void)
@@ -332,6 +385,8 @@ static void edges(void)
 int main(void)
 {
     run("P1", p1);
+    run("P1, the report", p1_report);
+    run("the report refused, and broken", report_refusals);
     run("S1", s1);
     run("S2", s2);
     run("S3", s3);

@@ -65,6 +65,35 @@ def _():
     packs(4, 2, TRANSFER, 2, "00 01 02 03 00 01 00 11 00 01 01 02 01 00 01 00 44 00")
 
 
+SHEET = b"width_in=4\nwidth_out=2\nmode=pack\ntlast=wired\n"
+
+
+def report(verdict, text, refusal=0, rule=0, place=0, counts=(0, 0, 0), result=""):
+    return urd.ReportAnswer(verdict, refusal, rule, place, *counts, text, octets(result))
+
+
+@case("P1, the report")
+def _():
+    told = "verdict=clean\ntransfers=1\npackets=1\nrecords=2\n"
+    result = "00 01 02 03 00 01 00 11 00 01 01 02 01 00 01 00 44 00"
+    same(urd.report(SHEET, octets(TAKE)), report(urd.CLEAN, told, counts=(1, 1, 2), result=result), "clean")
+
+
+@case("the report refused, and broken")
+def _():
+    def refused(number, place=0):
+        return report(urd.REFUSED, f"verdict=refused\nrefusal={number}\nat={place}\n", refusal=number, place=place)
+    same(urd.report(None, octets(TAKE)), refused(urd.SHEET), "no sheet")
+    same(urd.report(b"width_in=4\n", None), refused(urd.SHEET), "a sheet of one line, no take")
+    same(urd.report(SHEET, None), refused(urd.LENGTH), "no take")
+    same(urd.report(SHEET, bytes(65537)), refused(urd.LENGTH), "65,537 octets")
+    same(urd.report(SHEET, octets(TAKE + "1" + TAKE[1:])), refused(urd.FIELD, 1), "a field of record 1")
+    broken = report(urd.BROKEN, "verdict=broken\ncycle=1\nrule=3\n", rule=3, place=1)
+    same(urd.report(SHEET, octets("0A" + TAKE[2:] + TAKE)), broken, "TLAST changed while waiting")
+    wide = b"width_in=16\nwidth_out=1\nmode=lanes\ntlast=none\n"
+    same(urd.report(wide, octets("0E" + " 00" * 22) * 513), refused(urd.ROOM), "a result of 65,664 octets")
+
+
 @case("S1")
 def _():
     packs(4, 4, TRANSFER, 1, "01 01 02 07 00 05 00 11 00 44 00")

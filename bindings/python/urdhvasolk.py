@@ -13,10 +13,12 @@ from collections import namedtuple
 
 WIDTH, LENGTH, FIELD, RESERVED, ROOM, RATIO, BUS, SIZE, TYPE, COUNT, ALIGN, FENCE, INDEX, UNCLEAN, SHEET = range(1, 16)
 FIXED, INCR, WRAP = range(3)
+CLEAN, BROKEN, REFUSED = range(3)
 
 BurstAnswer = namedtuple("BurstAnswer", "refusal lower upper step address")
 StreamAnswer = namedtuple("StreamAnswer", "refusal rule place count")
 PartAnswer = namedtuple("PartAnswer", "refusal start length")
+ReportAnswer = namedtuple("ReportAnswer", "verdict refusal rule place transfers packets records text result")
 
 _u32, _i32, _u64, _size = ctypes.c_uint32, ctypes.c_int32, ctypes.c_uint64, ctypes.c_size_t
 
@@ -31,6 +33,11 @@ class _Stream(ctypes.Structure):
 
 class _Part(ctypes.Structure):
     _fields_ = [("refusal", _u32), ("start", _u64), ("length", _u64)]
+
+
+class _Report(ctypes.Structure):
+    _fields_ = [("verdict", _u32), ("refusal", _u32), ("rule", _u32)] + [
+        (name, _u64) for name in ("place", "transfers", "packets", "records", "text", "octets")]
 
 
 _here = os.path.dirname(os.path.abspath(__file__))
@@ -56,6 +63,7 @@ _fill_in = _call("urd_fill_in", _Stream, _size, *_lent)
 _repack = _call("urd_repack", _Stream, _size, _size, *_input, *_lent)
 _downsize = _call("urd_downsize", _Stream, _size, _size, *_input, *_lent)
 _data_octets = _call("urd_data_octets", _Part, _size, *_input, _size)
+_report = _call("urd_report", _Report, *_input, _u32, *_input, _u32, *_lent, *_lent)
 
 
 def _held(number, kind):
@@ -138,3 +146,19 @@ def data_octets(width, capture, k):
     """Where the data octets of record k stand in the capture: start and length. Refusals 1, 2, 13."""
     capture = _read(capture)
     return _plain(PartAnswer, _data_octets(_held(width, _size), capture, len(capture), _held(k, _size)))
+
+
+def _file(octets):
+    """The octets of a file, their number, and whether it was read."""
+    read = b"" if octets is None else _read(octets)
+    return read, len(read), int(octets is not None)
+
+
+def report(sheet, take):
+    """The report on a take by its setup sheet, each None where it can't be read: verdict and numbers, the lines as a str, and
+    the octets of the result, none unless clean. Refusals 15, 1, 6, 2, 3, 5, the last for a result above 65,536 octets."""
+    out, text = bytearray(65536), bytearray(128)
+    lent_out, lent_text = _lend(out), _lend(text)
+    a = _report(*_file(sheet), *_file(take), ctypes.addressof(lent_out), len(out), ctypes.addressof(lent_text), len(text))
+    numbers = (getattr(a, name) for name in ReportAnswer._fields[:7])
+    return ReportAnswer(*numbers, text[:a.text].decode("ascii"), bytes(out[:a.octets]))

@@ -23,7 +23,7 @@ const REPACK: Writer = Writer { name: "repack", library: library::repack, model:
 const DOWNSIZE: Writer = Writer { name: "downsize", library: library::downsize, model: model::downsize, plan: model::downsize_plan };
 
 /// Long inputs are shown by their beginning only.
-fn show(octets: &[u8]) -> String {
+pub fn show(octets: &[u8]) -> String {
     format!("{} octets {:02x?}", octets.len(), &octets[..octets.len().min(200)])
 }
 
@@ -125,7 +125,7 @@ fn transfers(r: &mut Random, w: usize, n: usize) -> Vec<u8> {
 }
 
 /// Cycles that keep the handshake rules, with waits and resets.
-fn cycles(r: &mut Random, w: usize, n: usize) -> Vec<u8> {
+pub fn cycles(r: &mut Random, w: usize, n: usize) -> Vec<u8> {
     let mut take: Vec<u8> = Vec::new();
     let mut waiting = false;
     for _ in 0..n {
@@ -147,7 +147,7 @@ fn cycles(r: &mut Random, w: usize, n: usize) -> Vec<u8> {
 }
 
 /// Flip some bits: of the flags and fields mostly, or anywhere.
-fn damage(r: &mut Random, w: usize, octets: &mut [u8]) {
+pub fn damage(r: &mut Random, w: usize, octets: &mut [u8]) {
     if octets.is_empty() { return; }
     for _ in 0..1 + r.below(2) {
         let at = r.below(octets.len() / (7 + w)) * (7 + w) + if r.one_in(4) { r.below(7 + w) } else { r.pick(&[0, 0, 1, 2, 3, 4, 5, 6]) };

@@ -6,11 +6,16 @@
 mod calls;
 mod cases;
 mod compare_bursts;
+mod compare_report;
 mod compare_streams;
 mod library_burst;
+mod library_report;
 mod library_stream;
 mod model;
+#[path = "../report/model.rs"]
+mod report_model;
 mod tally;
+use model as stream; // the report's model has it by this name
 use std::time::{Duration, Instant, SystemTime};
 use tally::{Random, Tally};
 
@@ -23,9 +28,10 @@ fn gate(seed: u64, only: Option<String>) -> ! {
     (t.seed, t.only) = (Some(seed), only);
     compare_bursts::all(&mut t);
     compare_streams::all(&mut t);
+    compare_report::all(&mut t);
     calls::show();
     t.seed = None; // the last two groups are about the run as a whole
-    t.show_verdicts(&[&compare_bursts::VERDICTS[..], &compare_streams::VERDICTS].concat());
+    t.show_verdicts(&[&compare_bursts::VERDICTS[..], &compare_streams::VERDICTS, &compare_report::VERDICTS].concat());
     t.group("enough calls", |t| t.check(calls::all() >= CALLS_AT_LEAST, || format!("only {} calls", calls::all())));
     println!("{} calls in all", calls::all());
     t.finish()
@@ -48,6 +54,7 @@ fn soak(seconds: u64, first: u64) -> ! {
         let mut r = Random::of_seed(seed);
         compare_bursts::round(&mut t, &mut r);
         compare_streams::round(&mut t, &mut r);
+        compare_report::round(&mut t, &mut r);
         if began.elapsed() >= Duration::from_secs(seconds) { break; }
         if shown.elapsed() >= PROGRESS {
             shown = Instant::now();
