@@ -12,7 +12,7 @@ use Rattle.stream.specs.declared.Verdict.{Verdict}
 use Rattle.stream.specs.declared.Verdict.the-variants.{Clean, Broken, Refused}
 use Rattle.stream.specs.Layout.{bitOf, size, records}
 use Rattle.stream.specs.Checks.{fieldFault, cycleFlags}
-use Rattle.stream.specs.Handshake.{waits, waited, r1, r2, r3, r4, transferred}
+use Rattle.stream.specs.Handshake.{sameOctets, waits, waited, r1, r2, r3, r4, transferred}
 use Rattle.record.specs.declared.Header.{Header}
 use Rattle.record.specs.Header.{headerOf}
 use Rattle.handshake.specs.declared.Scan.{Scan}
@@ -23,6 +23,10 @@ use Rattle.handshake.specs.declared.Step.the-variants.{Bad, Next}
 abbrev pub beforeOf : ℕ → List ℕ → Option (List ℕ)
 beforeOf zero prev = none
 beforeOf (suc k) prev = some prev
+
+-- two records are alike from octet 1 on exactly where they are alike from octet i on
+abbrev pub Left : List ℕ → List ℕ → ℕ → Type 0
+Left p r i = sameOctets (drop 1 p) (drop 1 r) ≡ sameOctets (drop i p) (drop i r)
 
 -- the lowest rule that a cycle breaks, or 0
 abbrev pub lowestRule : Shape → Option (List ℕ) → List ℕ → ℕ

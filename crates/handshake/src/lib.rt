@@ -14,7 +14,7 @@ ghost use mathlib.Core.Option.{none, some};
 ghost use Rattle.stream.specs.Layout.{size, records, bit, bitOf};
 ghost use Rattle.stream.specs.Handshake.{waited, transferred, waits, differs};
 ghost use Rattle.stream.specs.Answers.{Judged};
-ghost use Rattle.handshake.specs.Scan.{beforeOf, lowestRule, stepOf, verdictOf, scanned, start, CycleAt, StepAt, Passed};
+ghost use Rattle.handshake.specs.Scan.{beforeOf, lowestRule, stepOf, verdictOf, scanned, start, Left, CycleAt, StepAt, Passed};
 
 // What is known after some cycles: the transfers so far, the first finding (rule 0: none yet), whether the last waited.
 pub struct Scan {
@@ -30,6 +30,22 @@ pub enum Step {
     Next(Scan),
 }
 
+// The octet up to which two records of one size are alike from octet 1 on, as far as eight at a time tell: those after it
+// are still to be compared.
+fn same_words(prev: &[u8], rec: &[u8]) -> usize
+    requires { ⌜ (length (now prev) ≡ length (now rec)) × (0 < length (now rec)) ⌝ }
+    ensures { λ r. ⌜ (1 ≤ r) × (r ≤ length (now (rec .entry))) × Left (now (prev .entry)) (now (rec .entry)) r ⌝ }
+{
+    let mut i = 1;
+    while i + 8 <= rec.len() {
+        if words::load8(prev, i) != words::load8(rec, i) {
+            return i;
+        }
+        i += 8;
+    }
+    i
+}
+
 // Whether some octet from 1 on, or TLAST, differs between two records of one size.
 fn changed(prev: &[u8], rec: &[u8]) -> bool
     requires { ⌜ (length (now prev) ≡ length (now rec)) × (0 < length (now rec)) ⌝ }
@@ -38,7 +54,7 @@ fn changed(prev: &[u8], rec: &[u8]) -> bool
     if prev[0] % 2 != rec[0] % 2 {
         return true;
     }
-    let mut i = 1;
+    let mut i = same_words(prev, rec);
     while i < rec.len() {
         if prev[i] != rec[i] {
             return true;
