@@ -1,7 +1,9 @@
 -- The usual record, which is most of a take: no fault, no position lane, and the pair of the record before it.
 use mathlib.Core.Path.{_≡_}
 use mathlib.Core.List.{List}
-use Prim.Native.Nat.{ℕ, _+_, _*_, _%_, _≤_, _<_}
+use mathlib.Core.Bool.{Bool, _&&_}
+use Prim.Native.Nat.{ℕ, _+_, _-_, _*_, _%_, _≤_, _<_}
+use lib.Dec.{eqb, leb}
 use Rattle.stream.specs.Legal.{Octets}
 use Rattle.words.specs.Words.{wordAt}
 use Rattle.record.specs.declared.Header.{Header}
@@ -15,6 +17,12 @@ pub record Usual (lo hi pair full : ℕ) (h : Header) : Type 0 where
   pub keep : h .keep ≡ hi % 65536
   pub strb : h .strb ≡ hi % 65536
   pub within : hi % 65536 ≤ full
+
+-- The test of two words: without TLAST the low one is the pair and the low octet of TKEEP, the high one has TKEEP twice, and
+-- no lane beyond the full mask is kept.
+abbrev pub usualTest : ℕ → ℕ → ℕ → ℕ → Bool
+usualTest lo hi pair full =
+    eqb (lo - lo % 2) (256 * pair + 16777216 * (hi % 256)) && (eqb hi (65537 * (hi % 65536)) && leb (hi % 65536) full)
 
 -- the header of every record whose octets 0 to 3 and 3 to 6 are these two words
 abbrev pub UsualWords : ℕ → ℕ → ℕ → ℕ → Type 0

@@ -3,13 +3,13 @@
 ghost use mathlib.Core.Path.{_≡_};
 ghost use mathlib.Core.Bool.{true};
 ghost use Prim.Native.Nat.{_<_};
-ghost use Rattle.record.specs.Usual.{UsualWords};
+ghost use Rattle.record.specs.Usual.{usualTest, UsualWords};
 
 // Octets 0 to 3 of a header are `lo`, octets 3 to 6 are `hi`; `full` is the mask of all lanes. Without TLAST the low word
 // is the pair and the low octet of TKEEP, and the high word's upper half, TSTRB, is TKEEP again.
 pub fn is_usual(lo: u32, hi: u32, pair: u32, full: u32) -> bool
     requires { ⌜ pair < 4096 ⌝ }
-    ensures { λ r. ⌜ (r ≡ true → UsualWords lo hi pair full) ⌝ }
+    ensures { λ r. ⌜ (r ≡ usualTest lo hi pair full) × (r ≡ true → UsualWords lo hi pair full) ⌝ }
 {
     if lo - lo % 2 != 256 * pair + 16777216 * (hi % 256) {
         return false;
