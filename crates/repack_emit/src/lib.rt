@@ -1,5 +1,5 @@
-// Writes the packed form of stretches that are held as codes: stretch by stretch, record by record, each record by a
-// helper that is lent the output from its place on. ROOM is refused here, before anything is written.
+// Writes the packed form of stretches whose items are held as octets and marks: stretch by stretch, record by record, each
+// record by a helper that is lent the output from its place on. ROOM is refused here, before anything is written.
 use refusal::Refusal;
 use stream::Shape;
 use stream::Written;
