@@ -1,27 +1,17 @@
 -- Counting the records that have TLAST, by what is left of the records. Assumes nothing.
 use mathlib.Core.Path.{_≡_, refl, sym, ap, _∙_, subst}
-use mathlib.Core.Bool.{Bool, true, false}
 use mathlib.Core.List.{List, []}
 use Prim.Native.Nat.{ℕ, _+_, _%_, _≤_, _<_}
-use native.Mathlib.Nat.{div-one, zero-div}
+use native.Mathlib.Nat.{zero-div}
 use native.Mathlib.Omega.{arith}
-use borrow.Author.Tests.{eqb-true, eqb-false}
-use lib.Dec.{eqb}
 use lib.ListN.{length, getD, take, drop, length-drop, drop-of-length-le}
 use lib.Seq.{getD-take, getD-drop, drop-drop}
 use Rattle.stream.specs.declared.Shape.{Shape}
 use Rattle.stream.specs.Layout.{bit, bitOf, tlast, size}
 use Rattle.stream.proofs.Records.{size-pos, FirstRecord, first-record}
+use Rattle.harvest.proofs.Copied.{low-bit}
 use Rattle.acceptance.specs.Report.{lasts, packetCount}
 use Rattle.acceptance.specs.Steps.{WholeRecords}
-
--- TLAST as a number is the lowest bit of octet 0
-low-bit : (n : ℕ) → bitOf (bit 0 n) ≡ n % 2
-low-bit n = rw (div-one n) (go (eqb (n % 2) 1) refl)
-  where
-    go : (b : Bool) → eqb (n % 2) 1 ≡ b → bitOf (eqb (n % 2) 1) ≡ n % 2
-    go true e = rw e (sym (eqb-true (n % 2) 1 e))
-    go false e = let odd = eqb-false (n % 2) 1 e in rw e (omega arith)
 
 -- what is known before each record: those before `at` have n TLASTs
 pub record Counting (s : Shape) (xs : List ℕ) (at n : ℕ) : Type 0 where

@@ -1,7 +1,6 @@
 -- A clean take: harvesting it into an array of 65,536 octets is not refused, and leaves its transfers in front. Assumes nothing.
 use mathlib.Core.Path.{_≡_, refl, sym, ap, ap₂, _∙_, subst}
-use mathlib.Core.Bool.{Bool, true, false}
-use mathlib.Core.List.{List, [], _∷_, _++_, map}
+use mathlib.Core.List.{List, _++_, map}
 use Prim.Native.Nat.{ℕ, _*_, _%_, _≤_, _<_}
 use native.Mathlib.Nat.{mul-mod-left}
 use native.Mathlib.Omega.{arith}
@@ -12,28 +11,14 @@ use Rattle.stream.specs.declared.Verdict.the-variants.{Clean}
 use Rattle.stream.specs.declared.Written.{Written}
 use Rattle.stream.specs.declared.Written.the-variants.{Records}
 use Rattle.stream.specs.Layout.{size, records}
-use Rattle.stream.specs.Handshake.{transferred, handshakes, asTransfer, transferCount, harvested}
+use Rattle.stream.specs.Handshake.{handshakes, asTransfer, transferCount, harvested}
 use Rattle.stream.specs.Answers.{judgeAnswer, harvestRefusal, harvestAnswer, Harvested}
-use Rattle.stream.proofs.Records.{size-pos, Sized, length-joined, records-joined, records-sized}
-use Rattle.stream.proofs.Harvest.{length-kept}
-use Rattle.harvest.proofs.Answer.{clean-width, clean-short, harvest-written}
+use Rattle.stream.proofs.Records.{size-pos, records-joined, records-sized}
+use Rattle.harvest.proofs.Answer.{kept-sized, harvested-long, clean-width, clean-short, harvest-written}
 use Rattle.acceptance.specs.Steps.{WholeRecords}
 use Rattle.acceptance.proofs.Convert.{IsWritten, is-written}
 
 -- ---- how long what is harvested is
-
-kept-sized : (n : ℕ) (cs : List (List ℕ)) → 0 < n → Sized n cs → Sized n (map asTransfer (handshakes cs))
-kept-sized n [] h z = tt
-kept-sized n (c ∷ cs) h z = go (transferred c) refl (kept-sized n cs h (z .1))
-  where
-    go : (t : Bool) → transferred c ≡ t → Sized n (map asTransfer (handshakes cs)) → Sized n (map asTransfer (handshakes (c ∷ cs)))
-    go true e ih = rw e (length-kept n c h (z .0), ih)
-    go false e ih = rw e ih
-
-pub harvested-long : (s : Shape) (xs : List ℕ) → length (harvested s xs) ≡ transferCount s xs * size s
-harvested-long s xs =
-    length-joined (size s) (map asTransfer (handshakes (records s xs))) (kept-sized (size s) (records s xs) (size-pos s) (records-sized s xs))
-    ∙ ap (λ (n : ℕ). n * size s) (length-map (handshakes (records s xs)) asTransfer)
 
 pub harvested-count : (s : Shape) (xs : List ℕ) → length (records s (harvested s xs)) ≡ transferCount s xs
 harvested-count s xs =

@@ -75,7 +75,7 @@ is-clean none none n m e = record { accepted = refl; count = cc }
 
 -- ---- how long what is harvested is
 
-kept-sized : (n : ℕ) (cs : List (List ℕ)) → 0 < n → Sized n cs → Sized n (map asTransfer (handshakes cs))
+pub kept-sized : (n : ℕ) (cs : List (List ℕ)) → 0 < n → Sized n cs → Sized n (map asTransfer (handshakes cs))
 kept-sized n [] h z = tt
 kept-sized n (c ∷ cs) h z = go (transferred c) refl (kept-sized n cs h (z .1))
   where
@@ -84,7 +84,7 @@ kept-sized n (c ∷ cs) h z = go (transferred c) refl (kept-sized n cs h (z .1))
     go false e ih = rw e ih
 
 module _ (s : Shape) (xs : List ℕ) where
-  harvested-long : length (harvested s xs) ≡ transferCount s xs * size s
+  pub harvested-long : length (harvested s xs) ≡ transferCount s xs * size s
   harvested-long =
       length-joined (size s) (map asTransfer (handshakes (records s xs))) (kept-sized (size s) (records s xs) (size-pos s) (records-sized s xs))
       ∙ ap (λ (n : ℕ). n * size s) (length-map (handshakes (records s xs)) asTransfer)

@@ -15,7 +15,7 @@ use Rattle.stream.specs.Handshake.{asTransfer}
 use Rattle.stream.proofs.Harvest.{length-kept}
 
 -- TLAST as a number is the lowest bit of octet 0
-low-bit : (n : ℕ) → bitOf (bit 0 n) ≡ n % 2
+pub low-bit : (n : ℕ) → bitOf (bit 0 n) ≡ n % 2
 low-bit n = rw (div-one n) (go (eqb (n % 2) 1) refl)
   where
     go : (b : Bool) → eqb (n % 2) 1 ≡ b → bitOf (eqb (n % 2) 1) ≡ n % 2
