@@ -247,12 +247,6 @@ module _ (v : ℕ) (items table out₀ out : List ℕ) (to from k : ℕ) (p : Pa
         (ap (λ (l : List ℕ). these ++ l)
         (append-nil (octets (packStretches v (stretchesOf (drop (suc k) table) (drop (from + entryCount (getD table k 0)) items)))))))
 
-    pub packing-holds : entryCount (getD table k 0) ≤ length (drop from items)
-    packing-holds = rw (length-drop from items) (omega (arith, p .held, total-step))
-
-    pub packing-from : from + entryCount (getD table k 0) ≤ length items
-    packing-from = omega (arith, p .held, total-step)
-
     pub packing-room : to + length these ≤ length out
     packing-room = omega (arith, p .writing .room, ap length this-stretch, length-append these later)
 

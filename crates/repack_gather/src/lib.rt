@@ -1,5 +1,5 @@
 // The kept lanes of one record as held items, behind the items that are there: an octet each, and a mark where it is a
-// position item. Which records are read, and when, is not here.
+// position item. Which records are read, and when, is not here. Helpers for repack_parse, which has made room for the lanes.
 ghost use mathlib.Core.Path.{_≡_};
 ghost use mathlib.Core.List.{[], _∷_};
 ghost use Prim.Native.Nat.{_+_, _-_, _*_, _%_, _^_, _≤_, _<_};

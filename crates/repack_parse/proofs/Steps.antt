@@ -75,18 +75,6 @@ module _ (table : List ℕ) (st : Open) (s : st .start ≤ st .items) (b : st .i
             (cut-ended (pairFrom (st .pair)) (opened st codes) rest) h;
       }
 
-pub turn-same : (table : List ℕ) (st : Open) (pair : ℕ) → st .start ≤ st .items → st .pair ≡ pair → Turned pair table st table st
-turn-same table st pair s e =
-    record {
-      same = refl;
-      items = refl;
-      paired = e;
-      started = s;
-      closed = omega arith;
-      few = λ k h. h;
-      stands = λ codes i rest all p h. h;
-    }
-
 pub turn-empty : (table : List ℕ) (st : Open) (pair : ℕ) → st .start ≡ st .items → Turned pair table st table (pairedAt st pair)
 turn-empty table st pair e =
     record {

@@ -225,7 +225,8 @@ fn finish(table: &mut [u32], st: Open) -> usize
 }
 
 // Reads a take whose widths and length have passed their tests: the items' octets and marks, one entry a stretch into
-// `table`. No mark stands at the start. Usual records are skimmed; each other one is judged in full.
+// `table`. No mark stands at the start. Usual records are skimmed; each other one is judged in full. A helper for the crate
+// repack, which makes the tests and owns the arrays.
 pub fn parse(
     s: Shape,
     input: &[u8],
