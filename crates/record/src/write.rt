@@ -33,6 +33,18 @@ pub fn write_data_header(out: &mut [u8], last: u32, pair: u32, n: usize)
     );
 }
 
+// A whole record of one lane, which is data, as one word. No TLAST.
+pub fn write_one(out: &mut [u8], pair: u32, lane: u8)
+    requires { ⌜ (8 ≤ length (now out)) × (pair < 65536) ⌝ }
+    ensures { λ _. ⌜ now (out .exit) ≡ headerOctets 0 (pair % 256) (pair / 256) 1 1 ++ (lane ∷ drop 8 (now (out .entry))) ⌝ }
+{
+    words::store8(
+        out,
+        0,
+        256 * (pair as u64) + 1099528404992 + 72057594037927936 * (lane as u64),
+    );
+}
+
 // Lanes n to v - 1 of the record at the front of `out` are null.
 pub fn write_nulls(out: &mut [u8], n: usize, v: usize)
     requires { ⌜ (n ≤ v) × (7 + v ≤ length (now out)) ⌝ }

@@ -16,8 +16,8 @@ fn convert(s: Shape, v: usize, input: &[u8], out: &mut [u8]) -> Written
     requires { ⌜ (widthCheck (s .width) .found ≡ false) × (widthCheck v .found ≡ false) × (lengthCheck s (now input) .found ≡ false) ⌝ }
     ensures { λ r. ⌜ Repacked s v (now (input .entry)) (now (out .entry)) (now (out .exit)) r ⌝ }
 {
-    let mut octets = [0u8; 45616];
-    let mut marks = [0u8; 45616];
+    let mut octets = [0u8; 45664];
+    let mut marks = [0u8; 5708];
     let mut table = [0u32; 8193];
     let p = repack_parse::parse(s, input, &mut octets, &mut marks, &mut table);
     match p {

@@ -12,7 +12,8 @@ use Rattle.stream.specs.Packed.{fitted, spread, packStretches}
 use Rattle.stream.specs.Layout.{Kept, strbBit, laneOctet, octetsOf, octets}
 use Rattle.stream.specs.Checks.{first, roomCheck}
 use Rattle.stream.specs.Answers.{written, lentAfter}
-use Rattle.scratch.specs.Codes.{Unmarked, keptOf, entryCount, stretchesOf}
+use Rattle.scratch.specs.Codes.{Unmarked, dataCode, keptOf, pairFrom, entryCount, stretchesOf}
+use Rattle.repack_emit.specs.declared.plain.Cursor.{Cursor}
 
 -- the data octet and the strobe of an item
 abbrev pub itemOctet : ℕ → ℕ
@@ -54,6 +55,21 @@ pub record Writing (before out : List ℕ) (to : ℕ) (whole rest : List ℕ) : 
 abbrev pub Writes : List ℕ → List ℕ → ℕ → List ℕ → ℕ → Type 0
 Writes octets out to after next =
     (before whole rest : List ℕ) → Writing before out to whole (octets ++ rest) → Writing before after next whole rest
+
+-- A stretch of data of which all up to a cursor is written: its items are held and its octets have room.
+pub record Fitting (v pair : ℕ) (octets out : List ℕ) (c : Cursor) : Type 0 where
+  pub held : c .from + c .left + 32 ≤ length octets
+  pub room : (last : Bool) → c .to + length (stretchOctets v (pairFrom pair) (take (c .left) (drop (c .from) (map dataCode octets))) last) ≤ length out
+
+-- More of it is written, up to another cursor, from which on there is one record to write.
+pub record Advanced (v pair : ℕ) (octets out : List ℕ) (c : Cursor) (after : List ℕ) (r : Cursor) : Type 0 where
+  pub same : length after ≡ length out
+  pub short : r .left ≤ v
+  pub items : r .from + r .left ≡ c .from + c .left
+  pub writes :
+      (last : Bool) (before whole rest : List ℕ)
+      → Writing before out (c .to) whole (stretchOctets v (pairFrom pair) (take (c .left) (drop (c .from) (map dataCode octets))) last ++ rest)
+      → Writing before after (r .to) whole (stretchOctets v (pairFrom pair) (take (r .left) (drop (r .from) (map dataCode octets))) last ++ rest)
 
 -- what writing the records of stretches answers, and the memory after it
 pub record Emitted (v : ℕ) (items table out after : List ℕ) (r : Written) : Type 0 where

@@ -1,5 +1,9 @@
 // Writes the packed form of stretches whose items are held as octets and marks: stretch by stretch, record by record, each
-// record by a helper that is lent the output from its place on. ROOM is refused here, before anything is written.
+// record by a helper that is lent the output from its place on. Takes without a mark are written in plain.rt, others in
+// marked.rt. ROOM is refused here, before anything is written.
+mod marked;
+mod plain;
+
 use refusal::Refusal;
 use stream::Shape;
 use stream::Written;
@@ -36,110 +40,8 @@ fn count(table: &[u32], v: u32) -> usize
     n
 }
 
-// 1 for data, 0 for position.
-fn strobe(mark: u8) -> u8
-    ensures { λ r. ⌜ (r ≡ 1 - mark) × (r ≤ 1) ⌝ }
-{
-    if mark == 0 {
-        return 1;
-    }
-    0
-}
-
-// The data octets of n items from lane 0 up, where some are marked; answers their TSTRB.
-fn put_items(out: &mut [u8], octets: &[u8], marks: &[u8], n: usize) -> u32
-    requires { ⌜ (n ≤ 16) × (n ≤ length (now octets)) × (length (now octets) ≡ length (now marks)) × (7 + n ≤ length (now out)) ⌝ }
-    ensures { λ r. ⌜ (r ≡ maskOf (map itemStrobe (take n (heldCodes (now (octets .entry)) (now (marks .entry)))))) × (now (out .exit) ≡ take 7 (now (out .entry)) ++ (map itemOctet (take n (heldCodes (now (octets .entry)) (now (marks .entry)))) ++ drop (7 + n) (now (out .entry)))) ⌝ }
-{
-    let mut strb = 0;
-    let mut j = n;
-    while 0 < j {
-        j -= 1;
-        let d = strobe(marks[j]);
-        out[7 + j] = octets[j] * d;
-        strb = 2 * strb + (d as u32);
-    }
-    strb
-}
-
-// A record with n items from lane 0 up, some of which may be marked, at the front of `out`.
-fn put_marked(out: &mut [u8], octets: &[u8], marks: &[u8], n: usize, t: Shape, pair: u32, last: u32)
-    requires { ⌜ (n ≤ t .width) × (t .width ≤ 16) × (n ≤ length (now octets)) × (length (now octets) ≡ length (now marks)) × (size t ≤ length (now out)) × (pair < 65536) × (last ≤ 1) ⌝ }
-    ensures { λ _. ⌜ now (out .exit) ≡ octetsOf (recordOf (t .width) (pairFrom pair) (take n (heldCodes (now (octets .entry)) (now (marks .entry)))) (odd last)) ++ drop (size t) (now (out .entry)) ⌝ }
-{
-    let strb = put_items(out, octets, marks, n);
-    record::write::write_nulls(out, n, t.width);
-    record::write::write_header(
-        out,
-        (last % 256) as u8,
-        (pair % 256) as u8,
-        (pair / 256 % 256) as u8,
-        (1u32 << n) - 1,
-        strb,
-    );
-}
-
-// The same where every item is data: the header as one word, then the lanes in groups. Up to sixteen octets are read.
-fn put_plain(out: &mut [u8], octets: &[u8], n: usize, t: Shape, pair: u32, last: u32)
-    requires { ⌜ (n ≤ t .width) × (1 ≤ t .width) × (t .width ≤ 16) × (t .width ≤ length (now octets)) × (size t ≤ length (now out)) × (pair < 65536) × (last ≤ 1) ⌝ }
-    ensures { λ _. ⌜ now (out .exit) ≡ octetsOf (recordOf (t .width) (pairFrom pair) (take n (map dataCode (now (octets .entry)))) (odd last)) ++ drop (size t) (now (out .entry)) ⌝ }
-{
-    record::write::write_data_header(out, last, pair, n);
-    words::place(out, 7, octets, n, t.width);
-}
-
-// The same, either way: `plain` says that no item of the take is marked.
-fn put_record(
-    out: &mut [u8],
-    octets: &[u8],
-    marks: &[u8],
-    plain: bool,
-    n: usize,
-    t: Shape,
-    pair: u32,
-    last: u32,
-)
-    requires { ⌜ (n ≤ t .width) × (1 ≤ t .width) × (t .width ≤ 16) × (t .width ≤ length (now octets)) × (size t ≤ length (now out)) × (pair < 65536) × (last ≤ 1) × Held plain (now octets) (now marks) ⌝ }
-    ensures { λ _. ⌜ now (out .exit) ≡ octetsOf (recordOf (t .width) (pairFrom pair) (take n (heldCodes (now (octets .entry)) (now (marks .entry)))) (odd last)) ++ drop (size t) (now (out .entry)) ⌝ }
-{
-    if plain {
-        put_plain(out, octets, n, t, pair, last);
-        return;
-    }
-    put_marked(out, octets, marks, n, t, pair, last);
-}
-
-// A record with the n items from item `from` on, at place `to`: the helper is lent the output from there on. Answers the
-// place after it.
-fn put_at(
-    out: &mut [u8],
-    to: usize,
-    octets: &[u8],
-    marks: &[u8],
-    plain: bool,
-    from: usize,
-    n: usize,
-    t: Shape,
-    pair: u32,
-    last: u32,
-) -> usize
-    requires { ⌜ (n ≤ t .width) × (1 ≤ t .width) × (t .width ≤ 16) × (from + t .width ≤ length (now octets)) × (to + size t ≤ length (now out)) × (pair < 65536) × (last ≤ 1) × Held plain (now octets) (now marks) ⌝ }
-    ensures { λ r. ⌜ (r ≡ to + size t) × (length (now (out .exit)) ≡ length (now (out .entry))) × Writes (octetsOf (recordOf (t .width) (pairFrom pair) (take n (drop from (heldCodes (now (octets .entry)) (now (marks .entry))))) (odd last))) (now (out .entry)) to (now (out .exit)) r ⌝ }
-{
-    put_record(
-        &mut out[to..],
-        &octets[from..],
-        &marks[from..],
-        plain,
-        n,
-        t,
-        pair,
-        last,
-    );
-    to + record::record_size(t)
-}
-
-// The records of the stretch whose items begin at item `start`, from place `at` on. Answers the place after them.
+// The records of the stretch whose items begin at item `start`, from place `at` on. Answers the place after them. `plain`
+// says that no item of the take is marked.
 fn put_stretch(
     out: &mut [u8],
     at: usize,
@@ -150,36 +52,19 @@ fn put_stretch(
     e: u32,
     t: Shape,
 ) -> usize
-    requires { ⌜ (1 ≤ t .width) × (t .width ≤ 16) × (start + entryCount e + 16 ≤ length (now octets)) × Held plain (now octets) (now marks) × (at + length (stretchOctets (t .width) (pairFrom (e / 131072)) (take (entryCount e) (drop start (heldCodes (now octets) (now marks)))) (odd (e / 65536))) ≤ length (now out)) ⌝ }
-    ensures { λ r. ⌜ (length (now (out .exit)) ≡ length (now (out .entry))) × Writes (stretchOctets (t .width) (pairFrom (e / 131072)) (take (entryCount e) (drop start (heldCodes (now (octets .entry)) (now (marks .entry))))) (odd (e / 65536))) (now (out .entry)) at (now (out .exit)) r ⌝ }
+    requires { ⌜ (1 ≤ t .width) × (t .width ≤ 16) × (start + entryCount e + 32 ≤ length (now octets)) × Held plain (now octets) (markBits (now marks)) × (at + length (stretchOctets (t .width) (pairFrom (e / 131072)) (take (entryCount e) (drop start (heldCodes (now octets) (markBits (now marks))))) (odd (e / 65536))) ≤ length (now out)) ⌝ }
+    ensures { λ r. ⌜ (length (now (out .exit)) ≡ length (now (out .entry))) × Writes (stretchOctets (t .width) (pairFrom (e / 131072)) (take (entryCount e) (drop start (heldCodes (now (octets .entry)) (markBits (now (marks .entry)))))) (odd (e / 65536))) (now (out .entry)) at (now (out .exit)) r ⌝ }
 {
-    let v = t.width;
-    let mut to = at;
-    let mut from = start;
-    let mut left = (e % 65536) as usize;
-    while v < left {
-        to = put_at(out, to, octets, marks, plain, from, v, t, e / 131072, 0);
-        from += v;
-        left -= v;
+    if plain {
+        return plain::put_stretch(out, at, octets, start, e, t);
     }
-    put_at(
-        out,
-        to,
-        octets,
-        marks,
-        plain,
-        from,
-        left,
-        t,
-        e / 131072,
-        e / 65536 % 2,
-    )
+    marked::put_stretch(out, at, octets, marks, start, e, t)
 }
 
 // The records of all stretches of a table.
 fn put_all(out: &mut [u8], octets: &[u8], marks: &[u8], plain: bool, table: &[u32], t: Shape)
-    requires { ⌜ (1 ≤ t .width) × (t .width ≤ 16) × (total (now table) + 16 ≤ length (now octets)) × Held plain (now octets) (now marks) × (length (packedFrom (t .width) (now table) (heldCodes (now octets) (now marks))) ≤ length (now out)) ⌝ }
-    ensures { λ _. ⌜ now (out .exit) ≡ packedFrom (t .width) (now (table .entry)) (heldCodes (now (octets .entry)) (now (marks .entry))) ++ drop (length (packedFrom (t .width) (now (table .entry)) (heldCodes (now (octets .entry)) (now (marks .entry))))) (now (out .entry)) ⌝ }
+    requires { ⌜ (1 ≤ t .width) × (t .width ≤ 16) × (total (now table) + 32 ≤ length (now octets)) × Held plain (now octets) (markBits (now marks)) × (length (packedFrom (t .width) (now table) (heldCodes (now octets) (markBits (now marks)))) ≤ length (now out)) ⌝ }
+    ensures { λ _. ⌜ now (out .exit) ≡ packedFrom (t .width) (now (table .entry)) (heldCodes (now (octets .entry)) (markBits (now (marks .entry)))) ++ drop (length (packedFrom (t .width) (now (table .entry)) (heldCodes (now (octets .entry)) (markBits (now (marks .entry)))))) (now (out .entry)) ⌝ }
 {
     let mut to = 0;
     let mut from = 0;
@@ -202,8 +87,8 @@ pub fn emit(
     table: &[u32],
     t: Shape,
 ) -> Written
-    requires { ⌜ (1 ≤ t .width) × (t .width ≤ 16) × (total (now table) + 16 ≤ length (now octets)) × Held plain (now octets) (now marks) × (length (now table) ≤ 8193) ⌝ }
-    ensures { λ r. ⌜ Emitted (t .width) (heldCodes (now (octets .entry)) (now (marks .entry))) (now (table .entry)) (now (out .entry)) (now (out .exit)) r ⌝ }
+    requires { ⌜ (1 ≤ t .width) × (t .width ≤ 16) × (total (now table) + 32 ≤ length (now octets)) × Held plain (now octets) (markBits (now marks)) × (length (now table) ≤ 8193) ⌝ }
+    ensures { λ r. ⌜ Emitted (t .width) (heldCodes (now (octets .entry)) (markBits (now (marks .entry)))) (now (table .entry)) (now (out .entry)) (now (out .exit)) r ⌝ }
 {
     let n = count(table, t.width as u32);
     if out.len() < n * record::record_size(t) {

@@ -93,7 +93,7 @@ pub record Ready (s : Shape) (octets table : List ℕ) (st : Open) : Type 0 wher
   pub high : s .width ≤ 16
   pub started : st .start ≤ st .items
   pub pair : st .pair < 4096
-  pub holds : st .items + s .width ≤ length octets
+  pub holds : st .items + 16 ≤ length octets
   pub small : length octets < 65536
   pub lists : st .closed + 1 < length table
 
@@ -116,14 +116,14 @@ pub record Finished (n : ℕ) (items table : List ℕ) (all : List (Stretch Kept
   pub held : total (take n table) ≤ length items
   pub is : stretchesOf (take n table) items ≡ all
 
--- What a take without fault is read to: its stretches, held in octets and marks. A reader of 16 octets from any item on
+-- What a take without fault is read to: its stretches, held in octets and marks. A reader of 32 octets from any item on
 -- stays in the octets; and where `plain` is told, no item is a position item.
 pub record Taken (s : Shape) (input octets marks table : List ℕ) (n : ℕ) (plain : Bool) : Type 0 where
   pub faultless : first (transferChecks s 0 (records s input)) ≡ none
   pub finished : Finished n (heldCodes octets marks) table (cut (streamItems s input))
-  pub sameOctets : length octets ≡ 45616
-  pub sameMarks : length marks ≡ 45616
-  pub room : total (take n table) + 16 ≤ length octets
+  pub sameOctets : length octets ≡ 45664
+  pub sameMarks : length marks ≡ 45664
+  pub room : total (take n table) + 32 ≤ length octets
   pub unmarked : plain ≡ true → Unmarked marks
 
 -- what reading a take gives: the first fault of its records, or its stretches

@@ -30,7 +30,7 @@ pub record Reading (s : Shape) (input octets table : List ℕ) (st : Open) (at :
   pub within : at ≤ length input
   pub whole : length (drop at input) % size s ≡ 0
   pub faults : first (transferChecks s 0 (records s input)) ≡ first (transferChecks s (at / size s) (records s (drop at input)))
-  pub sameOctets : length octets ≡ 45616
+  pub sameOctets : length octets ≡ 45664
   pub sameTable : length table ≡ 8193
   pub started : st .start ≤ st .items
   pub pair : st .pair < 4096

@@ -11,15 +11,15 @@ ghost use mathlib.Core.Path.{_≡_};
 ghost use mathlib.Core.Bool.{false};
 ghost use mathlib.Core.List.{List, []};
 ghost use Rattle.stream.specs.Packed.{Stretch};
-ghost use Prim.Native.Nat.{ℕ, _+_, _-_, _/_, _%_, _^_, _≤_, _<_};
+ghost use Prim.Native.Nat.{ℕ, _+_, _-_, _*_, _/_, _%_, _^_, _≤_, _<_};
 ghost use lib.ListN.{length, take, set};
 ghost use Rattle.stream.specs.Layout.{size, Kept};
 ghost use Rattle.stream.specs.Checks.{transferFlags};
 ghost use Rattle.record.specs.Header.{headerOf, headerFault};
-ghost use Rattle.scratch.specs.Codes.{Unmarked, pairCode, entryOf, total};
+ghost use Rattle.scratch.specs.Codes.{Unmarked, markBits, pairCode, entryOf, total};
 ghost use Rattle.scratch.specs.Stands.{closedAt, pairedAt, keptAt, Stands};
 ghost use Rattle.repack_gather.specs.Gather.{Clear};
-ghost use Rattle.repack_parse.specs.Read.{judged, Turned, Ended, Filled, AddedData, AddedMarked, Ready, Finished, NextIs, ParsedIs};
+ghost use Rattle.repack_parse.specs.Read.{judged, Turned, Ended, AddedData, AddedMarked, Ready, Finished, NextIs, ParsedIs};
 
 // What reading one record gives: how far the take has been read, with no mark or with some, or the record's fault.
 pub enum Next {
@@ -120,24 +120,6 @@ fn full_mask(s: Shape) -> u32
     (1u32 << s.width) - 1
 }
 
-// A record's lanes, of which each kept one is data, for the open stretch; then its end.
-fn fill(
-    octets: &mut [u8],
-    table: &mut [u32],
-    st: Open,
-    lanes: &[u8],
-    keep: u32,
-    full: u32,
-    flags: u32,
-) -> Open
-    requires { ⌜ (length (now lanes) ≤ 16) × (st .items + length (now lanes) ≤ length (now octets)) × (length (now octets) < 65536) × (full ≡ 2 ^ length (now lanes) - 1) ⌝ }
-    requires { ⌜ (st .start ≤ st .items) × (st .closed < length (now table)) × (st .pair < 4096) × (flags < 2) ⌝ }
-    ensures { λ r. ⌜ Filled keep flags (now (lanes .entry)) (now (octets .entry)) (now (table .entry)) st (now (octets .exit)) (now (table .exit)) r ⌝ }
-{
-    let n = repack_gather::gather(octets, st.items, lanes, keep, full);
-    end(table, with_items(st, n), flags)
-}
-
 // One record more, which has no fault and an item, and of which each kept lane is data.
 fn add_data(s: Shape, rec: &[u8], h: Header, octets: &mut [u8], table: &mut [u32], st: Open) -> Open
     requires { ⌜ (h ≡ headerOf (now rec)) × (length (now rec) ≡ size s) × (headerFault transferFlags s h ≡ false) × (h .keep + h .flags ≡ 0 → ⊥) × (h .keep ≡ h .strb) ⌝ }
@@ -146,7 +128,8 @@ fn add_data(s: Shape, rec: &[u8], h: Header, octets: &mut [u8], table: &mut [u32
 {
     let o = turn(table, st, pair_code(h));
     let e = 7 + s.width;
-    fill(octets, table, o, &rec[7..e], h.keep, full_mask(s), h.flags)
+    let n = repack_gather::gather_lanes(octets, o.items, &rec[7..e], h.keep, full_mask(s));
+    end(table, with_items(o, n), h.flags)
 }
 
 // One record more, which has no fault and an item, and may have position lanes.
@@ -160,8 +143,8 @@ fn add_marked(
     st: Open,
 ) -> Open
     requires { ⌜ (h ≡ headerOf (now rec)) × (length (now rec) ≡ size s) × (headerFault transferFlags s h ≡ false) × (h .keep + h .flags ≡ 0 → ⊥) ⌝ }
-    requires { ⌜ Ready s (now octets) (now table) st × (length (now marks) ≡ length (now octets)) × Clear (st .items) (now marks) ⌝ }
-    ensures { λ r. ⌜ AddedMarked s (now (rec .entry)) (now (octets .entry)) (now (marks .entry)) (now (table .entry)) st (now (octets .exit)) (now (marks .exit)) (now (table .exit)) r ⌝ }
+    requires { ⌜ Ready s (now octets) (now table) st × (8 * length (now marks) ≡ length (now octets)) × Clear (st .items) (markBits (now marks)) ⌝ }
+    ensures { λ r. ⌜ AddedMarked s (now (rec .entry)) (now (octets .entry)) (markBits (now (marks .entry))) (now (table .entry)) st (now (octets .exit)) (markBits (now (marks .exit))) (now (table .exit)) r ⌝ }
 {
     let o = turn(table, st, pair_code(h));
     let e = 7 + s.width;
@@ -193,8 +176,8 @@ fn unusual(
     table: &mut [u32],
     st: Open,
 ) -> Next
-    requires { ⌜ (length (now rec) ≡ size s) × Ready s (now octets) (now table) st × (length (now marks) ≡ length (now octets)) × Clear (st .items) (now marks) ⌝ }
-    ensures { λ r. ⌜ NextIs s (now (rec .entry)) (at / size s) (now (octets .entry)) (now (marks .entry)) (now (table .entry)) st (now (octets .exit)) (now (marks .exit)) (now (table .exit)) r ⌝ }
+    requires { ⌜ (length (now rec) ≡ size s) × Ready s (now octets) (now table) st × (8 * length (now marks) ≡ length (now octets)) × Clear (st .items) (markBits (now marks)) ⌝ }
+    ensures { λ r. ⌜ NextIs s (now (rec .entry)) (at / size s) (now (octets .entry)) (markBits (now (marks .entry))) (now (table .entry)) st (now (octets .exit)) (markBits (now (marks .exit))) (now (table .exit)) r ⌝ }
 {
     let h = record::read_header(rec);
     let f = judge(h, s);
@@ -235,11 +218,12 @@ pub fn parse(
     table: &mut [u32],
 ) -> Parsed
     requires { ⌜ (1 ≤ s .width) × (s .width ≤ 16) × (length (now input) ≤ 65536) × (length (now input) % size s ≡ 0) ⌝ }
-    requires { ⌜ (length (now octets) ≡ 45616) × (length (now marks) ≡ 45616) × (length (now table) ≡ 8193) × Unmarked (now marks) ⌝ }
-    ensures { λ r. ⌜ ParsedIs s (now (input .entry)) (now (octets .exit)) (now (marks .exit)) (now (table .exit)) r ⌝ }
+    requires { ⌜ (length (now octets) ≡ 45664) × (length (now marks) ≡ 5708) × (length (now table) ≡ 8193) × Unmarked (markBits (now marks)) ⌝ }
+    ensures { λ r. ⌜ ParsedIs s (now (input .entry)) (now (octets .exit)) (markBits (now (marks .exit))) (now (table .exit)) r ⌝ }
 {
     let z = record::record_size(s);
     let full = full_mask(s);
+    let sieve = repack_gather::make_sieve();
     let mut st = Open {
         items: 0,
         start: 0,
@@ -249,7 +233,7 @@ pub fn parse(
     let mut at = 0;
     let mut plain = true;
     loop {
-        let p = usual::skim(s, full, input, at, octets, table, st);
+        let p = usual::skim(s, full, &sieve, input, at, octets, table, st);
         let from = p.at;
         if input.len() <= from {
             return Parsed::Stretches(finish(table, p.st), plain);

@@ -2,7 +2,7 @@
 -- another, a stretch's entry in a third.
 use mathlib.Core.Path.{_≡_}
 use mathlib.Core.Bool.{Bool, true, false, cond}
-use mathlib.Core.List.{List, [], _∷_, map}
+use mathlib.Core.List.{List, [], _∷_, _++_, map}
 use Prim.Native.Nat.{ℕ, zero, suc, _+_, _-_, _*_, _/_, _%_}
 use lib.ListN.{length, getD, take, drop, replicate}
 use Rattle.stream.specs.Items.{Pair}
@@ -27,6 +27,16 @@ abbrev pub heldCodes : List ℕ → List ℕ → List ℕ
 heldCodes [] ms = []
 heldCodes (d ∷ ds) [] = []
 heldCodes (d ∷ ds) (m ∷ ms) = heldCode d m ∷ heldCodes ds ms
+
+-- the k low bits of a number, lowest first
+abbrev pub bitsOf : ℕ → ℕ → List ℕ
+bitsOf zero x = []
+bitsOf (suc k) x = x % 2 ∷ bitsOf k (x / 2)
+
+-- the marks as an array of octets holds them: a bit an item, eight items an octet
+abbrev pub markBits : List ℕ → List ℕ
+markBits [] = []
+markBits (m ∷ ms) = bitsOf 8 m ++ markBits ms
 
 -- no item is marked: every one is data
 abbrev pub Unmarked : List ℕ → Type 0
