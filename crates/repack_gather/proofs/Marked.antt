@@ -3,12 +3,13 @@
 use mathlib.Core.Path.{_≡_, refl, sym, ap, _∙_}
 use mathlib.Core.Bool.{Bool, true, false}
 use mathlib.Core.List.{List, [], _∷_, _++_, append-assoc, append-nil}
-use Prim.Native.Nat.{ℕ, zero, suc, _+_, _-_, _*_, _/_, _%_, _≤_, _<_}
-use native.Mathlib.Nat.{add-zero, mul-one, mul-zero}
+use Prim.Native.Nat.{ℕ, zero, suc, _+_, _-_, _*_, _/_, _%_, _^_, _≤_, _<_}
+use native.Mathlib.Nat.{add-zero, mul-one, mul-zero, one-mul, mod-eq-of-lt}
 use native.Mathlib.Numerals.{add-one}
 use native.Mathlib.Omega.{arith}
 use borrow.Author.Tests.{eq-eqb, ne-eqb, eqb-true, eqb-false}
 use lib.Dec.{eqb}
+use lib.Pow.{pow-lt}
 use lib.ListN.{length, getD, take, drop, set, length-set}
 use lib.Seq.{take-suc-set, take-set-le, getD-drop, drop-drop, getD-set-same, getD-set-other}
 use Rattle.stream.specs.Layout.{odd}
@@ -34,6 +35,17 @@ mark-small k t = go (eqb (k % 2) 1) refl
     go : (b : Bool) → eqb (k % 2) 1 ≡ b → markOf k t ≤ 1
     go true e = rw (mark-kept k t (eqb-true (k % 2) 1 e)) (omega arith)
     go false e = let odd : k % 2 ≡ 1 → ⊥ = eqb-false (k % 2) 1 e in rw (mark-none k t (omega arith)) (omega arith)
+
+-- ---- where it stands in its octet
+
+-- a one shifted to a place of an octet
+pub shifted-octet : (i : ℕ) → i < 8 → 1 * 2 ^ i % 256 ≡ 2 ^ i
+shifted-octet i h = rw (one-mul (2 ^ i)) (mod-eq-of-lt (pow-lt {j = 8} h))
+
+pub mark-shifted : (i m : ℕ) → i < 8 → m ≤ 1 → m * 2 ^ i < 256
+mark-shifted i zero h l = omega arith
+mark-shifted i (suc zero) h l = rw (one-mul (2 ^ i)) (pow-lt {j = 8} h)
+mark-shifted i (suc (suc m)) h l = absurd (omega arith)
 
 -- ---- one lane of the codes
 

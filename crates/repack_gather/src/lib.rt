@@ -6,7 +6,7 @@ mod sieve;
 pub use sieve::make_sieve;
 ghost use mathlib.Core.Path.{_≡_};
 ghost use mathlib.Core.List.{[], _∷_};
-ghost use Prim.Native.Nat.{_+_, _-_, _*_, _%_, _^_, _≤_, _<_};
+ghost use Prim.Native.Nat.{_+_, _-_, _*_, _/_, _%_, _^_, _≤_, _<_};
 ghost use lib.ListN.{length, getD, drop, set};
 ghost use Rattle.scratch.specs.Codes.{markBits};
 ghost use Rattle.repack_gather.specs.Gather.{Collected, Clear, Marks};
@@ -74,6 +74,14 @@ pub fn gather(
     sieve::sift(octets, at, input, from, w, keep, sieve)
 }
 
+// An octet of marks with mark m at place i, where none stands.
+fn add_mark(octet: u8, i: usize, m: u8) -> u8
+    requires { ⌜ (i < 8) × (m ≤ 1) × (octet / 2 ^ i % 2 ≡ 0) ⌝ }
+    ensures { λ r. ⌜ r ≡ octet + m * 2 ^ i ⌝ }
+{
+    octet + m * (1u8 << i)
+}
+
 // One lane of any type, at place n, where no mark stands: its octet, and a mark where TKEEP is high and TSTRB low.
 fn keep_marked(
     octets: &mut [u8],
@@ -88,7 +96,7 @@ fn keep_marked(
 {
     octets[n] = lane;
     let q = n / 8;
-    marks[q] = marks[q] + (((1 - strb % 2) * (keep % 2)) as u8) * (1u8 << (n % 8));
+    marks[q] = add_mark(marks[q], n % 8, ((1 - strb % 2) * (keep % 2)) as u8);
     n + (keep % 2) as usize
 }
 

@@ -109,11 +109,6 @@ mark-set (x ∷ ms) i m h l c = go (mark-set ms (i - 8) m) (i / 8) refl
         (rw (octet, place) at (ap (λ (l : List ℕ). bitsOf 8 x ++ l) (ih (omega arith) l inner))
         ∙ sym (set-second (bitsOf 8 x) (markBits ms) i (i - 8) m (omega (arith, length-bits 8 x))))
 
--- An octet with room for a mark has it without overflow.
-pub mark-fits : (ms : List ℕ) (i m : ℕ) → i < 8 * length ms → m ≤ 1 → getD ms (i / 8) 0 < 256 → getD (markBits ms) i 0 ≡ 0
-    → getD ms (i / 8) 0 + m * 2 ^ (i % 8) < 256
-mark-fits ms i m h l b c = bit-fits 8 (i % 8) (getD ms (i / 8) 0) m (omega arith) l b (sym (mark-at ms i h) ∙ c)
-
 -- ---- no mark
 
 zeros-more : (k n : ℕ) → bitsOf k 0 ++ replicate {A = ℕ} n 0 ≡ replicate {A = ℕ} (k + n) 0

@@ -3,25 +3,36 @@ use native.Mathlib.Omega.{arith}
 use mathlib.Core.Path.{_∙_, sym}
 use Prim.Native.Nat.{_-_}
 use lib.ListN.{length}
+use Rattle.scratch.specs.Codes.{markBits}
+use Rattle.scratch.proofs.Marks.{length-marks}
 use Rattle.repack_gather.proofs.Marked.{Marking, marking-starts, marking-lane, marking-done}
 use borrow.Author.Needs.{needs}
 use Rattle.repack_gather.proofs.sift_marked.Statement.{statement}
 use Rattle.repack_gather.proofs.sift_marked.Tie as tie
 
 abbrev Inv-loop : tie.InvT-loop
-Inv-loop octets₀ marks₀ at lanes keep strb n₀ k₀ t₀ j₀ octets marks n k t j = Marking keep strb lanes octets₀ marks₀ at octets marks n k t j
+Inv-loop octets₀ marks₀ at lanes keep strb n₀ k₀ t₀ j₀ octets marks n k t j = Marking keep strb lanes octets₀ (markBits marks₀) at octets (markBits marks) n k t j
 
 abbrev μ-loop : tie.MeasureT-loop
 μ-loop octets₀ marks₀ at lanes keep strb n₀ k₀ t₀ j₀ octets marks n k t j = length lanes - j
 
 loop-holds : tie.Need-loop-holds Inv-loop μ-loop
-loop-holds c = let a = c .before .before .before .args in marking-starts (a .keep) (a .strb) (a .lanes .now) (a .octets .now) (a .marks .now) (a .at) (c .before .before .before .pre .0)
+loop-holds c =
+    let a = c .before .before .before .args in
+    marking-starts (a .keep) (a .strb) (a .lanes .now) (a .octets .now) (markBits (a .marks .now)) (a .at) (length-marks (a .marks .now) ∙ c .before .before .before .pre .0)
 
 shared-slice-read-keep-marked : tie.Need-shared-slice-read-keep-marked Inv-loop μ-loop
 shared-slice-read-keep-marked c = search needs
 
 keep-marked-requires : tie.Need-keep-marked-requires Inv-loop μ-loop
-keep-marked-requires c κs = search needs
+keep-marked-requires c κs = 
+    let a = c .before .before .before .before .before .before .before .before .args in
+    let p = c .before .before .before .before .before .before .before .before .pre in
+    let l = c .before .before .before .before .loop in (
+      omega (arith, l .inv .near, l .inv .sameOctets, p .1, c .before .before .before .loop-test .taken),
+      omega (arith, l .inv .near, l .inv .sameMarks, length-marks (l .marks), p .1, c .before .before .before .loop-test .taken),
+      l .inv .clear (p .2) (l .n) (omega arith),
+    )
 
 add-j : tie.Need-add-j Inv-loop μ-loop
 add-j c = search needs
@@ -34,20 +45,22 @@ loop-again c =
     let a = c .before .before .before .before .before .before .before .before .before .before .before .before .before .args in
     let l = c .before .before .before .before .before .before .before .before .before .loop in
     let e = c .before .before .before .before .keep-marked .ensures in
-    marking-lane (a .keep) (a .strb) (a .lanes .now) (a .octets .now) (a .marks .now) (a .at) (c .before .before .before .before .before .before .before .before .before .before .before .before .before .pre .0) (l .octets) (l .marks) (l .n) (l .k) (l .t) (l .j) (l .inv)
-    (c .before .before .before .before .before .before .before .before .before .before .before .before .before .pre .1) (c .before .before .before .before .before .before .before .before .loop-test .taken) (c .before .before .before .before .keep-marked .last .0) (c .before .before .before .before .keep-marked .last .1 .0) (c .before .before .before .before .keep-marked .result) (e .0) (e .1) (e .2)
+    marking-lane (a .keep) (a .strb) (a .lanes .now) (a .octets .now) (markBits (a .marks .now)) (a .at) (length-marks (a .marks .now) ∙ c .before .before .before .before .before .before .before .before .before .before .before .before .before .pre .0) (l .octets) (markBits (l .marks)) (l .n) (l .k) (l .t) (l .j) (l .inv)
+    (c .before .before .before .before .before .before .before .before .before .before .before .before .before .pre .1) (c .before .before .before .before .before .before .before .before .loop-test .taken) (c .before .before .before .before .keep-marked .last .0) (markBits (c .before .before .before .before .keep-marked .last .1 .0)) (c .before .before .before .before .keep-marked .result) (e .0) (e .1) (e .2)
 
 same-length : tie.Need-same-length Inv-loop μ-loop
 same-length c = c .before .loop .inv .sameOctets
 
 same-length-2 : tie.Need-same-length-2 Inv-loop μ-loop
-same-length-2 c = c .before .loop .inv .sameMarks ∙ sym (c .before .before .before .before .before .pre .0)
+same-length-2 c =
+    omega
+    (arith, c .before .loop .inv .sameMarks, length-marks (c .before .loop .marks), c .before .before .before .before .before .pre .0)
 
 returns : tie.Need-returns Inv-loop μ-loop
 returns c =
     let a = c .before .before .before .before .before .args in
     let l = c .before .loop in
-    marking-done (a .keep) (a .strb) (a .lanes .now) (a .octets .now) (a .marks .now) (a .at) (c .before .before .before .before .before .pre .0) (l .octets) (l .marks) (l .n) (l .k) (l .t) (l .j) (l .inv)
+    marking-done (a .keep) (a .strb) (a .lanes .now) (a .octets .now) (markBits (a .marks .now)) (a .at) (length-marks (a .marks .now) ∙ c .before .before .before .before .before .pre .0) (l .octets) (markBits (l .marks)) (l .n) (l .k) (l .t) (l .j) (l .inv)
     (c .loop-test .left)
 
 pub sift-marked-spec : {M : Type 1} → statement M
