@@ -20,7 +20,7 @@ use Rattle.stream.specs.Answers.{Repacked, written, lentAfter, repackRefusal, r
 use Rattle.stream.proofs.Bools.{neither}
 use Rattle.stream.proofs.First.{append-found, append-passed}
 use Rattle.stream.proofs.Repack.{WidthFits, width-fits}
-use Rattle.scratch.specs.Codes.{Unmarked, stretchesOf}
+use Rattle.scratch.specs.Codes.{stretchesOf}
 use Rattle.repack_parse.specs.Read.{Taken}
 use Rattle.repack_emit.specs.Write.{Held, Emitted}
 
@@ -81,7 +81,3 @@ module _ (s : Shape) (input octets marks table : List ℕ) (n : ℕ) (plain : Bo
 
   pub held-is : Held plain octets marks
   held-is = record { same = t .sameOctets ∙ sym (t .sameMarks); unmarked = t .unmarked }
-
--- an array of zeros marks nothing
-pub zeros-unmarked : (n : ℕ) → Unmarked (replicate {A = ℕ} n 0)
-zeros-unmarked n = rw (length-replicate {A = ℕ} n 0) refl

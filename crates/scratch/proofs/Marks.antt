@@ -6,7 +6,7 @@ use Prim.Native.Nat.{ℕ, zero, suc, _+_, _-_, _*_, _/_, _%_, _^_, _≤_, _<_}
 use native.Mathlib.Nat.{pow-suc, mul-assoc, mul-comm}
 use native.Mathlib.Omega.{arith}
 use lib.Pow.{shr-shr}
-use lib.ListN.{length, getD, set, replicate, length-append, List·getD-append}
+use lib.ListN.{length, getD, set, replicate, length-append, length-replicate, List·getD-append}
 use lib.Seq.{getD-append-add}
 use Rattle.scratch.specs.Codes.{bitsOf, markBits, Unmarked}
 
@@ -124,8 +124,4 @@ no-marks (suc n) =
     ap (λ (l : List ℕ). bitsOf 8 0 ++ l) (no-marks n) ∙ zeros-more 8 (8 * n) ∙ rw same refl
 
 pub zeros-unmarked : (n : ℕ) → Unmarked (markBits (replicate {A = ℕ} n 0))
-zeros-unmarked n = no-marks n ∙ ap (λ (i : ℕ). replicate {A = ℕ} i 0) (sym (ap length (no-marks n) ∙ long (8 * n)))
-  where
-    long : (n : ℕ) → length (replicate {A = ℕ} n 0) ≡ n
-    long zero = refl
-    long (suc n) = ap suc (long n)
+zeros-unmarked n = rw (no-marks n, length-replicate {A = ℕ} (8 * n) 0) refl

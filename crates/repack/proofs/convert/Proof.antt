@@ -3,9 +3,10 @@ use Prim.Native.Nat.{ℕ}
 use native.Mathlib.Omega.{arith}
 use lib.ListN.{take, length-replicate, length-take}
 use Rattle.stream.proofs.Repack.{width-fits}
-use Rattle.scratch.specs.Codes.{heldCodes}
+use Rattle.scratch.specs.Codes.{heldCodes, markBits}
+use Rattle.scratch.proofs.Marks.{zeros-unmarked}
 use Rattle.repack_parse.specs.Read.{Taken}
-use Rattle.repack.proofs.Answer.{bad-record, no-fault, length-fits, zeros-unmarked, table-fits, prefix-long, held-is}
+use Rattle.repack.proofs.Answer.{bad-record, no-fault, length-fits, table-fits, prefix-long, held-is}
 use borrow.Author.Needs.{needs}
 use Rattle.repack.proofs.convert.Statement.{statement}
 use Rattle.repack.proofs.convert.Tie as tie
@@ -29,7 +30,7 @@ parse-requires c κs =
     let w = width-fits (a .s .width) (c .before .before .before .before .before .pre .0) in
     let l = length-fits (a .s) (a .input .now) (c .before .before .before .before .before .pre .2) in (
       (w .low, w .high, l .0, l .1),
-      (length-replicate {A = ℕ} 45616 0, length-replicate {A = ℕ} 45616 0, length-replicate {A = ℕ} 8193 0, zeros-unmarked 45616),
+      (length-replicate {A = ℕ} 45664 0, length-replicate {A = ℕ} 5708 0, length-replicate {A = ℕ} 8193 0, zeros-unmarked 5708),
     )
 
 enum-known-p : tie.Need-enum-known-p
@@ -47,24 +48,24 @@ slice-aggregate-emit-2 c = search needs
 array-share-prefix-table : tie.Need-array-share-prefix-table
 array-share-prefix-table c =
     let a = c .before .before .before .before .before .before .before .before .before .before .before .before .before .before .before .args in
-    let t : Taken (a .s) (a .input .now) (c .before .before .before .before .before .before .before .before .before .parse .last .1 .1 .0) (c .before .before .before .before .before .before .before .before .before .parse .last .1 .1 .1 .0) (c .before .before .before .before .before .before .before .before .before .parse .last .1 .1 .1 .1 .0) (c .before .before .before .before .p2 .given .0 .0) (c .before .before .before .before .p2 .given .0 .1 .0) = rw (c .before .before .before .before .p2 .given .1) at (c .before .before .before .before .before .before .before .before .before .parse .ensures) in
-    table-fits (a .s) (a .input .now) (c .before .before .before .before .before .before .before .before .before .parse .last .1 .1 .0) (c .before .before .before .before .before .before .before .before .before .parse .last .1 .1 .1 .0) (c .before .before .before .before .before .before .before .before .before .parse .last .1 .1 .1 .1 .0) (c .before .before .before .before .p2 .given .0 .0) (c .before .before .before .before .p2 .given .0 .1 .0) t
+    let t : Taken (a .s) (a .input .now) (c .before .before .before .before .before .before .before .before .before .parse .last .1 .1 .0) (markBits (c .before .before .before .before .before .before .before .before .before .parse .last .1 .1 .1 .0)) (c .before .before .before .before .before .before .before .before .before .parse .last .1 .1 .1 .1 .0) (c .before .before .before .before .p2 .given .0 .0) (c .before .before .before .before .p2 .given .0 .1 .0) = rw (c .before .before .before .before .p2 .given .1) at (c .before .before .before .before .before .before .before .before .before .parse .ensures) in
+    table-fits (a .s) (a .input .now) (c .before .before .before .before .before .before .before .before .before .parse .last .1 .1 .0) (markBits (c .before .before .before .before .before .before .before .before .before .parse .last .1 .1 .1 .0)) (c .before .before .before .before .before .before .before .before .before .parse .last .1 .1 .1 .1 .0) (c .before .before .before .before .p2 .given .0 .0) (c .before .before .before .before .p2 .given .0 .1 .0) t
 
 slice-aggregate-emit-3 : tie.Need-slice-aggregate-emit-3
 slice-aggregate-emit-3 c =
     let a = c .before .before .before .before .before .before .before .before .before .before .before .before .before .before .before .before .args in
-    let t : Taken (a .s) (a .input .now) (c .before .before .before .before .before .before .before .before .before .before .parse .last .1 .1 .0) (c .before .before .before .before .before .before .before .before .before .before .parse .last .1 .1 .1 .0) (c .before .before .before .before .before .before .before .before .before .before .parse .last .1 .1 .1 .1 .0) (c .before .before .before .before .before .p2 .given .0 .0) (c .before .before .before .before .before .p2 .given .0 .1 .0) = rw (c .before .before .before .before .before .p2 .given .1) at (c .before .before .before .before .before .before .before .before .before .before .parse .ensures) in
-    prefix-long (a .s) (a .input .now) (c .before .before .before .before .before .before .before .before .before .before .parse .last .1 .1 .0) (c .before .before .before .before .before .before .before .before .before .before .parse .last .1 .1 .1 .0) (c .before .before .before .before .before .before .before .before .before .before .parse .last .1 .1 .1 .1 .0) (c .before .before .before .before .before .p2 .given .0 .0) (c .before .before .before .before .before .p2 .given .0 .1 .0) t
+    let t : Taken (a .s) (a .input .now) (c .before .before .before .before .before .before .before .before .before .before .parse .last .1 .1 .0) (markBits (c .before .before .before .before .before .before .before .before .before .before .parse .last .1 .1 .1 .0)) (c .before .before .before .before .before .before .before .before .before .before .parse .last .1 .1 .1 .1 .0) (c .before .before .before .before .before .p2 .given .0 .0) (c .before .before .before .before .before .p2 .given .0 .1 .0) = rw (c .before .before .before .before .before .p2 .given .1) at (c .before .before .before .before .before .before .before .before .before .before .parse .ensures) in
+    prefix-long (a .s) (a .input .now) (c .before .before .before .before .before .before .before .before .before .before .parse .last .1 .1 .0) (markBits (c .before .before .before .before .before .before .before .before .before .before .parse .last .1 .1 .1 .0)) (c .before .before .before .before .before .before .before .before .before .before .parse .last .1 .1 .1 .1 .0) (c .before .before .before .before .before .p2 .given .0 .0) (c .before .before .before .before .before .p2 .given .0 .1 .0) t
 
 emit-requires : tie.Need-emit-requires
 emit-requires c κs =
     let a = c .before .before .before .before .before .before .before .before .before .before .before .before .before .before .before .before .args in
     let w = width-fits (a .v) (c .before .before .before .before .before .before .before .before .before .before .before .before .before .before .before .before .pre .1) in
-    let t : Taken (a .s) (a .input .now) (c .before .before .before .before .before .before .before .before .before .before .parse .last .1 .1 .0) (c .before .before .before .before .before .before .before .before .before .before .parse .last .1 .1 .1 .0) (c .before .before .before .before .before .before .before .before .before .before .parse .last .1 .1 .1 .1 .0) (c .before .before .before .before .before .p2 .given .0 .0) (c .before .before .before .before .before .p2 .given .0 .1 .0) = rw (c .before .before .before .before .before .p2 .given .1) at (c .before .before .before .before .before .before .before .before .before .before .parse .ensures) in (
+    let t : Taken (a .s) (a .input .now) (c .before .before .before .before .before .before .before .before .before .before .parse .last .1 .1 .0) (markBits (c .before .before .before .before .before .before .before .before .before .before .parse .last .1 .1 .1 .0)) (c .before .before .before .before .before .before .before .before .before .before .parse .last .1 .1 .1 .1 .0) (c .before .before .before .before .before .p2 .given .0 .0) (c .before .before .before .before .before .p2 .given .0 .1 .0) = rw (c .before .before .before .before .before .p2 .given .1) at (c .before .before .before .before .before .before .before .before .before .before .parse .ensures) in (
       w .low,
       w .high,
       t .room,
-      held-is (a .s) (a .input .now) (c .before .before .before .before .before .before .before .before .before .before .parse .last .1 .1 .0) (c .before .before .before .before .before .before .before .before .before .before .parse .last .1 .1 .1 .0) (c .before .before .before .before .before .before .before .before .before .before .parse .last .1 .1 .1 .1 .0) (c .before .before .before .before .before .p2 .given .0 .0) (c .before .before .before .before .before .p2 .given .0 .1 .0) t,
+      held-is (a .s) (a .input .now) (c .before .before .before .before .before .before .before .before .before .before .parse .last .1 .1 .0) (markBits (c .before .before .before .before .before .before .before .before .before .before .parse .last .1 .1 .1 .0)) (c .before .before .before .before .before .before .before .before .before .before .parse .last .1 .1 .1 .1 .0) (c .before .before .before .before .before .p2 .given .0 .0) (c .before .before .before .before .before .p2 .given .0 .1 .0) t,
       omega (arith, length-take (c .before .before .before .before .before .p2 .given .0 .0) (c .before .before .before .before .before .before .before .before .before .before .parse .last .1 .1 .1 .1 .0), c .before .before .before .before .before .before .before .before .before .before .parse .kept .1 .1 .1 .1 .0, length-replicate {A = ℕ} 8193 0),
     )
 
@@ -81,8 +82,8 @@ returns-2 : tie.Need-returns-2
 returns-2 c =
     let a = c .before .before .before .before .before .before .before .before .before .before .before .before .before .before .before .before .before .before .before .args in
     let p = c .before .before .before .before .before .before .before .before .before .before .before .before .before .before .before .before .before .before .before .pre in
-    let t : Taken (a .s) (a .input .now) (c .before .before .before .before .before .before .before .before .before .before .before .before .before .parse .last .1 .1 .0) (c .before .before .before .before .before .before .before .before .before .before .before .before .before .parse .last .1 .1 .1 .0) (c .before .before .before .before .before .before .before .before .before .before .before .before .before .parse .last .1 .1 .1 .1 .0) (c .before .before .before .before .before .before .before .before .p2 .given .0 .0) (c .before .before .before .before .before .before .before .before .p2 .given .0 .1 .0) = rw (c .before .before .before .before .before .before .before .before .p2 .given .1) at (c .before .before .before .before .before .before .before .before .before .before .before .before .before .parse .ensures) in
-    no-fault (a .s) (a .v) (a .input .now) (a .out .now) (p .0) (p .1) (p .2) (heldCodes (c .before .before .before .before .before .before .before .before .before .before .before .before .before .parse .last .1 .1 .0) (c .before .before .before .before .before .before .before .before .before .before .before .before .before .parse .last .1 .1 .1 .0)) (take (c .before .before .before .before .before .before .before .before .p2 .given .0 .0) (c .before .before .before .before .before .before .before .before .before .before .before .before .before .parse .last .1 .1 .1 .1 .0))
+    let t : Taken (a .s) (a .input .now) (c .before .before .before .before .before .before .before .before .before .before .before .before .before .parse .last .1 .1 .0) (markBits (c .before .before .before .before .before .before .before .before .before .before .before .before .before .parse .last .1 .1 .1 .0)) (c .before .before .before .before .before .before .before .before .before .before .before .before .before .parse .last .1 .1 .1 .1 .0) (c .before .before .before .before .before .before .before .before .p2 .given .0 .0) (c .before .before .before .before .before .before .before .before .p2 .given .0 .1 .0) = rw (c .before .before .before .before .before .before .before .before .p2 .given .1) at (c .before .before .before .before .before .before .before .before .before .before .before .before .before .parse .ensures) in
+    no-fault (a .s) (a .v) (a .input .now) (a .out .now) (p .0) (p .1) (p .2) (heldCodes (c .before .before .before .before .before .before .before .before .before .before .before .before .before .parse .last .1 .1 .0) (markBits (c .before .before .before .before .before .before .before .before .before .before .before .before .before .parse .last .1 .1 .1 .0))) (take (c .before .before .before .before .before .before .before .before .p2 .given .0 .0) (c .before .before .before .before .before .before .before .before .before .before .before .before .before .parse .last .1 .1 .1 .1 .0))
     (c .before .before .emit .last .0) (c .before .before .emit .result) (t .faultless) (t .finished .is) (c .before .before .emit .ensures)
 
 pub convert-spec : {M : Type 1} → statement M
