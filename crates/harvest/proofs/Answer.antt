@@ -155,7 +155,7 @@ module _ (s : Shape) (xs : List ℕ) (v : Verdict) (judged : v ≡ judgeAnswer s
             refused-by before Room (by-room ∙ rw (lt-ltb (length before) (length (harvested s xs)) short) refl)
 
         pub harvest-fits : n * z ≤ length before → TakeFits s xs before
-        harvest-fits l = record { width = clean-width; whole = length-fits s xs (tests .1) .1; room = omega (arith, long-is) }
+        harvest-fits l = record { low = width-fits (s .width) (tests .0) .low; width = clean-width; whole = length-fits s xs (tests .1) .1; room = omega (arith, long-is) }
 
         pub harvest-written : n * z ≤ length before → (after : List ℕ) → after ≡ harvested s xs ++ drop (length (harvested s xs)) before
             → Harvested s xs before after (Records n)

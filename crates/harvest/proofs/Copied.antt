@@ -1,18 +1,19 @@
 -- One record copied as a transfer record: octet 0 is TLAST alone, and each other octet is the record's. Assumes nothing.
-use mathlib.Core.Path.{_≡_, refl, sym, ap, _∙_}
+use mathlib.Core.Path.{_≡_, refl, sym, ap, ap₂, _∙_}
 use mathlib.Core.Bool.{Bool, true, false}
 use mathlib.Core.List.{List, [], _∷_, _++_}
-use Prim.Native.Nat.{ℕ, zero, suc, _+_, _%_, _≤_, _<_}
-use native.Mathlib.Nat.{div-one, zero-add}
-use native.Mathlib.Numerals.{add-one}
+use Prim.Native.Nat.{ℕ, zero, suc, _+_, _-_, _%_, _≤_, _<_}
+use native.Mathlib.Nat.{div-one}
 use native.Mathlib.Omega.{arith}
 use borrow.Author.Tests.{eqb-true, eqb-false}
 use lib.Dec.{eqb}
-use lib.ListN.{length, getD, take, drop, set}
-use lib.Seq.{paste-suc, length-paste, take-all, drop-set-lt}
+use lib.ListN.{length, getD, take, drop, set, length-set, length-drop, take-append-drop}
+use lib.Seq.{take-all, length-take-le, drop-drop}
 use Rattle.stream.specs.Layout.{bit, bitOf}
 use Rattle.stream.specs.Handshake.{asTransfer}
 use Rattle.stream.proofs.Harvest.{length-kept}
+use Rattle.words.specs.Words.{front, placed}
+use Rattle.words.proofs.Words.{placed-over}
 
 -- TLAST as a number is the lowest bit of octet 0
 pub low-bit : (n : ℕ) → bitOf (bit 0 n) ≡ n % 2
@@ -22,57 +23,56 @@ low-bit n = rw (div-one n) (go (eqb (n % 2) 1) refl)
     go true e = rw e (sym (eqb-true (n % 2) 1 e))
     go false e = let odd = eqb-false (n % 2) 1 e in rw e (omega arith)
 
--- the output with the first i octets of the transfer record in front
-abbrev pub copied : List ℕ → List ℕ → ℕ → List ℕ
-copied rec out i = take i (asTransfer rec) ++ drop i out
-
--- what is known before each store
-pub record Copying (rec before out : List ℕ) (i : ℕ) : Type 0 where
-  pub low : 1 ≤ i
-  pub high : i ≤ length rec
-  pub long : length out ≡ length before
-  pub is : out ≡ copied rec before i
-
 pub same-length : (rec : List ℕ) → 0 < length rec → length (asTransfer rec) ≡ length rec
 same-length rec h = length-kept (length rec) rec h refl
 
-same-octet : (rec : List ℕ) (i : ℕ) → 0 < length rec → 1 ≤ i → getD (asTransfer rec) i 0 ≡ getD rec i 0
-same-octet [] i h l = absurd (omega arith)
-same-octet (x ∷ rec) zero h l = absurd (omega arith)
-same-octet (x ∷ rec) (suc i) h l = refl
+-- the first k octets of a row, all of which are wanted
+front-take : (k : ℕ) (xs : List ℕ) → k ≤ length xs → front k k xs ≡ take k xs
+front-take zero xs h = refl
+front-take (suc k) [] h = absurd (omega arith)
+front-take (suc k) (x ∷ xs) h = ap {B = List ℕ} (λ l. x ∷ l) (front-take k xs (omega arith))
 
-module _ (rec out : List ℕ) (some : 0 < length rec) (room : length rec ≤ length out) where
-  -- the first store
-  pub copy-start : Copying rec (set out 0 (getD rec 0 0 % 2)) (set out 0 (getD rec 0 0 % 2)) 1
-  copy-start = record { low = omega arith; high = omega arith; long = refl; is = go out room }
-    where
-      go : (o : List ℕ) → length rec ≤ length o → set o 0 (getD rec 0 0 % 2) ≡ copied rec (set o 0 (getD rec 0 0 % 2)) 1
-      go [] k = absurd (omega arith)
-      go (x ∷ o) k = rw (low-bit (getD rec 0 0)) refl
+-- a part of a record up to its end
+part-all : (i : ℕ) (rec : List ℕ) → take (length rec - i) (drop i rec) ≡ drop i rec
+part-all i rec = take-all (length rec - i) (drop i rec) (omega (arith, length-drop i rec))
 
-  copy-length : (i : ℕ) → i ≤ length rec → length (copied rec out i) ≡ length out
-  copy-length i l =
-      simp zero-add at (length-paste out 0 (asTransfer rec) i (omega arith) (omega (arith, same-length rec some)))
+-- octet 0, and all others behind it
+tail-put : (rec out : List ℕ) → 0 < length rec → length rec ≤ length out
+    → placed 1 (drop 1 rec) (set out 0 (getD rec 0 0 % 2)) ≡ asTransfer rec ++ drop (length rec) out
+tail-put [] out h l = absurd (omega arith)
+tail-put (x ∷ rec) [] h l = absurd (omega arith)
+tail-put (x ∷ rec) (y ∷ out) h l =
+    let far : 1 + length rec ≡ suc (length rec) = omega arith in
+    rw (far, low-bit x) refl
 
-  copy-suc : (i : ℕ) → 1 ≤ i → i < length rec → set (copied rec out i) i (getD rec i 0) ≡ copied rec out (i + 1)
-  copy-suc i l m =
-      rw (← (same-octet rec i some l), add-one i)
-      (simp zero-add at (paste-suc out 0 (asTransfer rec) i 0 (omega arith) (omega (arith, same-length rec some))))
+-- how long the parts are that are lent
+pub part-long : (i : ℕ) (rec : List ℕ) → i ≤ length rec → length (take (length rec - i) (drop i rec)) ≡ length rec - i
+part-long i rec h = rw (part-all i rec) (length-drop i rec)
 
-  -- one store more
-  pub copy-more : (o : List ℕ) (i : ℕ) → Copying rec out o i → i < length rec → Copying rec out (set o i (getD rec i 0)) (i + 1)
-  copy-more o i c m =
-      let is = ap (λ (l : List ℕ). set l i (getD rec i 0)) (c .is) ∙ copy-suc i (c .low) m in
-      record {
-        low = omega (arith, c .low);
-        high = omega arith;
-        is = is;
-        long = ap length is ∙ copy-length (i + 1) (omega arith);
-      }
+module _ (rec out : List ℕ) (low : 8 ≤ length rec) (room : length rec ≤ length out) (after : List ℕ)
+    (e : after ≡ placed 1 (front 7 7 (take (length rec - 1) (drop 1 rec))) (set out 0 (getD rec 0 0 % 2))) where
+  seven : front 7 7 (take (length rec - 1) (drop 1 rec)) ≡ take 7 (drop 1 rec)
+  seven = rw (part-all 1 rec) (front-take 7 (drop 1 rec) (omega (arith, length-drop 1 rec)))
 
-  -- after the last one
-  pub copy-end : (v : ℕ) (o : List ℕ) (i : ℕ) → Copying rec (set out 0 v) o i → length rec ≤ i → o ≡ asTransfer rec ++ drop (length rec) out
-  copy-end v o i c l =
-      let e : i ≡ length rec = omega (arith, c .high) in
-      c .is
-      ∙ rw (e, take-all (length rec) (asTransfer rec) (omega (arith, same-length rec some)), drop-set-lt (length rec) out 0 v some) refl
+  -- a record of eight octets is put ..
+  pub short-put : length rec ≤ 8 → after ≡ asTransfer rec ++ drop (length rec) out
+  short-put h =
+      let all : take 7 (drop 1 rec) ≡ drop 1 rec = take-all 7 (drop 1 rec) (omega (arith, length-drop 1 rec)) in
+      e ∙ ap (λ (xs : List ℕ). placed 1 xs (set out 0 (getD rec 0 0 % 2))) (seven ∙ all) ∙ tail-put rec out (omega arith) room
+
+  -- .. and a longer one, by a second group
+  pub long-put : 8 < length rec → (last : List ℕ)
+      → last ≡ placed 8 (front (length rec - 8) (length rec - 8) (take (length rec - 8) (drop 8 rec))) after
+      → last ≡ asTransfer rec ++ drop (length rec) out
+  long-put h last f =
+      let first-long : length (take 7 (drop 1 rec)) ≡ 7 = length-take-le 7 (drop 1 rec) (omega (arith, length-drop 1 rec)) in
+      let rest : front (length rec - 8) (length rec - 8) (take (length rec - 8) (drop 8 rec)) ≡ drop 8 rec =
+      rw (part-all 8 rec) (front-take (length rec - 8) (drop 8 rec) (omega (arith, length-drop 8 rec)) ∙ part-all 8 rec) in
+      let joined : take 7 (take 7 (drop 1 rec)) ++ drop 8 rec ≡ drop 1 rec =
+      rw (take-all 7 (take 7 (drop 1 rec)) (omega arith), ← drop-drop 7 1 rec) (take-append-drop 7 (drop 1 rec)) in
+      f
+      ∙ ap₂ (λ (xs o : List ℕ). placed 8 xs o) rest (e ∙ ap (λ (xs : List ℕ). placed 1 xs (set out 0 (getD rec 0 0 % 2))) seven)
+      ∙ placed-over (set out 0 (getD rec 0 0 % 2)) 1 (take 7 (drop 1 rec)) (drop 8 rec) 7 (omega arith) (omega arith)
+      (omega (arith, length-drop 8 rec, length-set out 0 (getD rec 0 0 % 2)))
+      ∙ ap (λ (xs : List ℕ). placed 1 xs (set out 0 (getD rec 0 0 % 2))) joined
+      ∙ tail-put rec out (omega arith) room

@@ -11,6 +11,9 @@ use Rattle.harvest.specs.Filling.{added, CycleFits, CyclePut}
 use Rattle.harvest.proofs.Copied.{same-length}
 
 module _ (c out : List ℕ) (fits : CycleFits c out) (n : ℕ) (is : n ≡ bitOf (transferred c)) where
+  some : 0 < length c
+  some = omega (arith, fits .low)
+
   no-transfer : n ≡ 0 → transferred c ≡ false
   no-transfer z = go (transferred c) refl
     where
@@ -30,11 +33,13 @@ module _ (c out : List ℕ) (fits : CycleFits c out) (n : ℕ) (is : n ≡ bitOf
   put-none z = record { is = rw (no-transfer z) refl; leaves = rw (no-transfer z) refl }
 
   -- a transfer finds room ..
-  pub put-room : (n ≡ 0 → ⊥) → (0 < length c) × (length c ≤ length out)
-  put-room z = let added-is : length (added c) ≡ length c = rw (a-transfer z) (same-length c (fits .some)) in (fits .some, omega (arith, fits .room))
+  pub put-room : (n ≡ 0 → ⊥) → (8 ≤ length c) × (length c ≤ 23) × (length c ≤ length out)
+  put-room z =
+      let added-is : length (added c) ≡ length c = rw (a-transfer z) (same-length c some) in
+      (fits .low, fits .high, omega (arith, fits .room))
 
   -- .. and adds its record
   pub put-one : (n ≡ 0 → ⊥) → (after : List ℕ) → after ≡ asTransfer c ++ drop (length c) out → CyclePut c out after (length c)
   put-one z after e =
-      let long = same-length c (fits .some) in
+      let long = same-length c some in
       record { is = rw (a-transfer z) (sym long); leaves = rw (a-transfer z) (e ∙ ap (λ (k : ℕ). asTransfer c ++ drop k out) (sym long)) }

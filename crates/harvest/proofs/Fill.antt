@@ -11,7 +11,7 @@ use lib.Seq.{length-take-le, take-all, take-at, drop-at, drop-drop}
 use Rattle.stream.specs.declared.Shape.{Shape}
 use Rattle.stream.specs.Layout.{size, records, joined}
 use Rattle.stream.specs.Handshake.{transferred, handshakes, asTransfer, harvested}
-use Rattle.stream.proofs.Records.{size-pos, FirstRecord, first-record}
+use Rattle.stream.proofs.Records.{FirstRecord, first-record}
 use Rattle.harvest.specs.Filling.{added, CycleFits, CyclePut, TakeFits, Filling}
 
 -- what is harvested of the first cycle, and of the others
@@ -119,11 +119,13 @@ module _ (s : Shape) (xs before out : List ℕ) (at to : ℕ) (h : Filling s xs 
   pub lent-room : to ≤ length out
   lent-room = omega (arith, h .room)
 
-  pub asks : CycleFits (take (at + z - at) (drop at xs)) (take (length out - to) (drop to out))
-  asks =
+  pub asks : 1 ≤ s .width → s .width ≤ 16 → CycleFits (take (at + z - at) (drop at xs)) (take (length out - to) (drop to out))
+  unfolding size
+  asks low high =
       rw (part-is, lent-is)
       (record {
-        some = omega (arith, length-take-le (size s) (drop at xs) (turn-record s xs before out at to h l .fits), size-pos s);
+        low = omega (arith, length-take-le (size s) (drop at xs) (turn-record s xs before out at to h l .fits));
+        high = omega (arith, length-take-le (size s) (drop at xs) (turn-record s xs before out at to h l .fits));
         room = omega (arith, added-room s xs before out at to h l, length-drop to out);
       })
 

@@ -13,9 +13,10 @@ use Rattle.stream.specs.Handshake.{transferred, asTransfer, harvested}
 abbrev pub added : List ℕ → List ℕ
 added c = cond (transferred c) (asTransfer c) []
 
--- a cycle whose octets find room
+-- a cycle whose octets, 8 to 23 of them, find room
 pub record CycleFits (c out : List ℕ) : Type 0 where
-  pub some : 0 < length c
+  pub low : 8 ≤ length c
+  pub high : length c ≤ 23
   pub room : length (added c) ≤ length out
 
 -- its octets stand at the front, and n counts them
@@ -25,6 +26,7 @@ pub record CyclePut (c before after : List ℕ) (n : ℕ) : Type 0 where
 
 -- a take of whole records whose transfers find room
 pub record TakeFits (s : Shape) (xs out : List ℕ) : Type 0 where
+  pub low : 1 ≤ s .width
   pub width : s .width ≤ 16
   pub whole : length xs % size s ≡ 0
   pub room : length (harvested s xs) ≤ length out

@@ -6,23 +6,23 @@ use stream::Verdict;
 use stream::Written;
 ghost use mathlib.Core.Path.{_≡_};
 ghost use mathlib.Core.List.{_++_};
-ghost use Prim.Native.Nat.{_<_, _≤_};
+ghost use Prim.Native.Nat.{_≤_};
 ghost use lib.ListN.{length, drop};
 ghost use Rattle.stream.specs.Handshake.{asTransfer, harvested};
 ghost use Rattle.stream.specs.Answers.{Harvested};
 ghost use Rattle.harvest.specs.Filling.{CycleFits, CyclePut, TakeFits};
 
 // Writes the cycle record `rec` as a transfer record at the front of `out`: octet 0 has TLAST alone, and the others are
-// as sampled.
+// as sampled, moved in groups.
 fn put_transfer(rec: &[u8], out: &mut [u8])
-    requires { ⌜ (0 < length (now rec)) × (length (now rec) ≤ length (now out)) ⌝ }
+    requires { ⌜ (8 ≤ length (now rec)) × (length (now rec) ≤ 23) × (length (now rec) ≤ length (now out)) ⌝ }
     ensures { λ r. ⌜ now (out .exit) ≡ asTransfer (now (rec .entry)) ++ drop (length (now (rec .entry))) (now (out .entry)) ⌝ }
 {
+    let n = rec.len();
     out[0] = rec[0] % 2;
-    let mut i = 1;
-    while i < rec.len() {
-        out[i] = rec[i];
-        i += 1;
+    words::place(out, 1, &rec[1..], 7, 7);
+    if 8 < n {
+        words::place(out, 8, &rec[8..], n - 8, n - 8);
     }
 }
 

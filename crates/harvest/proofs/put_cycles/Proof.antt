@@ -47,7 +47,7 @@ part-put-cycle-end-2 : tie.Need-part-put-cycle-end-2 Inv-loop μ-loop
 part-put-cycle-end-2 c = omega arith
 
 put-cycle-requires : tie.Need-put-cycle-requires Inv-loop μ-loop
-put-cycle-requires c κs = asks (c .before .before .before .before .before .before .before .args .s) (c .before .before .before .before .before .before .before .args .capture .now) (c .before .before .before .before .before .before .before .args .out .now) (c .before .before .before .loop .out) (c .before .before .before .loop .at) (c .before .before .before .loop .to) (c .before .before .before .loop .inv (c .before .before .before .before .before .before .before .args .s) (c .before .before .before .before .record-size .ensures)) (c .before .before .loop-test .taken) (c .before .before .before .before .record-size .result) (c .before .before .before .before .record-size .ensures)
+put-cycle-requires c κs = asks (c .before .before .before .before .before .before .before .args .s) (c .before .before .before .before .before .before .before .args .capture .now) (c .before .before .before .before .before .before .before .args .out .now) (c .before .before .before .loop .out) (c .before .before .before .loop .at) (c .before .before .before .loop .to) (c .before .before .before .loop .inv (c .before .before .before .before .before .before .before .args .s) (c .before .before .before .before .record-size .ensures)) (c .before .before .loop-test .taken) (c .before .before .before .before .record-size .result) (c .before .before .before .before .record-size .ensures) (c .before .before .before .before .before .before .before .pre .low) (c .before .before .before .before .before .before .before .pre .width)
 
 add-to : tie.Need-add-to Inv-loop μ-loop
 add-to c = omega (arith, c .before .before .before .before .before .before .before .before .before .before .good .1 .1 .0 .0, c .before .before .before .before .before .before .loop .inv (c .before .before .before .before .before .before .before .before .before .before .args .s) (c .before .before .before .before .before .before .before .record-size .ensures) .long, adds (c .before .before .before .before .before .before .before .before .before .before .args .s) (c .before .before .before .before .before .before .before .before .before .before .args .capture .now) (c .before .before .before .before .before .before .before .before .before .before .args .out .now) (c .before .before .before .before .before .before .loop .out) (c .before .before .before .before .before .before .loop .at) (c .before .before .before .before .before .before .loop .to) (c .before .before .before .before .before .before .loop .inv (c .before .before .before .before .before .before .before .before .before .before .args .s) (c .before .before .before .before .before .before .before .record-size .ensures)) (c .before .before .before .before .before .loop-test .taken) (c .before .before .before .before .before .before .before .record-size .result) (c .before .before .before .before .before .before .before .record-size .ensures) (c .before .before .put-cycle .last .1 .0) (c .before .before .put-cycle .result) (c .before .before .put-cycle .ensures))

@@ -1,62 +1,98 @@
--- `harvest::put_transfer` meets its contract. The loop's invariant: the first i octets of the transfer record stand in
--- front. Assumes nothing.
+-- `harvest::put_transfer` meets its contract: octet 0, then the others in one group or two. Assumes nothing.
 use mathlib.Core.Path.{_∙_}
-use Prim.Native.Nat.{_-_, _%_}
+use Prim.Native.Nat.{_%_}
 use native.Mathlib.Omega.{arith}
-use lib.ListN.{length, getD, set, length-set}
-use Rattle.harvest.proofs.Copied.{Copying, copy-start, copy-more, copy-end}
+use lib.ListN.{getD, length-set}
+use Rattle.harvest.proofs.Copied.{part-long, short-put, long-put}
+use borrow.Author.Needs.{needs}
 use Rattle.harvest.proofs.put_transfer.Statement.{statement}
 use Rattle.harvest.proofs.put_transfer.Tie as tie
+use Rattle.harvest.proofs.put_transfer.Reads as reads
+use Rattle.harvest.proofs.put_transfer.Lts as lts
+use Rattle.words.proofs.place.Reads as place-reads
 
-abbrev Inv-loop : tie.InvT-loop
-Inv-loop rec out₀ i₀ out i = Copying rec out₀ out i
+shared-slice-read-out : tie.Need-shared-slice-read-out
+shared-slice-read-out c = search needs
 
-abbrev μ-loop : tie.MeasureT-loop
-μ-loop rec out₀ i₀ out i = length rec - i
+slice-write-out : tie.Need-slice-write-out
+slice-write-out c = search needs
 
-shared-slice-read-out : tie.Need-shared-slice-read-out Inv-loop μ-loop
-shared-slice-read-out c = omega arith
+sub-place : tie.Need-sub-place
+sub-place c = search needs
 
-slice-write-out : tie.Need-slice-write-out Inv-loop μ-loop
-slice-write-out c = omega arith
+part-place-start : tie.Need-part-place-start
+part-place-start c = search needs
 
-loop-holds : tie.Need-loop-holds Inv-loop μ-loop
-loop-holds c = copy-start (c .before .args .rec .now) (c .before .args .out .now) (c .before .pre .0) (c .before .pre .1)
+part-place-end : tie.Need-part-place-end
+part-place-end c = search needs
 
-shared-slice-read-out-2 : tie.Need-shared-slice-read-out-2 Inv-loop μ-loop
-shared-slice-read-out-2 c = omega arith
+place-requires : tie.Need-place-requires
+place-requires c κs =
+    let a = c .before .before .before .before .before .args in
+    let p = c .before .before .before .before .before .pre in
+    (omega arith, omega arith, omega arith, omega (arith, part-long 1 (a .rec .now) (omega (arith, p .0)), p .0), omega (arith, length-set (a .out .now) 0 (getD (a .rec .now) 0 0 % 2), p .0, p .2))
 
-slice-write-out-2 : tie.Need-slice-write-out-2 Inv-loop μ-loop
-slice-write-out-2 c = omega (arith, length-set (c .before .before .before .before .args .out .now) 0 (getD (c .before .before .before .before .args .rec .now) 0 0 % 2))
+sub-place-2 : tie.Need-sub-place-2
+sub-place-2 c = search needs
 
-add-i : tie.Need-add-i Inv-loop μ-loop
-add-i c = omega arith
+part-place-start-2 : tie.Need-part-place-start-2
+part-place-start-2 c = search needs
 
-loop-less : tie.Need-loop-less Inv-loop μ-loop
-loop-less c = omega arith
+part-place-end-2 : tie.Need-part-place-end-2
+part-place-end-2 c = search needs
 
-loop-again : tie.Need-loop-again Inv-loop μ-loop
-loop-again c = copy-more (c .before .before .before .before .args .rec .now) (set (c .before .before .before .before .args .out .now) 0 (getD (c .before .before .before .before .args .rec .now) 0 0 % 2)) (c .before .before .before .before .pre .0) (simp length-set (omega arith)) (c .before .before .loop .out) (c .before .before .loop .i) (c .before .before .loop .inv) (c .before .loop-test .taken)
+sub-place-3 : tie.Need-sub-place-3
+sub-place-3 c = search needs
 
-same-length : tie.Need-same-length Inv-loop μ-loop
-same-length c = c .before .loop .inv .long ∙ length-set (c .before .before .before .args .out .now) 0 (getD (c .before .before .before .args .rec .now) 0 0 % 2)
+sub-place-4 : tie.Need-sub-place-4
+sub-place-4 c = search needs
 
-returns : tie.Need-returns Inv-loop μ-loop
-returns c = copy-end (c .before .before .before .args .rec .now) (c .before .before .before .args .out .now) (c .before .before .before .pre .0) (c .before .before .before .pre .1) (getD (c .before .before .before .args .rec .now) 0 0 % 2) (c .before .loop .out) (c .before .loop .i) (c .before .loop .inv) (c .loop-test .left)
+place-requires-2 : tie.Need-place-requires-2
+place-requires-2 c κs =
+    let a = c .before .before .before .before .before .before .before .before .before .before .before .args in
+    let p = c .before .before .before .before .before .before .before .before .before .before .before .pre in (
+      omega (arith, c .before .before .if1 .taken),
+      omega (arith, p .1),
+      omega arith,
+      omega (arith, part-long 8 (a .rec .now) (p .0)),
+      omega (arith, c .before .before .before .before .before .place .kept .0, length-set (a .out .now) 0 (getD (a .rec .now) 0 0 % 2), p .0, p .2),
+    )
+
+same-length : tie.Need-same-length
+same-length c = c .before .before .place2 .kept .0 ∙ c .before .before .before .before .before .before .before .before .place .kept .0 ∙ length-set (c .before .before .before .before .before .before .before .before .before .before .before .before .before .before .args .out .now) 0 (getD (c .before .before .before .before .before .before .before .before .before .before .before .before .before .before .args .rec .now) 0 0 % 2)
+
+returns : tie.Need-returns
+returns c =
+    let a = c .before .before .before .before .before .before .before .before .before .before .before .before .before .before .args in
+    let p = c .before .before .before .before .before .before .before .before .before .before .before .before .before .before .pre in
+    long-put (a .rec .now) (a .out .now) (p .0) (p .2) (c .before .before .before .before .before .before .before .before .place .last .0) (c .before .before .before .before .before .before .before .before .place .ensures) (c .before .before .before .before .before .if1 .taken) (c .before .before .place2 .last .0) (c .before .before .place2 .ensures)
+
+same-length-2 : tie.Need-same-length-2
+same-length-2 c = c .before .before .before .place .kept .0 ∙ length-set (c .before .before .before .before .before .before .before .before .before .args .out .now) 0 (getD (c .before .before .before .before .before .before .before .before .before .args .rec .now) 0 0 % 2)
+
+returns-2 : tie.Need-returns-2
+returns-2 c =
+    let a = c .before .before .before .before .before .before .before .before .before .args in
+    let p = c .before .before .before .before .before .before .before .before .before .pre in
+    short-put (a .rec .now) (a .out .now) (p .0) (p .2) (c .before .before .before .place .last .0) (c .before .before .before .place .ensures) (c .if1 .left)
 
 pub put-transfer-spec : {M : Type 1} → statement M
 put-transfer-spec =
     tie.close
     (tie.spec
-    Inv-loop
-    μ-loop
     shared-slice-read-out
     slice-write-out
-    loop-holds
-    shared-slice-read-out-2
-    slice-write-out-2
-    add-i
-    loop-less
-    loop-again
+    sub-place
+    part-place-start
+    part-place-end
+    place-requires
+    sub-place-2
+    part-place-start-2
+    part-place-end-2
+    sub-place-3
+    sub-place-4
+    place-requires-2
     same-length
-    returns)
+    returns
+    same-length-2
+    returns-2)

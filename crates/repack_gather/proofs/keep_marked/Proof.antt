@@ -26,7 +26,7 @@ cast-add-mark : tie.Need-cast-add-mark
 cast-add-mark c = omega (arith, mark-small (c .before .before .before .args .keep) (c .before .before .before .args .strb))
 
 add-mark-requires : tie.Need-add-mark-requires
-add-mark-requires c κs = 
+add-mark-requires c κs =
     let a = c .before .before .before .args in
     let p = c .before .before .before .pre in
     (omega arith, mark-small (a .keep) (a .strb), sym (mark-at (a .marks .now) (a .n) (p .1)) ∙ p .2)
@@ -47,7 +47,7 @@ same-length-2 : tie.Need-same-length-2
 same-length-2 c = search needs
 
 returns : tie.Need-returns
-returns c = 
+returns c =
     let a = c .before .before .before .before .args in
     let p = c .before .before .before .before .pre in
     (refl, refl, rw (c .add-mark .ensures) (mark-set (a .marks .now) (a .n) (markOf (a .keep) (a .strb)) (p .1) (mark-small (a .keep) (a .strb)) (p .2)))

@@ -25,7 +25,7 @@ shared-slice-read-keep-marked : tie.Need-shared-slice-read-keep-marked Inv-loop 
 shared-slice-read-keep-marked c = search needs
 
 keep-marked-requires : tie.Need-keep-marked-requires Inv-loop μ-loop
-keep-marked-requires c κs = 
+keep-marked-requires c κs =
     let a = c .before .before .before .before .before .before .before .before .args in
     let p = c .before .before .before .before .before .before .before .before .pre in
     let l = c .before .before .before .before .loop in (
