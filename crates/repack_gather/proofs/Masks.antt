@@ -143,6 +143,8 @@ module _ (i j k l p q r s t : ℕ) where
 abbrev RowAt : ℕ → Type 0
 RowAt k = Row k (getD sieveRows (4 * k) 0) (getD sieveRows (4 * k + 1) 0) (getD sieveRows (4 * k + 2) 0) (getD sieveRows (4 * k + 3) 0)
 
+ruleset zeros = (zero-add, add-zero)
+
 -- one number more
 below : (P : ℕ → Type 0) (n : ℕ) → ((k : ℕ) → k < n → P k) → P n → (k : ℕ) → k < suc n → P k
 below P n f p k h = go (eqb k n) refl
@@ -155,49 +157,49 @@ row0 : RowAt 0
 row0 = row 0 0 0 0 0 0 0 0 0 (omega arith) (λ a b c d o. record { middle = omega arith; end = omega arith; is = refl })
 
 row1 : RowAt 1
-row1 = row 1 0 0 0 0 0 0 0 0 (omega arith) (λ a b c d o. record { middle = omega arith; end = omega arith; is = simp (zero-add, add-zero) })
+row1 = row 1 0 0 0 0 0 0 0 0 (omega arith) (λ a b c d o. record { middle = omega arith; end = omega arith; is = simp zeros })
 
 row2 : RowAt 2
-row2 = row 0 1 0 0 1 0 0 0 0 (omega arith) (λ a b c d o. record { middle = omega arith; end = omega arith; is = simp (zero-add, add-zero) })
+row2 = row 0 1 0 0 1 0 0 0 0 (omega arith) (λ a b c d o. record { middle = omega arith; end = omega arith; is = simp zeros })
 
 row3 : RowAt 3
-row3 = row 1 1 0 0 0 0 0 0 0 (omega arith) (λ a b c d o. record { middle = omega arith; end = omega arith; is = simp (zero-add, add-zero) })
+row3 = row 1 1 0 0 0 0 0 0 0 (omega arith) (λ a b c d o. record { middle = omega arith; end = omega arith; is = simp zeros })
 
 row4 : RowAt 4
-row4 = row 0 0 1 0 0 0 0 1 0 (omega arith) (λ a b c d o. record { middle = omega arith; end = omega arith; is = simp (zero-add, add-zero) })
+row4 = row 0 0 1 0 0 0 0 1 0 (omega arith) (λ a b c d o. record { middle = omega arith; end = omega arith; is = simp zeros })
 
 row5 : RowAt 5
-row5 = row 1 0 1 0 0 1 0 0 0 (omega arith) (λ a b c d o. record { middle = omega arith; end = omega arith; is = simp (zero-add, add-zero) })
+row5 = row 1 0 1 0 0 1 0 0 0 (omega arith) (λ a b c d o. record { middle = omega arith; end = omega arith; is = simp zeros })
 
 row6 : RowAt 6
-row6 = row 0 1 1 0 1 1 0 0 0 (omega arith) (λ a b c d o. record { middle = omega arith; end = omega arith; is = simp (zero-add, add-zero) })
+row6 = row 0 1 1 0 1 1 0 0 0 (omega arith) (λ a b c d o. record { middle = omega arith; end = omega arith; is = simp zeros })
 
 row7 : RowAt 7
-row7 = row 1 1 1 0 0 0 0 0 0 (omega arith) (λ a b c d o. record { middle = omega arith; end = omega arith; is = simp (zero-add, add-zero) })
+row7 = row 1 1 1 0 0 0 0 0 0 (omega arith) (λ a b c d o. record { middle = omega arith; end = omega arith; is = simp zeros })
 
 row8 : RowAt 8
-row8 = row 0 0 0 1 0 0 1 1 0 (omega arith) (λ a b c d o. record { middle = omega arith; end = omega arith; is = simp (zero-add, add-zero) })
+row8 = row 0 0 0 1 0 0 1 1 0 (omega arith) (λ a b c d o. record { middle = omega arith; end = omega arith; is = simp zeros })
 
 row9 : RowAt 9
-row9 = row 1 0 0 1 0 0 0 0 1 (omega arith) (λ a b c d o. record { middle = omega arith; end = omega arith; is = simp (zero-add, add-zero) })
+row9 = row 1 0 0 1 0 0 0 0 1 (omega arith) (λ a b c d o. record { middle = omega arith; end = omega arith; is = simp zeros })
 
 row10 : RowAt 10
-row10 = row 0 1 0 1 1 0 0 0 1 (omega arith) (λ a b c d o. record { middle = omega arith; end = omega arith; is = simp (zero-add, add-zero) })
+row10 = row 0 1 0 1 1 0 0 0 1 (omega arith) (λ a b c d o. record { middle = omega arith; end = omega arith; is = simp zeros })
 
 row11 : RowAt 11
-row11 = row 1 1 0 1 0 0 1 0 0 (omega arith) (λ a b c d o. record { middle = omega arith; end = omega arith; is = simp (zero-add, add-zero) })
+row11 = row 1 1 0 1 0 0 1 0 0 (omega arith) (λ a b c d o. record { middle = omega arith; end = omega arith; is = simp zeros })
 
 row12 : RowAt 12
-row12 = row 0 0 1 1 0 0 0 1 1 (omega arith) (λ a b c d o. record { middle = omega arith; end = omega arith; is = simp (zero-add, add-zero) })
+row12 = row 0 0 1 1 0 0 0 1 1 (omega arith) (λ a b c d o. record { middle = omega arith; end = omega arith; is = simp zeros })
 
 row13 : RowAt 13
-row13 = row 1 0 1 1 0 1 1 0 0 (omega arith) (λ a b c d o. record { middle = omega arith; end = omega arith; is = simp (zero-add, add-zero) })
+row13 = row 1 0 1 1 0 1 1 0 0 (omega arith) (λ a b c d o. record { middle = omega arith; end = omega arith; is = simp zeros })
 
 row14 : RowAt 14
-row14 = row 0 1 1 1 1 1 1 0 0 (omega arith) (λ a b c d o. record { middle = omega arith; end = omega arith; is = simp (zero-add, add-zero) })
+row14 = row 0 1 1 1 1 1 1 0 0 (omega arith) (λ a b c d o. record { middle = omega arith; end = omega arith; is = simp zeros })
 
 row15 : RowAt 15
-row15 = row 1 1 1 1 0 0 0 0 0 (omega arith) (λ a b c d o. record { middle = omega arith; end = omega arith; is = simp (zero-add, add-zero) })
+row15 = row 1 1 1 1 0 0 0 0 0 (omega arith) (λ a b c d o. record { middle = omega arith; end = omega arith; is = simp zeros })
 
 pub rows : (k : ℕ) → k < 16 → RowAt k
 rows =
@@ -220,9 +222,12 @@ module _ (e x y m n : ℕ) (h : x < 4294967296) (k : m < 4294967296) (z : n % 2 
 moved-less : (x m by : ℕ) → moved x m by ≤ x
 moved-less x m by = omega (arith, and-le-l x m, div-le-self (bitAnd x m) by)
 
+pub once-less : (x kept odd : ℕ) → moved (bitAnd x kept) odd 256 ≤ x
+once-less x kept odd = omega (arith, and-le-l x kept, moved-less (bitAnd x kept) odd 256)
+
 pub closing-less : (x kept odd far : ℕ) → closing x kept odd far ≤ x
 closing-less x kept odd far =
-    omega (arith, and-le-l x kept, moved-less (bitAnd x kept) odd 256, moved-less (moved (bitAnd x kept) odd 256) far 65536)
+    omega (arith, once-less x kept odd, moved-less (moved (bitAnd x kept) odd 256) far 65536)
 
 -- the masks of two rows
 pub closing-halves : (x y k kept odd far n k' kept' odd' far' n' : ℕ) → x < 4294967296 → Row k kept odd far n → Row k' kept' odd' far' n'
@@ -232,7 +237,7 @@ closing-halves x y k kept odd far n k' kept' odd' far' n' h r s =
     rw (and-low 32 x y kept kept' h (r .keptSmall),
         moved-halves 8 (bitAnd x kept) (bitAnd y kept') odd odd' (omega (arith, and-le-l x kept)) (r .oddSmall) (s .oddHigh))
     (moved-halves 16 (moved (bitAnd x kept) odd 256) (moved (bitAnd y kept') odd' 256) far far'
-    (omega (arith, and-le-l x kept, moved-less (bitAnd x kept) odd 256)) (r .farSmall) (s .farHigh))
+    (omega (arith, once-less x kept odd)) (r .farSmall) (s .farHigh))
 
 -- the octets of a word, by a row
 pub four-closed : (x k kept odd far n : ℕ) → x < 4294967296 → Row k kept odd far n

@@ -1,26 +1,26 @@
+-- `repack_gather::sieve::close` meets its contract: it never gets larger. Assumes nothing.
+use native.Mathlib.Omega.{arith}
+use lib.Bits.{bitAnd, and-le-l}
+use Rattle.repack_gather.specs.Sieve.{moved}
+use Rattle.repack_gather.proofs.Masks.{once-less, closing-less}
 use borrow.Author.Needs.{needs}
 use Rattle.repack_gather.proofs.sieve.close.Statement.{statement}
 use Rattle.repack_gather.proofs.sieve.close.Tie as tie
 use Rattle.repack_gather.proofs.sieve.close.Reads as reads
 use Rattle.repack_gather.proofs.sieve.close.Lts as lts
 
--- src/sieve.rt:89:13
 sub-c : tie.Need-sub-c
-sub-c c = ?h1
+sub-c c = and-le-l (bitAnd (c .args .x) (c .args .kept)) (c .args .odd)
 
--- src/sieve.rt:89:13
 add-c : tie.Need-add-c
-add-c c = ?h2
+add-c c = omega (arith, c .fits .x, once-less (c .args .x) (c .args .kept) (c .args .odd))
 
--- src/sieve.rt:91:5
 sub-result : tie.Need-sub-result
-sub-result c = ?h3
+sub-result c = and-le-l (moved (bitAnd (c .args .x) (c .args .kept)) (c .args .odd) 256) (c .args .far)
 
--- src/sieve.rt:91:5
 add-result : tie.Need-add-result
-add-result c = ?h4
+add-result c = omega (arith, c .fits .x, closing-less (c .args .x) (c .args .kept) (c .args .odd) (c .args .far))
 
--- src/sieve.rt:84:1
 returns : tie.Need-returns
 returns c = search needs
 

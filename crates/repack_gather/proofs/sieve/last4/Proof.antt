@@ -1,3 +1,9 @@
+-- `repack_gather::sieve::last4` meets its contract: a word is loaded, and its first octets are shifted out. Assumes nothing.
+use Prim.Native.Nat.{_-_, _*_, _%_, _^_}
+use native.Mathlib.Nat.{div-le-self}
+use native.Mathlib.Omega.{arith}
+use Rattle.words.proofs.Words.{shifted-some}
+use Rattle.repack_gather.proofs.Loaded.{last-octets}
 use borrow.Author.Needs.{needs}
 use Rattle.repack_gather.proofs.sieve.last4.Statement.{statement}
 use Rattle.repack_gather.proofs.sieve.last4.Tie as tie
@@ -5,41 +11,34 @@ use Rattle.repack_gather.proofs.sieve.last4.Reads as reads
 use Rattle.repack_gather.proofs.sieve.last4.Lts as lts
 use Rattle.words.proofs.load4.Reads as load4-reads
 
--- src/sieve.rt:137:26
 sub-load4 : tie.Need-sub-load4
 sub-load4 c = search needs
 
--- src/sieve.rt:137:6
 load4-requires : tie.Need-load4-requires
 load4-requires c κs = search needs
 
--- src/sieve.rt:137:52
 sub-result : tie.Need-sub-result
 sub-result c = search needs
 
--- src/sieve.rt:137:47
 mul-result : tie.Need-mul-result
 mul-result c = search needs
 
--- src/sieve.rt:137:47
 cast-result : tie.Need-cast-result
 cast-result c = search needs
 
--- src/sieve.rt:137:38
 shl-result : tie.Need-shl-result
 shl-result c = search needs
 
--- src/sieve.rt:137:6
 div-result : tie.Need-div-result
-div-result c = ?h1
+div-result c = shifted-some 32 (4 - c .before .before .args .n) (omega (arith, c .before .before .pre))
 
--- src/sieve.rt:137:5
 cast-result-2 : tie.Need-cast-result-2
-cast-result-2 c = ?h2
+cast-result-2 c = omega (arith, c .load4 .fits, div-le-self (c .load4 .result) (1 * 2 ^ (8 * (4 - c .before .before .args .n)) % 2 ^ 32))
 
--- src/sieve.rt:133:1
 returns : tie.Need-returns
-returns c = ?h3
+returns c =
+    (omega (arith, c .load4 .fits, div-le-self (c .load4 .result) (1 * 2 ^ (8 * (4 - c .before .before .args .n)) % 2 ^ 32)),
+    last-octets (c .before .before .args .input .now) (λ j. omega (arith, c .before .shared-slice-known .given j)) 32 4 (c .before .before .args .n) (c .before .before .args .end) (c .load4 .result) (c .before .before .pre .0) (c .before .before .pre .1) (c .before .before .pre .2) (omega arith) (c .load4 .ensures))
 
 pub last4-spec : {M : Type 1} → statement M
 last4-spec =
