@@ -1,3 +1,6 @@
+-- `repack_gather::gather_lanes` meets its contract: the bulk copy keeps what the lane loop would. Assumes nothing.
+use lib.ListN.{length}
+use Rattle.repack_gather.proofs.Lanes.{all-kept}
 use borrow.Author.Needs.{needs}
 use Rattle.repack_gather.proofs.gather_lanes.Statement.{statement}
 use Rattle.repack_gather.proofs.gather_lanes.Tie as tie
@@ -6,31 +9,27 @@ use Rattle.repack_gather.proofs.gather_lanes.Lts as lts
 use Rattle.repack_gather.proofs.sift_lanes.Reads as sift-lanes-reads
 use Rattle.words.proofs.place.Reads as place-reads
 
--- src/lib.rt:47:9
 place-requires : tie.Need-place-requires
 place-requires c κs = search needs
 
--- src/lib.rt:48:16
 add-result : tie.Need-add-result
 add-result c = search needs
 
--- src/lib.rt:48:9
 same-length : tie.Need-same-length
 same-length c = search needs
 
--- src/lib.rt:48:9
 returns : tie.Need-returns
-returns c = ?h1
+returns c =
+    let a = c .before .before .before .before .before .before .before .args in
+    let p = c .before .before .before .before .before .before .before .pre in
+    all-kept (length (a .lanes .now)) (a .lanes .now) (a .octets .now) (c .before .before .place .last .0) (a .at) (a .keep) (a .full) (c .before .before .before .before .if1 .taken) (p .2) (p .3) (c .before .before .place .ensures)
 
--- src/lib.rt:50:5
 sift-lanes-requires : tie.Need-sift-lanes-requires
 sift-lanes-requires c κs = search needs
 
--- src/lib.rt:42:1
 same-length-2 : tie.Need-same-length-2
 same-length-2 c = search needs
 
--- src/lib.rt:42:1
 returns-2 : tie.Need-returns-2
 returns-2 c = search needs
 

@@ -33,11 +33,11 @@ div-result : tie.Need-div-result
 div-result c = shifted-some 32 (4 - c .before .before .args .n) (omega (arith, c .before .before .pre))
 
 cast-result-2 : tie.Need-cast-result-2
-cast-result-2 c = omega (arith, c .load4 .fits, div-le-self (c .load4 .result) (1 * 2 ^ (8 * (4 - c .before .before .args .n)) % 2 ^ 32))
+cast-result-2 c = omega (arith, c .load4 .ok, div-le-self (c .load4 .result) (1 * 2 ^ (8 * (4 - c .before .before .args .n)) % 2 ^ 32))
 
 returns : tie.Need-returns
 returns c =
-    (omega (arith, c .load4 .fits, div-le-self (c .load4 .result) (1 * 2 ^ (8 * (4 - c .before .before .args .n)) % 2 ^ 32)),
+    (omega (arith, c .load4 .ok, div-le-self (c .load4 .result) (1 * 2 ^ (8 * (4 - c .before .before .args .n)) % 2 ^ 32)),
     last-octets (c .before .before .args .input .now) (λ j. omega (arith, c .before .shared-slice-known .given j)) 32 4 (c .before .before .args .n) (c .before .before .args .end) (c .load4 .result) (c .before .before .pre .0) (c .before .before .pre .1) (c .before .before .pre .2) (omega arith) (c .load4 .ensures))
 
 pub last4-spec : {M : Type 1} → statement M
