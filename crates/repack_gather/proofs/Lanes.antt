@@ -166,7 +166,7 @@ module _ (keep : ℕ) (lanes before : List ℕ) (at : ℕ) (octets : List ℕ) (
       let first : getD (drop j lanes) 0 0 ≡ getD lanes j 0 = getD-drop j lanes 0 0 ∙ rw (add-zero j) refl in
       let left : 1 + (length lanes - (j + 1)) ≡ length lanes - j = omega arith in
       let one : keptOctets (length lanes - j) k (drop j lanes)
-          ≡ keptOctets 1 k (getD lanes j 0 ∷ []) ++ keptOctets (length lanes - (j + 1)) (k / 2) (drop (j + 1) lanes) =
+      ≡ keptOctets 1 k (getD lanes j 0 ∷ []) ++ keptOctets (length lanes - (j + 1)) (k / 2) (drop (j + 1) lanes) =
       rw (← left) (kept-split 1 (length lanes - (j + 1)) k (drop j lanes) ∙ rw (first, drop-drop 1 j lanes) refl) in
       record {
         done = omega arith;

@@ -1,9 +1,9 @@
 -- Octets that a mask names, kept and moved down: in four octets for each row of the sieve, in eight as two times four.
 -- Assumes nothing.
-use mathlib.Core.Path.{_≡_, refl, sym, ap, _∙_}
+use mathlib.Core.Path.{_≡_, refl, ap, _∙_}
 use mathlib.Core.Bool.{Bool, true, false}
-use mathlib.Core.List.{List, [], _∷_, _++_}
-use Prim.Native.Nat.{ℕ, zero, suc, _+_, _-_, _*_, _/_, _%_, _^_, _≤_, _<_}
+use mathlib.Core.List.{[], _∷_}
+use Prim.Native.Nat.{ℕ, zero, suc, _+_, _*_, _/_, _%_, _^_, _≤_, _<_}
 use native.Mathlib.Nat.{add-zero, zero-add, mod-eq-of-lt, div-le-self, div-add-mod', add-mul-div-right}
 use native.Mathlib.Omega.{arith}
 use borrow.Author.Tests.{eqb-true, eqb-false}
@@ -45,14 +45,17 @@ named-left : (b x : ℕ) → named b x + left b x ≡ x
 named-left zero x = omega arith
 named-left (suc b) x = omega arith
 
--- ---- four octets
-
-abbrev four : ℕ → ℕ → ℕ → ℕ → ℕ
-four a b c d = a + 256 * (b + 256 * (c + 256 * d))
+named-less : (b x : ℕ) → x < 256 → named b x < 256
+named-less b x h = omega (arith, named-left b x)
 
 full-small : (b : ℕ) → full b < 256
 full-small zero = omega arith
 full-small (suc b) = omega arith
+
+-- ---- four octets
+
+abbrev four : ℕ → ℕ → ℕ → ℕ → ℕ
+four a b c d = a + 256 * (b + 256 * (c + 256 * d))
 
 record Octets (a b c d : ℕ) : Type 0 where
   first : a < 256
@@ -64,8 +67,14 @@ and-four : (i j k l a b c d : ℕ) → Octets a b c d
     → bitAnd (four a b c d) (four (full i) (full j) (full k) (full l)) ≡ four (named i a) (named j b) (named k c) (named l d)
 and-four i j k l a b c d o =
     and-low 8 a (b + 256 * (c + 256 * d)) (full i) (full j + 256 * (full k + 256 * full l)) (o .first) (full-small i)
-    ∙ rw (and-low 8 b (c + 256 * d) (full j) (full k + 256 * full l) (o .second) (full-small j), and-low 8 c d (full k) (full l) (o .third) (full-small k), and-octet i a (o .first),
-        and-octet j b (o .second), and-octet k c (o .third), and-octet l d (o .fourth))
+    ∙ rw (
+      and-low 8 b (c + 256 * d) (full j) (full k + 256 * full l) (o .second) (full-small j),
+      and-low 8 c d (full k) (full l) (o .third) (full-small k),
+      and-octet i a (o .first),
+      and-octet j b (o .second),
+      and-octet k c (o .third),
+      and-octet l d (o .fourth),
+    )
     refl
 
 -- down one place, down two
@@ -83,12 +92,19 @@ octets-four : (a b c d : ℕ) → Octets a b c d → octetsOfWord 4 (four a b c 
 octets-four a b c d o =
     let low : (n m : ℕ) → n < 256 → (n + 256 * m) % 256 ≡ n = λ n m h. omega arith in
     let high : (n m : ℕ) → n < 256 → (n + 256 * m) / 256 ≡ m = λ n m h. omega arith in
-    rw (low a (b + 256 * (c + 256 * d)) (o .first), high a (b + 256 * (c + 256 * d)) (o .first), low b (c + 256 * d) (o .second), high b (c + 256 * d) (o .second),
-        low c d (o .third), high c d (o .third), mod-eq-of-lt (o .fourth))
+    rw (
+      low a (b + 256 * (c + 256 * d)) (o .first),
+      high a (b + 256 * (c + 256 * d)) (o .first),
+      low b (c + 256 * d) (o .second),
+      high b (c + 256 * d) (o .second),
+      low c d (o .third),
+      high c d (o .third),
+      mod-eq-of-lt (o .fourth),
+    )
     refl
 
 -- a word is its octets
-pub word-four : (x : ℕ) → x < 4294967296 → x ≡ four (x % 256) (x / 256 % 256) (x / 256 / 256 % 256) (x / 256 / 256 / 256 % 256)
+word-four : (x : ℕ) → x < 4294967296 → x ≡ four (x % 256) (x / 256 % 256) (x / 256 / 256 % 256) (x / 256 / 256 / 256 % 256)
 word-four x h = omega arith
 
 -- ---- the rows
@@ -118,9 +134,6 @@ module _ (i j k l p q r s t : ℕ) where
       end : twice Octets
       is : twice (λ w x y z. take (i + j + k + l) (w ∷ x ∷ y ∷ z ∷ []) ≡ keptOctets 4 (i + 2 * j + 4 * k + 8 * l) (a ∷ b ∷ c ∷ d ∷ []))
 
-  named-less : (m x : ℕ) → x < 256 → named m x < 256
-  named-less m x h = omega (arith, named-left m x)
-
   row : i + j + k + l ≤ 4 → ((a b c d : ℕ) → Octets a b c d → Apart a b c d)
       → Row (i + 2 * j + 4 * k + 8 * l) (four (full i) (full j) (full k) (full l)) (four 0 (full p) (full q) (full r)) (four 0 0 (full s) (full t)) (i + j + k + l)
   row n f =
@@ -135,8 +148,11 @@ module _ (i j k l p q r s t : ℕ) where
             let u : Octets (named i a) (named j b) (named k c) (named l d) =
             record { first = named-less i a (o .first); second = named-less j b (o .second); third = named-less k c (o .third); fourth = named-less l d (o .fourth) } in
             let v = f a b c d o in
-            rw (and-four i j k l a b c d o, moved-one p q r (named i a) (named j b) (named k c) (named l d) u,
-                moved-two s t (named i a + named p (named j b)) (left p (named j b) + named q (named k c)) (left q (named k c) + named r (named l d)) (left r (named l d)) (v .middle))
+            rw (
+              and-four i j k l a b c d o,
+              moved-one p q r (named i a) (named j b) (named k c) (named l d) u,
+              moved-two s t (named i a + named p (named j b)) (left p (named j b) + named q (named k c)) (left q (named k c) + named r (named l d)) (left r (named l d)) (v .middle),
+            )
             (ap (take (i + j + k + l)) (octets-four _ _ _ _ (v .end)) ∙ v .is);
       }
 
@@ -145,7 +161,7 @@ RowAt k = Row k (getD sieveRows (4 * k) 0) (getD sieveRows (4 * k + 1) 0) (getD 
 
 ruleset zeros = (zero-add, add-zero)
 
--- one number more
+-- all numbers below n, and n
 below : (P : ℕ → Type 0) (n : ℕ) → ((k : ℕ) → k < n → P k) → P n → (k : ℕ) → k < suc n → P k
 below P n f p k h = go (eqb k n) refl
   where
@@ -234,8 +250,10 @@ pub closing-halves : (x y k kept odd far n k' kept' odd' far' n' : ℕ) → x < 
     → closing (x + 4294967296 * y) (kept + 4294967296 * kept') (odd + 4294967296 * odd') (far + 4294967296 * far')
     ≡ closing x kept odd far + 4294967296 * closing y kept' odd' far'
 closing-halves x y k kept odd far n k' kept' odd' far' n' h r s =
-    rw (and-low 32 x y kept kept' h (r .keptSmall),
-        moved-halves 8 (bitAnd x kept) (bitAnd y kept') odd odd' (omega (arith, and-le-l x kept)) (r .oddSmall) (s .oddHigh))
+    rw (
+      and-low 32 x y kept kept' h (r .keptSmall),
+      moved-halves 8 (bitAnd x kept) (bitAnd y kept') odd odd' (omega (arith, and-le-l x kept)) (r .oddSmall) (s .oddHigh),
+    )
     (moved-halves 16 (moved (bitAnd x kept) odd 256) (moved (bitAnd y kept') odd' 256) far far'
     (omega (arith, once-less x kept odd)) (r .farSmall) (s .farHigh))
 

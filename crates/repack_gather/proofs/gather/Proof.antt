@@ -8,11 +8,6 @@ use Rattle.repack_gather.proofs.Lanes.{one-kept, all-kept}
 use borrow.Author.Needs.{needs}
 use Rattle.repack_gather.proofs.gather.Statement.{statement}
 use Rattle.repack_gather.proofs.gather.Tie as tie
-use Rattle.repack_gather.proofs.gather.Reads as reads
-use Rattle.repack_gather.proofs.gather.Lts as lts
-use Rattle.repack_gather.proofs.keep_lane.Reads as keep-lane-reads
-use Rattle.repack_gather.proofs.sieve.sift.Reads as sift-reads
-use Rattle.words.proofs.place.Reads as place-reads
 
 shared-slice-read-keep-lane : tie.Need-shared-slice-read-keep-lane
 shared-slice-read-keep-lane c = search needs

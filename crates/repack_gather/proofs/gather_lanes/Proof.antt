@@ -4,10 +4,6 @@ use Rattle.repack_gather.proofs.Lanes.{all-kept}
 use borrow.Author.Needs.{needs}
 use Rattle.repack_gather.proofs.gather_lanes.Statement.{statement}
 use Rattle.repack_gather.proofs.gather_lanes.Tie as tie
-use Rattle.repack_gather.proofs.gather_lanes.Reads as reads
-use Rattle.repack_gather.proofs.gather_lanes.Lts as lts
-use Rattle.repack_gather.proofs.sift_lanes.Reads as sift-lanes-reads
-use Rattle.words.proofs.place.Reads as place-reads
 
 place-requires : tie.Need-place-requires
 place-requires c κs = search needs

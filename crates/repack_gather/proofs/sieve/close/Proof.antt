@@ -6,8 +6,6 @@ use Rattle.repack_gather.proofs.Masks.{once-less, closing-less}
 use borrow.Author.Needs.{needs}
 use Rattle.repack_gather.proofs.sieve.close.Statement.{statement}
 use Rattle.repack_gather.proofs.sieve.close.Tie as tie
-use Rattle.repack_gather.proofs.sieve.close.Reads as reads
-use Rattle.repack_gather.proofs.sieve.close.Lts as lts
 
 sub-c : tie.Need-sub-c
 sub-c c = and-le-l (bitAnd (c .args .x) (c .args .kept)) (c .args .odd)

@@ -7,9 +7,6 @@ use Rattle.repack_gather.proofs.Loaded.{last-octets}
 use borrow.Author.Needs.{needs}
 use Rattle.repack_gather.proofs.sieve.last4.Statement.{statement}
 use Rattle.repack_gather.proofs.sieve.last4.Tie as tie
-use Rattle.repack_gather.proofs.sieve.last4.Reads as reads
-use Rattle.repack_gather.proofs.sieve.last4.Lts as lts
-use Rattle.words.proofs.load4.Reads as load4-reads
 
 sub-load4 : tie.Need-sub-load4
 sub-load4 c = search needs
@@ -36,9 +33,10 @@ cast-result-2 : tie.Need-cast-result-2
 cast-result-2 c = omega (arith, c .load4 .ok, div-le-self (c .load4 .result) (1 * 2 ^ (8 * (4 - c .before .before .args .n)) % 2 ^ 32))
 
 returns : tie.Need-returns
-returns c =
-    (omega (arith, c .load4 .ok, div-le-self (c .load4 .result) (1 * 2 ^ (8 * (4 - c .before .before .args .n)) % 2 ^ 32)),
-    last-octets (c .before .before .args .input .now) (λ j. omega (arith, c .before .shared-slice-known .given j)) 32 4 (c .before .before .args .n) (c .before .before .args .end) (c .load4 .result) (c .before .before .pre .0) (c .before .before .pre .1) (c .before .before .pre .2) (omega arith) (c .load4 .ensures))
+returns c = (
+  omega (arith, c .load4 .ok, div-le-self (c .load4 .result) (1 * 2 ^ (8 * (4 - c .before .before .args .n)) % 2 ^ 32)),
+  last-octets (c .before .before .args .input .now) (λ j. omega (arith, c .before .shared-slice-known .given j)) 32 4 (c .before .before .args .n) (c .before .before .args .end) (c .load4 .result) (c .before .before .pre .0) (c .before .before .pre .1) (c .before .before .pre .2) (omega arith) (c .load4 .ensures),
+)
 
 pub last4-spec : {M : Type 1} → statement M
 last4-spec =

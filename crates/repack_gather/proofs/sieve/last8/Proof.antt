@@ -6,9 +6,6 @@ use Rattle.repack_gather.proofs.Loaded.{last-octets}
 use borrow.Author.Needs.{needs}
 use Rattle.repack_gather.proofs.sieve.last8.Statement.{statement}
 use Rattle.repack_gather.proofs.sieve.last8.Tie as tie
-use Rattle.repack_gather.proofs.sieve.last8.Reads as reads
-use Rattle.repack_gather.proofs.sieve.last8.Lts as lts
-use Rattle.words.proofs.load8.Reads as load8-reads
 
 sub-load8 : tie.Need-sub-load8
 sub-load8 c = search needs

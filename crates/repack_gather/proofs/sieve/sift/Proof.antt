@@ -4,13 +4,6 @@ use Rattle.repack_gather.proofs.Sifted.{few-lanes, many-lanes}
 use borrow.Author.Needs.{needs}
 use Rattle.repack_gather.proofs.sieve.sift.Statement.{statement}
 use Rattle.repack_gather.proofs.sieve.sift.Tie as tie
-use Rattle.repack_gather.proofs.sieve.sift.Reads as reads
-use Rattle.repack_gather.proofs.sieve.sift.Lts as lts
-use Rattle.repack_gather.proofs.sieve.last4.Reads as last4-reads
-use Rattle.repack_gather.proofs.sieve.last8.Reads as last8-reads
-use Rattle.repack_gather.proofs.sieve.sift4.Reads as sift4-reads
-use Rattle.repack_gather.proofs.sieve.sift8.Reads as sift8-reads
-use Rattle.words.proofs.load8.Reads as load8-reads
 
 add-end : tie.Need-add-end
 add-end c = search needs

@@ -6,10 +6,6 @@ use Rattle.repack_gather.proofs.Sifted.{row-read, rows-long, sifted4}
 use borrow.Author.Needs.{needs}
 use Rattle.repack_gather.proofs.sieve.sift4.Statement.{statement}
 use Rattle.repack_gather.proofs.sieve.sift4.Tie as tie
-use Rattle.repack_gather.proofs.sieve.sift4.Reads as reads
-use Rattle.repack_gather.proofs.sieve.sift4.Lts as lts
-use Rattle.repack_gather.proofs.sieve.close.Reads as close-reads
-use Rattle.words.proofs.store4.Reads as store4-reads
 
 cast-l : tie.Need-cast-l
 cast-l c = search needs

@@ -7,11 +7,6 @@ use Rattle.repack_gather.proofs.Sifted.{row-read, rows-long, sifted8}
 use borrow.Author.Needs.{needs}
 use Rattle.repack_gather.proofs.sieve.sift8.Statement.{statement}
 use Rattle.repack_gather.proofs.sieve.sift8.Tie as tie
-use Rattle.repack_gather.proofs.sieve.sift8.Reads as reads
-use Rattle.repack_gather.proofs.sieve.sift8.Lts as lts
-use Rattle.repack_gather.proofs.sieve.both.Reads as both-reads
-use Rattle.repack_gather.proofs.sieve.close.Reads as close-reads
-use Rattle.words.proofs.store4.Reads as store4-reads
 
 cast-l : tie.Need-cast-l
 cast-l c = search needs
