@@ -17,7 +17,7 @@ mul-close : tie.Need-mul-close
 mul-close c = search needs
 
 shared-slice-read-close : tie.Need-shared-slice-read-close
-shared-slice-read-close c = omega (arith, rows-long (c .before .before .before .args .sieve .now) (c .before .before .before .pre .2))
+shared-slice-read-close c = omega (arith, rows-long)
 
 add-close : tie.Need-add-close
 add-close c = search needs
@@ -26,7 +26,7 @@ mul-close-2 : tie.Need-mul-close-2
 mul-close-2 c = search needs
 
 shared-slice-read-close-2 : tie.Need-shared-slice-read-close-2
-shared-slice-read-close-2 c = omega (arith, rows-long (c .before .before .before .before .args .sieve .now) (c .before .before .before .before .pre .2))
+shared-slice-read-close-2 c = omega (arith, rows-long)
 
 add-close-2 : tie.Need-add-close-2
 add-close-2 c = search needs
@@ -35,7 +35,7 @@ mul-close-3 : tie.Need-mul-close-3
 mul-close-3 c = search needs
 
 shared-slice-read-close-3 : tie.Need-shared-slice-read-close-3
-shared-slice-read-close-3 c = omega (arith, rows-long (c .before .before .before .before .before .args .sieve .now) (c .before .before .before .before .before .pre .2))
+shared-slice-read-close-3 c = omega (arith, rows-long)
 
 close-requires : tie.Need-close-requires
 close-requires c κs = search needs
@@ -53,10 +53,12 @@ mul-result : tie.Need-mul-result
 mul-result c = search needs
 
 shared-slice-read-result : tie.Need-shared-slice-read-result
-shared-slice-read-result c = omega (arith, rows-long (c .before .before .before .before .before .before .before .before .before .before .before .args .sieve .now) (c .before .before .before .before .before .before .before .before .before .before .before .pre .2))
+shared-slice-read-result c = omega (arith, rows-long)
 
 add-result-2 : tie.Need-add-result-2
-add-result-2 c = omega (arith, (row-read (c .before .before .before .before .before .before .before .before .before .before .before .args .sieve .now) (c .before .before .before .before .before .before .before .before .before .before .before .args .keep) (c .before .before .before .before .before .before .before .before .before .before .before .pre .2)) .count, c .before .before .before .before .before .before .before .before .before .before .before)
+add-result-2 c =
+    let b = c .before .before .before .before .before .before .before .before .before .before .before in
+    omega (arith, (row-read (b .args .sieve .now) (b .args .keep) (b .pre .2)) .count, b)
 
 same-length : tie.Need-same-length
 same-length c = search needs

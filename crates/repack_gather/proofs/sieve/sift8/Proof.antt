@@ -24,16 +24,18 @@ mul-both : tie.Need-mul-both
 mul-both c = search needs
 
 shared-slice-read-both : tie.Need-shared-slice-read-both
-shared-slice-read-both c = omega (arith, rows-long (c .before .before .before .args .sieve .now) (c .before .before .before .pre .1))
+shared-slice-read-both c = omega (arith, rows-long)
 
 mul-both-2 : tie.Need-mul-both-2
 mul-both-2 c = search needs
 
 shared-slice-read-both-2 : tie.Need-shared-slice-read-both-2
-shared-slice-read-both-2 c = omega (arith, rows-long (c .before .before .before .before .args .sieve .now) (c .before .before .before .before .pre .1))
+shared-slice-read-both-2 c = omega (arith, rows-long)
 
 both-requires : tie.Need-both-requires
-both-requires c κs = let a = c .before .before .before .before .args in ((row-read (a .sieve .now) (a .keep) (c .before .before .before .before .pre .1)) .keptSmall, (row-read (a .sieve .now) (a .keep / 16) (c .before .before .before .before .pre .1)) .keptSmall)
+both-requires c κs =
+    let b = c .before .before .before .before in
+    ((row-read (b .args .sieve .now) (b .args .keep) (b .pre .1)) .keptSmall, (row-read (b .args .sieve .now) (b .args .keep / 16) (b .pre .1)) .keptSmall)
 
 add-both : tie.Need-add-both
 add-both c = search needs
@@ -42,7 +44,7 @@ mul-both-3 : tie.Need-mul-both-3
 mul-both-3 c = search needs
 
 shared-slice-read-both-3 : tie.Need-shared-slice-read-both-3
-shared-slice-read-both-3 c = omega (arith, rows-long (c .before .before .before .before .before .before .args .sieve .now) (c .before .before .before .before .before .before .pre .1))
+shared-slice-read-both-3 c = omega (arith, rows-long)
 
 add-both-2 : tie.Need-add-both-2
 add-both-2 c = search needs
@@ -51,10 +53,12 @@ mul-both-4 : tie.Need-mul-both-4
 mul-both-4 c = search needs
 
 shared-slice-read-both-4 : tie.Need-shared-slice-read-both-4
-shared-slice-read-both-4 c = omega (arith, rows-long (c .before .before .before .before .before .before .before .args .sieve .now) (c .before .before .before .before .before .before .before .pre .1))
+shared-slice-read-both-4 c = omega (arith, rows-long)
 
 both-requires-2 : tie.Need-both-requires-2
-both-requires-2 c κs = let a = c .before .before .before .before .before .before .before .args in ((row-read (a .sieve .now) (a .keep) (c .before .before .before .before .before .before .before .pre .1)) .oddSmall, (row-read (a .sieve .now) (a .keep / 16) (c .before .before .before .before .before .before .before .pre .1)) .oddSmall)
+both-requires-2 c κs =
+    let b = c .before .before .before .before .before .before .before in
+    ((row-read (b .args .sieve .now) (b .args .keep) (b .pre .1)) .oddSmall, (row-read (b .args .sieve .now) (b .args .keep / 16) (b .pre .1)) .oddSmall)
 
 add-both-3 : tie.Need-add-both-3
 add-both-3 c = search needs
@@ -63,7 +67,7 @@ mul-both-5 : tie.Need-mul-both-5
 mul-both-5 c = search needs
 
 shared-slice-read-both-5 : tie.Need-shared-slice-read-both-5
-shared-slice-read-both-5 c = omega (arith, rows-long (c .before .before .before .before .before .before .before .before .before .args .sieve .now) (c .before .before .before .before .before .before .before .before .before .pre .1))
+shared-slice-read-both-5 c = omega (arith, rows-long)
 
 add-both-4 : tie.Need-add-both-4
 add-both-4 c = search needs
@@ -72,10 +76,12 @@ mul-both-6 : tie.Need-mul-both-6
 mul-both-6 c = search needs
 
 shared-slice-read-both-6 : tie.Need-shared-slice-read-both-6
-shared-slice-read-both-6 c = omega (arith, rows-long (c .before .before .before .before .before .before .before .before .before .before .args .sieve .now) (c .before .before .before .before .before .before .before .before .before .before .pre .1))
+shared-slice-read-both-6 c = omega (arith, rows-long)
 
 both-requires-3 : tie.Need-both-requires-3
-both-requires-3 c κs = let a = c .before .before .before .before .before .before .before .before .before .before .args in ((row-read (a .sieve .now) (a .keep) (c .before .before .before .before .before .before .before .before .before .before .pre .1)) .farSmall, (row-read (a .sieve .now) (a .keep / 16) (c .before .before .before .before .before .before .before .before .before .before .pre .1)) .farSmall)
+both-requires-3 c κs =
+    let b = c .before .before .before .before .before .before .before .before .before .before in
+    ((row-read (b .args .sieve .now) (b .args .keep) (b .pre .1)) .farSmall, (row-read (b .args .sieve .now) (b .args .keep / 16) (b .pre .1)) .farSmall)
 
 close-requires : tie.Need-close-requires
 close-requires c κs = search needs
@@ -93,16 +99,20 @@ mul-n : tie.Need-mul-n
 mul-n c = search needs
 
 shared-slice-read-n : tie.Need-shared-slice-read-n
-shared-slice-read-n c = omega (arith, rows-long (c .before .before .before .before .before .before .before .before .before .before .before .before .before .before .before .before .before .args .sieve .now) (c .before .before .before .before .before .before .before .before .before .before .before .before .before .before .before .before .before .pre .1))
+shared-slice-read-n c = omega (arith, rows-long)
 
 add-n-2 : tie.Need-add-n-2
-add-n-2 c = omega (arith, (row-read (c .before .before .before .before .before .before .before .before .before .before .before .before .before .before .before .before .before .args .sieve .now) (c .before .before .before .before .before .before .before .before .before .before .before .before .before .before .before .before .before .args .keep) (c .before .before .before .before .before .before .before .before .before .before .before .before .before .before .before .before .before .pre .1)) .count, c .before .before .before .before .before .before .before .before .before .before .before .before .before .before .before .before .before)
+add-n-2 c =
+    let b = c .before .before .before .before .before .before .before .before .before .before .before .before .before .before .before .before .before in
+    omega (arith, (row-read (b .args .sieve .now) (b .args .keep) (b .pre .1)) .count, b)
 
 cast-store4-2 : tie.Need-cast-store4-2
 cast-store4-2 c = search needs
 
 store4-requires-2 : tie.Need-store4-requires-2
-store4-requires-2 c κs = omega (arith, (row-read (c .before .before .before .before .before .before .before .before .before .before .before .before .before .before .before .before .before .before .args .sieve .now) (c .before .before .before .before .before .before .before .before .before .before .before .before .before .before .before .before .before .before .args .keep) (c .before .before .before .before .before .before .before .before .before .before .before .before .before .before .before .before .before .before .pre .1)) .count, c .before .before .before .before .before .before .before .before .before .before .before .before .before .before .before .before .before .before .pre .0, c .before .before .before .before .store4 .kept .0)
+store4-requires-2 c κs =
+    let b = c .before .before .before .before .before .before .before .before .before .before .before .before .before .before .before .before .before .before in
+    omega (arith, (row-read (b .args .sieve .now) (b .args .keep) (b .pre .1)) .count, b .pre .0, c .before .before .before .before .store4 .kept .0)
 
 add-result : tie.Need-add-result
 add-result c = search needs
@@ -111,10 +121,12 @@ mul-result : tie.Need-mul-result
 mul-result c = search needs
 
 shared-slice-read-result : tie.Need-shared-slice-read-result
-shared-slice-read-result c = omega (arith, rows-long (c .before .before .before .before .before .before .before .before .before .before .before .before .before .before .before .before .before .before .before .before .before .before .args .sieve .now) (c .before .before .before .before .before .before .before .before .before .before .before .before .before .before .before .before .before .before .before .before .before .before .pre .1))
+shared-slice-read-result c = omega (arith, rows-long)
 
 add-result-2 : tie.Need-add-result-2
-add-result-2 c = omega (arith, (row-read (c .before .before .before .before .before .before .before .before .before .before .before .before .before .before .before .before .before .before .before .before .before .before .args .sieve .now) (c .before .before .before .before .before .before .before .before .before .before .before .before .before .before .before .before .before .before .before .before .before .before .args .keep) (c .before .before .before .before .before .before .before .before .before .before .before .before .before .before .before .before .before .before .before .before .before .before .pre .1)) .count, (row-read (c .before .before .before .before .before .before .before .before .before .before .before .before .before .before .before .before .before .before .before .before .before .before .args .sieve .now) (c .before .before .before .before .before .before .before .before .before .before .before .before .before .before .before .before .before .before .before .before .before .before .args .keep / 16) (c .before .before .before .before .before .before .before .before .before .before .before .before .before .before .before .before .before .before .before .before .before .before .pre .1)) .count, c .before .before .before .before .before .before .before .before .before .before .before .before .before .before .before .before .before .before .before .before .before .before)
+add-result-2 c =
+    let b = c .before .before .before .before .before .before .before .before .before .before .before .before .before .before .before .before .before .before .before .before .before .before in
+    omega (arith, (row-read (b .args .sieve .now) (b .args .keep) (b .pre .1)) .count, (row-read (b .args .sieve .now) (b .args .keep / 16) (b .pre .1)) .count, b)
 
 same-length : tie.Need-same-length
 same-length c = search needs
