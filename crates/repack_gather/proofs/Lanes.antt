@@ -1,18 +1,19 @@
--- A record's kept lanes where each is data, a lane or four after the other: what is left to keep gets shorter as the octets
--- get more. Assumes nothing.
+-- A record's kept lanes where each is data: some, and more behind them; all in bulk; one after the other, where what is left
+-- to keep gets shorter as the octets get more. Assumes nothing.
 use mathlib.Core.Path.{_≡_, refl, sym, ap, _∙_}
-use mathlib.Core.Bool.{Bool, true, false}
+use mathlib.Core.Bool.{Bool, true, false, cond}
 use mathlib.Core.List.{List, [], _∷_, _++_, map, append-assoc, append-nil}
 use Prim.Native.Nat.{ℕ, zero, suc, _+_, _-_, _*_, _/_, _%_, _^_, _≤_, _<_}
 use native.Mathlib.Nat.{pow-suc, add-zero}
 use native.Mathlib.Numerals.{add-one}
 use native.Mathlib.Omega.{arith}
 use borrow.Author.Tests.{eqb-true, eqb-false}
-use lib.Pow.{pow-pos}
-use lib.ListN.{length, getD, take, drop, set, length-append, length-set, length-drop}
-use lib.Seq.{take-suc-set, take-set-le, getD-drop, drop-drop, take-at, length-take-le}
+use lib.Pow.{pow-pos, mod-pow-add, shr-shr}
+use lib.ListN.{length, getD, take, drop, set, length-append, length-set}
+use lib.Seq.{take-suc-set, take-set-le, getD-drop, drop-drop, length-take-le, take-append-add, take-append-le}
 use Rattle.stream.specs.Layout.{odd}
 use Rattle.words.specs.Words.{front, placed}
+use Rattle.words.proofs.Words.{length-front, take-front, length-placed}
 use Rattle.scratch.specs.Codes.{dataCode, heldCodes, sifted}
 use Rattle.scratch.proofs.Held.{length-held, held-more}
 use Rattle.repack_gather.specs.Gather.{keptOctet, keptOctets, Collected, Gathered, Clear}
@@ -37,79 +38,113 @@ lane-kept o n x k h =
         let bit : k % 2 ≡ 0 = omega arith in
         rw (bit, add-zero n, take-set-le n o n x (omega arith)) (sym (append-nil (take n o)))
 
--- ---- some lanes, and those that are left
+-- ---- what a mask keeps
 
-kept-one : (w k : ℕ) (ds : List ℕ) → 0 < w → keptOctets w k ds ≡ keptOctets 1 k (getD ds 0 0 ∷ []) ++ keptOctets (w - 1) (k / 2) (drop 1 ds)
-kept-one zero k ds h = absurd (omega arith)
-kept-one (suc w) k ds h =
-    let one : suc w - 1 ≡ w = omega arith in
-    rw (one, append-nil (keptOctet k (getD ds 0 0))) refl
+kept-few : (w k : ℕ) (ds : List ℕ) → length (keptOctets w k ds) ≤ w
+kept-few zero k ds = omega arith
+kept-few (suc w) k ds =
+    rw (length-append (keptOctet k (getD ds 0 0)) (keptOctets w (k / 2) (drop 1 ds)))
+    (omega (arith, kept-few w (k / 2) (drop 1 ds), one (odd k)))
+  where
+    one : (b : Bool) → length (cond b (getD ds 0 0 ∷ []) []) ≤ 1
+    one true = omega arith
+    one false = omega arith
 
-kept-four : (w k : ℕ) (ds : List ℕ) → 4 ≤ w → keptOctets w k ds ≡ keptOctets 4 k ds ++ keptOctets (w - 4) (k / 16) (drop 4 ds)
-kept-four zero k ds h = absurd (omega arith)
-kept-four (suc zero) k ds h = absurd (omega arith)
-kept-four (suc (suc zero)) k ds h = absurd (omega arith)
-kept-four (suc (suc (suc zero))) k ds h = absurd (omega arith)
-kept-four (suc (suc (suc (suc w)))) k ds h =
-    let left : suc (suc (suc (suc w))) - 4 ≡ w = omega arith in
-    let rest : k / 16 ≡ k / 2 / 2 / 2 / 2 = omega arith in
-    rw (left, rest)
-    (simp (append-assoc, drop-drop))
+-- some lanes, and those behind them
+pub kept-split : (a b k : ℕ) (ds : List ℕ) → keptOctets (a + b) k ds ≡ keptOctets a k ds ++ keptOctets b (k / 2 ^ a) (drop a ds)
+kept-split zero b k ds =
+    let none : 0 + b ≡ b = omega arith in
+    let all : k / 2 ^ 0 ≡ k = omega arith in
+    rw (none, all) refl
+kept-split (suc a) b k ds =
+    let one : suc a + b ≡ suc (a + b) = omega arith in
+    let past : suc a ≡ 1 + a = omega arith in
+    let rest : k / 2 / 2 ^ a ≡ k / 2 ^ (1 + a) = shr-shr k 1 a in
+    rw one
+    (ap (λ (l : List ℕ). keptOctet k (getD ds 0 0) ++ l) (kept-split a b (k / 2) (drop 1 ds) ∙ rw (rest, drop-drop a 1 ds, ← past) refl)
+    ∙ sym (append-assoc (keptOctet k (getD ds 0 0)) (keptOctets a (k / 2) (drop 1 ds)) (keptOctets b (k / 2 ^ suc a) (drop (suc a) ds))))
 
-kept-eight : (w k : ℕ) (ds : List ℕ) → 8 ≤ w → keptOctets w k ds ≡ keptOctets 8 k ds ++ keptOctets (w - 8) (k / 256) (drop 8 ds)
-kept-eight w k ds h =
-    let left : w - 4 - 4 ≡ w - 8 = omega arith in
-    let rest : k / 16 / 16 ≡ k / 256 = omega arith in
-    let more : keptOctets (w - 4) (k / 16) (drop 4 ds) ≡ keptOctets 4 (k / 16) (drop 4 ds) ++ keptOctets (w - 8) (k / 256) (drop 8 ds) =
-    kept-four (w - 4) (k / 16) (drop 4 ds) (omega arith) ∙ rw (left, rest, drop-drop 4 4 ds) refl in
-    kept-four w k ds (omega arith)
-    ∙ ap (λ (l : List ℕ). keptOctets 4 k ds ++ l) more
-    ∙ sym (append-assoc (keptOctets 4 k ds) (keptOctets 4 (k / 16) (drop 4 ds)) (keptOctets (w - 8) (k / 256) (drop 8 ds)))
-    ∙ ap (λ (l : List ℕ). l ++ keptOctets (w - 8) (k / 256) (drop 8 ds)) (sym (kept-four 8 k ds (omega arith)))
+-- only the bits of these lanes count
+pub kept-bits : (w k : ℕ) (ds : List ℕ) → keptOctets w (k % 2 ^ w) ds ≡ keptOctets w k ds
+kept-bits zero k ds = refl
+kept-bits (suc w) k ds =
+    let more : suc w ≡ w + 1 = omega arith in
+    let split : k % 2 ^ (w + 1) ≡ (k / 2 % 2 ^ w) * 2 + k % 2 = mod-pow-add k w 1 in
+    let low : ((k / 2 % 2 ^ w) * 2 + k % 2) % 2 ≡ k % 2 = omega arith in
+    let high : ((k / 2 % 2 ^ w) * 2 + k % 2) / 2 ≡ k / 2 % 2 ^ w = omega arith in
+    rw (more, split, low, high, kept-bits w (k / 2) (drop 1 ds)) refl
 
--- four lanes and four more are eight
-pub eight-kept : (lanes o o1 o2 : List ℕ) (j k at a b : ℕ) → Collected 4 k (drop j lanes) o at o1 a
-    → Collected 4 (k / 16) (drop (j + 4) lanes) o1 a o2 b → Collected 8 k (drop j lanes) o at o2 b
-eight-kept lanes o o1 o2 j k at a b f g =
-    record {
-      same = g .same ∙ f .same;
-      beyond = omega (arith, f .beyond, g .beyond);
-      within = omega (arith, f .within, g .within);
-      is =
-          g .is
-          ∙ rw (f .is, ← drop-drop 4 j lanes)
-          (append-assoc (take at o) (keptOctets 4 k (drop j lanes)) (keptOctets 4 (k / 16) (drop 4 (drop j lanes)))
-          ∙ ap (λ (l : List ℕ). take at o ++ l) (sym (kept-four 8 k (drop j lanes) (omega arith))));
-    }
+-- lanes that are filled up with zeros
+pub kept-front : (v w k : ℕ) (ds : List ℕ) → w ≤ v → k < 2 ^ w → keptOctets v k (front v w ds) ≡ keptOctets w k ds
+kept-front zero zero k ds h l = refl
+kept-front zero (suc w) k ds h l = absurd (omega arith)
+kept-front (suc v) zero k ds h l =
+    let none : k ≡ 0 = omega arith in
+    rw none (kept-front v zero 0 (drop 1 ds) (omega arith) (omega arith))
+kept-front (suc v) (suc w) k ds h l =
+    ap (λ (r : List ℕ). keptOctet k (getD ds 0 0) ++ r) (kept-front v w (k / 2) (drop 1 ds) (omega arith) (omega (arith, pow-suc 2 w)))
 
--- a record of one lane
-pub one-kept : (lanes o after : List ℕ) (k at r : ℕ) → length lanes ≡ 1 → Collected 1 k (getD lanes 0 0 ∷ []) o at after r
-    → Collected (length lanes) k lanes o at after r
-one-kept lanes o after k at r e f = rw e (record { same = f .same; beyond = f .beyond; within = f .within; is = f .is })
+-- a mask of all ones keeps every lane
+kept-full : (w : ℕ) (ds : List ℕ) → keptOctets w (2 ^ w - 1) ds ≡ front w w ds
+kept-full zero ds = refl
+kept-full (suc w) ds =
+    let low : (2 ^ suc w - 1) % 2 ≡ 1 = omega (arith, pow-suc 2 w, pow-pos w) in
+    let high : (2 ^ suc w - 1) / 2 ≡ 2 ^ w - 1 = omega (arith, pow-suc 2 w, pow-pos w) in
+    rw (low, high) (ap {B = List ℕ} (λ l. getD ds 0 0 ∷ l) (kept-full w (drop 1 ds)))
 
--- the lanes one by one are the four together
-module _ (lanes o o1 o2 o3 o4 : List ℕ) (j k at a b c d : ℕ)
-    (f : Collected 1 k (getD lanes j 0 ∷ []) o at o1 a) (g : Collected 1 (k / 2) (getD lanes (j + 1) 0 ∷ []) o1 a o2 b)
-    (h : Collected 1 (k / 4) (getD lanes (j + 2) 0 ∷ []) o2 b o3 c) (i : Collected 1 (k / 8) (getD lanes (j + 3) 0 ∷ []) o3 c o4 d) where
-  four-octets : keptOctets 4 k (drop j lanes)
-      ≡ keptOctet k (getD lanes j 0) ++ (keptOctet (k / 2) (getD lanes (j + 1) 0) ++ (keptOctet (k / 4) (getD lanes (j + 2) 0) ++ (keptOctet (k / 8) (getD lanes (j + 3) 0) ++ [])))
-  four-octets =
-      let quarter : k / 4 ≡ k / 2 / 2 = omega arith in
-      let eighth : k / 8 ≡ k / 2 / 2 / 2 = omega arith in
-      let two : j + 2 ≡ j + 1 + 1 = omega arith in
-      let three : j + 3 ≡ j + 1 + 1 + 1 = omega arith in
-      rw (quarter, eighth, two, three) (simp (drop-drop, getD-drop, add-zero))
+-- ---- what is collected
 
-  pub four-kept : Collected 4 k (drop j lanes) o at o4 d
-  four-kept =
-      record {
-        same = i .same ∙ h .same ∙ g .same ∙ f .same;
-        beyond = omega (arith, f .beyond, g .beyond, h .beyond, i .beyond);
-        within = omega (arith, f .within, g .within, h .within, i .within);
-        is = i .is ∙ rw (h .is, g .is, f .is, four-octets) (simp (append-assoc, append-nil));
-      }
+module _ (c keep at r : ℕ) (ds o after : List ℕ) (same : length after ≡ length o) (beyond : at ≤ r) (room : r ≤ length o)
+    (is : take r after ≡ take at o ++ keptOctets c keep ds) where
+  collected : Collected c keep ds o at after r
+  collected =
+      let long : r ≡ at + length (keptOctets c keep ds) =
+      sym (length-take-le r after (omega arith))
+      ∙ ap length is
+      ∙ length-append (take at o) (keptOctets c keep ds)
+      ∙ ap (λ (n : ℕ). n + length (keptOctets c keep ds)) (length-take-le at o (omega arith)) in
+      record { same = same; beyond = beyond; within = omega (arith, long, kept-few c keep ds); is = is }
 
--- ---- the loops
+-- the same octets, told otherwise
+pub collected-as : (a c k keep at r : ℕ) (xs ds o after : List ℕ) → at + a ≤ length o → keptOctets c keep ds ≡ keptOctets a k xs
+    → Collected a k xs o at after r → Collected c keep ds o at after r
+collected-as a c k keep at r xs ds o after h e f =
+    collected c keep at r ds o after (f .same) (f .beyond) (omega (arith, f .within)) (f .is ∙ rw e refl)
+
+-- some, and more behind them
+pub collected-on : (a b c k k' keep at n r : ℕ) (xs ys ds o o1 o2 : List ℕ) → at + a + b ≤ length o
+    → keptOctets c keep ds ≡ keptOctets a k xs ++ keptOctets b k' ys → Collected a k xs o at o1 n → Collected b k' ys o1 n o2 r
+    → Collected c keep ds o at o2 r
+collected-on a b c k k' keep at n r xs ys ds o o1 o2 h e f g =
+    collected c keep at r ds o o2 (g .same ∙ f .same) (omega (arith, f .beyond, g .beyond)) (omega (arith, f .within, g .within))
+    (g .is ∙ rw (f .is, e) (append-assoc (take at o) (keptOctets a k xs) (keptOctets b k' ys)))
+
+-- the first n of some octets that were stored
+pub stored-kept : (c keep at n : ℕ) (ds xs o after : List ℕ) → at + length xs ≤ length o → n ≤ length xs → take n xs ≡ keptOctets c keep ds
+    → after ≡ placed at xs o → Collected c keep ds o at after (at + n)
+stored-kept c keep at n ds xs o after h l k e =
+    let before : length (take at o) ≡ at = length-take-le at o (omega arith) in
+    let front : take (at + n) (placed at xs o) ≡ take at o ++ take n (xs ++ drop (at + length xs) o) =
+    rw before at (take-append-add (take at o) (xs ++ drop (at + length xs) o) n) in
+    collected c keep at (at + n) ds o after (ap length e ∙ length-placed o at xs h) (omega arith) (omega arith)
+    (ap (take (at + n)) e ∙ front ∙ rw (take-append-le n xs (drop (at + length xs) o) l, k) refl)
+
+-- all lanes in bulk
+pub all-kept : (w : ℕ) (lanes octets after : List ℕ) (at keep full : ℕ) → keep ≡ full → at + w ≤ length octets → full ≡ 2 ^ w - 1
+    → after ≡ placed at (front w w lanes) octets → Collected w keep lanes octets at after (at + w)
+all-kept w lanes octets after at keep full k h f e =
+    let long = length-front w w lanes in
+    stored-kept w keep at w lanes (front w w lanes) octets after (omega (arith, long)) (omega (arith, long))
+    (take-front w w w lanes (omega arith) ∙ rw (k, f) (sym (kept-full w lanes))) e
+
+-- one lane of a take
+pub one-kept : (w from keep at r : ℕ) (input o after : List ℕ) → w ≡ 1 → at + 1 ≤ length o → Collected 1 keep (getD input from 0 ∷ []) o at after r
+    → Collected w keep (drop from input) o at after r
+one-kept w from keep at r input o after e h f =
+    let first : getD (drop from input) 0 0 ≡ getD input from 0 = getD-drop from input 0 0 ∙ rw (add-zero from) refl in
+    rw e (collected-as 1 1 keep keep at r (getD input from 0 ∷ []) (drop from input) o after h (rw first refl) f)
+
+-- ---- the lane loop
 
 -- j lanes are done, n is the place after their octets, and k has the bits of the lanes that are left
 pub record Sifting (keep : ℕ) (lanes before : List ℕ) (at : ℕ) (octets : List ℕ) (n k j : ℕ) : Type 0 where
@@ -125,41 +160,22 @@ sifting-starts keep lanes before at =
     record { done = omega arith; beyond = omega arith; near = omega arith; same = refl; rest = rw all refl }
 
 module _ (keep : ℕ) (lanes before : List ℕ) (at : ℕ) (octets : List ℕ) (n k j : ℕ) (s : Sifting keep lanes before at octets n k j) where
-  -- some lanes more
-  step : (w k' : ℕ) (ds after : List ℕ) (r : ℕ) → j + w ≤ length lanes
-      → keptOctets (length lanes - j) k (drop j lanes) ≡ keptOctets w k ds ++ keptOctets (length lanes - j - w) k' (drop w (drop j lanes))
-      → Collected w k ds octets n after r → Sifting keep lanes before at after r k' (j + w)
-  step w k' ds after r h e c =
-      let left : length lanes - (j + w) ≡ length lanes - j - w = omega arith in
-      record {
-        done = h;
-        beyond = omega (arith, s .beyond, c .beyond);
-        near = omega (arith, s .near, c .within);
-        same = c .same ∙ s .same;
-        rest = rw (left, ← drop-drop w j lanes, c .is)
-            (append-assoc (take n octets) (keptOctets w k ds) (keptOctets (length lanes - j - w) k' (drop w (drop j lanes))) ∙ rw (← e) (s .rest));
-      }
-
   pub sifting-lane : (after : List ℕ) (r : ℕ) → j < length lanes → Collected 1 k (getD lanes j 0 ∷ []) octets n after r
       → Sifting keep lanes before at after r (k / 2) (j + 1)
   sifting-lane after r h c =
       let first : getD (drop j lanes) 0 0 ≡ getD lanes j 0 = getD-drop j lanes 0 0 ∙ rw (add-zero j) refl in
-      step 1 (k / 2) (getD lanes j 0 ∷ []) after r (omega arith) (rw (← first) (kept-one (length lanes - j) k (drop j lanes) (omega arith))) c
-
-  pub sifting-eight : (after : List ℕ) (r : ℕ) → j + 8 ≤ length lanes → Collected 8 k (drop j lanes) octets n after r
-      → Sifting keep lanes before at after r (k / 256) (j + 8)
-  sifting-eight after r h c = step 8 (k / 256) (drop j lanes) after r h (kept-eight (length lanes - j) k (drop j lanes) (omega arith)) c
-
-  -- the lanes that are left, all at once
-  pub sifting-rest : (ds after : List ℕ) (r : ℕ) → ds ≡ drop j lanes → Collected (length ds) k ds octets n after r
-      → Collected (length lanes) keep lanes before at after r
-  sifting-rest ds after r e c =
-      let left : length ds ≡ length lanes - j = ap length e ∙ length-drop j lanes in
+      let left : 1 + (length lanes - (j + 1)) ≡ length lanes - j = omega arith in
+      let one : keptOctets (length lanes - j) k (drop j lanes)
+      ≡ keptOctets 1 k (getD lanes j 0 ∷ []) ++ keptOctets (length lanes - (j + 1)) (k / 2) (drop (j + 1) lanes) =
+      rw (← left) (kept-split 1 (length lanes - (j + 1)) k (drop j lanes) ∙ rw (first, drop-drop 1 j lanes) refl) in
       record {
-        same = c .same ∙ s .same;
+        done = omega arith;
         beyond = omega (arith, s .beyond, c .beyond);
-        within = omega (arith, s .near, c .within, s .done);
-        is = c .is ∙ rw (left, e) (s .rest);
+        near = omega (arith, s .near, c .within);
+        same = c .same ∙ s .same;
+        rest = rw (c .is)
+            (append-assoc (take n octets) (keptOctets 1 k (getD lanes j 0 ∷ [])) (keptOctets (length lanes - (j + 1)) (k / 2) (drop (j + 1) lanes))
+            ∙ rw (← one) (s .rest));
       }
 
   -- no lane is left
@@ -172,36 +188,6 @@ module _ (keep : ℕ) (lanes before : List ℕ) (at : ℕ) (octets : List ℕ) (
         within = omega (arith, s .near, s .done);
         is = sym (append-nil (take n octets)) ∙ (rw none at (s .rest));
       }
-
--- ---- all lanes in bulk
-
-front-all : (ds : List ℕ) → front (length ds) (length ds) ds ≡ ds
-front-all [] = refl
-front-all (d ∷ ds) = ap {B = List ℕ} (λ l. d ∷ l) (front-all ds)
-
--- a mask of all ones keeps every lane
-kept-full : (ds : List ℕ) → keptOctets (length ds) (2 ^ length ds - 1) ds ≡ ds
-kept-full [] = refl
-kept-full (d ∷ ds) =
-    let low : (2 ^ suc (length ds) - 1) % 2 ≡ 1 = omega (arith, pow-suc 2 (length ds), pow-pos (length ds)) in
-    let high : (2 ^ suc (length ds) - 1) / 2 ≡ 2 ^ length ds - 1 = omega (arith, pow-suc 2 (length ds), pow-pos (length ds)) in
-    rw (low, high) (ap {B = List ℕ} (λ l. d ∷ l) (kept-full ds))
-
-pub all-kept : (lanes octets after : List ℕ) (at keep full : ℕ) → keep ≡ full → at + length lanes ≤ length octets → full ≡ 2 ^ length lanes - 1
-    → length after ≡ length octets → after ≡ placed at (front (length lanes) (length lanes) lanes) octets
-    → Collected (length lanes) keep lanes octets at after (at + length lanes)
-all-kept lanes octets after at keep full k h f s e =
-    let long : length (take at octets ++ lanes) ≡ at + length lanes =
-    length-append (take at octets) lanes ∙ ap (λ (n : ℕ). n + length lanes) (length-take-le at octets (omega arith)) in
-    record {
-      same = s;
-      beyond = omega arith;
-      within = omega arith;
-      is =
-          ap (take (at + length lanes)) (e ∙ rw (front-all lanes) (sym (append-assoc (take at octets) lanes (drop (at + length lanes) octets))))
-          ∙ take-at (take at octets ++ lanes) (drop (at + length lanes) octets) (at + length lanes) long
-          ∙ rw (k, f, kept-full lanes) refl;
-    }
 
 -- ---- as item codes
 

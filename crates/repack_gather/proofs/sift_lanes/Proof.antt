@@ -1,5 +1,4 @@
 -- `repack_gather::sift_lanes` meets its contract: lane by lane, what is left to keep gets shorter. Assumes nothing.
-use native.Mathlib.Omega.{arith}
 use Prim.Native.Nat.{_-_}
 use lib.ListN.{length}
 use Rattle.repack_gather.proofs.Lanes.{Sifting, sifting-starts, sifting-lane, sifting-done}
