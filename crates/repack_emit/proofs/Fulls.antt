@@ -17,8 +17,12 @@ use Rattle.words.specs.Words.{front}
 use Rattle.scratch.specs.Codes.{dataCode, keptOf, pairFrom}
 use Rattle.repack_emit.specs.declared.plain.Cursor.{Cursor}
 use Rattle.repack_emit.specs.Write.{recordOf, stretchOctets, Writing, Writes, Fitting, Advanced}
-use Rattle.repack_emit.proofs.Memory.{size-is, record-octets}
-use Rattle.repack_emit.proofs.Stretches.{Stretching, record-long, stretching-room, stretching-next, stretching-last-room, stretching-done}
+use Rattle.repack_emit.proofs.Memory.{lent-long, lent-writes, record-octets}
+use Rattle.repack_emit.proofs.Stretches.{Stretching, record-long, stretching-room, stretching-next, stretching-last-room, stretching-done, map-drop, lent-items}
+
+-- memory after what is lent from a place on came back with a record of z octets at its front
+abbrev pub lentBack : List ℕ → ℕ → ℕ → List ℕ → List ℕ
+lentBack rec to z out = take to out ++ ((rec ++ drop z (take (length out - to) (drop to out))) ++ drop (length out - to) (drop to out))
 
 -- ---- how far a stretch is written
 
@@ -54,3 +58,77 @@ module _ (t : Shape) (pair : ℕ) (octets out : List ℕ) (c : Cursor) (now : Li
       (stretchOctets (t .width) (pairFrom pair) (take (c .left) (drop (c .from) (map dataCode octets))) last) now (r .to) (r .from) (r .left)
   stretching last =
       record { within = omega (arith, a .fits .held, length-map octets dataCode); same = a .same; room = a .fits .room last; writes = a .writes last }
+
+  -- one record more, that is full: there is room for it, and then as many items are left less
+  module _ (h : t .width < r .left) where
+    abbrev full : List ℕ
+    full = octetsOf (recordOf (t .width) (pairFrom pair) (take (t .width) (drop (r .from) (map dataCode octets))) false)
+
+    pub full-room : r .to + size t ≤ length now
+    full-room =
+        stretching-room t (pairFrom pair) false (map dataCode octets) out (c .to)
+        (stretchOctets (t .width) (pairFrom pair) (take (c .left) (drop (c .from) (map dataCode octets))) false) now (r .to) (r .from) (r .left) pos (stretching false) h
+
+    -- it is written in what is lent from its place on
+    pub full-written : (z : ℕ) → z ≡ size t
+        → Advanced (t .width) pair octets out c (lentBack full (r .to) z now)
+        (record { to = r .to + z; from = r .from + t .width; left = r .left - t .width })
+    full-written z e =
+        record {
+          same = long ∙ a .same;
+          fits = record { held = omega (arith, a .fits .held); room = λ last. next last .room };
+          writes = λ last. next last .writes;
+        }
+      where
+        sized : length full ≡ z
+        sized = record-long t (pairFrom pair) (take (t .width) (drop (r .from) (map dataCode octets))) false ∙ sym e
+
+        there : r .to + z ≤ length now
+        there = omega (arith, e, full-room)
+
+        long : length (lentBack full (r .to) z now) ≡ length now
+        long = lent-long now full (r .to) z sized there (length now - r .to) refl
+
+        next : (last : Bool)
+            → Stretching (t .width) (pairFrom pair) last (map dataCode octets) out (c .to)
+            (stretchOctets (t .width) (pairFrom pair) (take (c .left) (drop (c .from) (map dataCode octets))) last) (lentBack full (r .to) z now)
+            (r .to + z) (r .from + t .width) (r .left - t .width)
+        next last =
+            stretching-next t (pairFrom pair) last (map dataCode octets) out (c .to)
+            (stretchOctets (t .width) (pairFrom pair) (take (c .left) (drop (c .from) (map dataCode octets))) last) now (r .to) (r .from) (r .left) pos (stretching last) h
+            (lentBack full (r .to) z now) (r .to + z) (omega (arith, e)) long (lent-writes now full (r .to) z sized there (length now - r .to) refl)
+
+  -- the last record
+  module _ (h : r .left ≤ t .width) (last : Bool) where
+    abbrev ending : List ℕ
+    ending = octetsOf (recordOf (t .width) (pairFrom pair) (take (r .left) (drop (r .from) (map dataCode octets))) last)
+
+    pub last-room : r .to + size t ≤ length now
+    last-room =
+        stretching-last-room t (pairFrom pair) last (map dataCode octets) out (c .to)
+        (stretchOctets (t .width) (pairFrom pair) (take (c .left) (drop (c .from) (map dataCode octets))) last) now (r .to) (r .from) (r .left) pos (stretching last) h
+
+    pub last-written : (z : ℕ) → z ≡ size t
+        → (length (lentBack ending (r .to) z now) ≡ length out)
+        × Writes (stretchOctets (t .width) (pairFrom pair) (take (c .left) (drop (c .from) (map dataCode octets))) last) out (c .to) (lentBack ending (r .to) z now) (r .to + z)
+    last-written z e =
+        let sized : length ending ≡ z = record-long t (pairFrom pair) (take (r .left) (drop (r .from) (map dataCode octets))) last ∙ sym e in
+        let there : r .to + z ≤ length now = omega (arith, e, last-room) in (
+          lent-long now ending (r .to) z sized there (length now - r .to) refl ∙ a .same,
+          stretching-done t (pairFrom pair) last (map dataCode octets) out (c .to)
+              (stretchOctets (t .width) (pairFrom pair) (take (c .left) (drop (c .from) (map dataCode octets))) last) now (r .to) (r .from) (r .left) pos (stretching last) h
+              (lentBack ending (r .to) z now) (r .to + z) (lent-writes now ending (r .to) z sized there (length now - r .to) refl),
+        )
+
+-- ---- what the lent octets say
+
+-- the codes of the octets lent from a place on
+pub lent-codes : (octets : List ℕ) (from : ℕ) → map dataCode (take (length octets - from) (drop from octets)) ≡ drop from (map dataCode octets)
+lent-codes octets from = ap (map dataCode) (lent-items octets from) ∙ sym (map-drop dataCode from octets)
+
+-- a record of one lane, which is data
+pub one-written : (pair d : ℕ) (octets tail : List ℕ) (from : ℕ) → pair < 65536 → from < length octets → d ≡ getD octets from 0 → d < 256
+    → headerOctets 0 (pair % 256) (pair / 256) 1 1 ++ (d ∷ tail)
+    ≡ octetsOf (recordOf 1 (pairFrom pair) (take 1 (drop from (map dataCode octets))) false) ++ tail
+one-written pair d octets tail from p h e b =
+    rw (map-drop dataCode from octets, drop-cons octets from 0 h, ← e) ?one
