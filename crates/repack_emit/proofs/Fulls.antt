@@ -13,16 +13,29 @@ use Rattle.stream.specs.Layout.{size, odd, octetsOf}
 use Rattle.stream.proofs.Pack.{wide-spread, length-spread}
 use Rattle.stream.proofs.Records.{length-octets}
 use Rattle.record.specs.Write.{headerOctets}
-use Rattle.words.specs.Words.{front}
 use Rattle.scratch.specs.Codes.{dataCode, keptOf, pairFrom}
 use Rattle.repack_emit.specs.declared.plain.Cursor.{Cursor}
 use Rattle.repack_emit.specs.Write.{recordOf, stretchOctets, Writing, Writes, Fitting, Advanced}
-use Rattle.repack_emit.proofs.Memory.{lent-long, lent-writes, record-octets}
+use Rattle.repack_emit.proofs.Lanes.{data-octet, data-strobe}
+use Rattle.repack_emit.proofs.Memory.{lent-long, lent-writes}
 use Rattle.repack_emit.proofs.Stretches.{Stretching, record-long, stretching-room, stretching-next, stretching-last-room, stretching-done, map-drop, lent-items}
 
--- memory after what is lent from a place on came back with a record of z octets at its front
-abbrev pub lentBack : List ℕ → ℕ → ℕ → List ℕ → List ℕ
-lentBack rec to z out = take to out ++ ((rec ++ drop z (take (length out - to) (drop to out))) ++ drop (length out - to) (drop to out))
+-- ---- what is lent from a place on
+
+abbrev lent : List ℕ → ℕ → List ℕ
+lent xs from = take (length xs - from) (drop from xs)
+
+-- memory after it came back
+abbrev lentBack : List ℕ → ℕ → List ℕ → List ℕ
+lentBack out to part = take to out ++ (part ++ drop (length out - to) (drop to out))
+
+-- it has room for what there is room for at its place
+pub lent-room : (out : List ℕ) (to z : ℕ) → to + z ≤ length out → z ≤ length (lent out to)
+lent-room out to z h = omega (arith, ap length (lent-items out to), length-drop to out)
+
+-- the codes of octets that are lent
+pub lent-codes : (octets : List ℕ) (from : ℕ) → map dataCode (lent octets from) ≡ drop from (map dataCode octets)
+lent-codes octets from = ap (map dataCode) (lent-items octets from) ∙ sym (map-drop dataCode from octets)
 
 -- ---- how far a stretch is written
 
@@ -70,15 +83,16 @@ module _ (t : Shape) (pair : ℕ) (octets out : List ℕ) (c : Cursor) (now : Li
         (stretchOctets (t .width) (pairFrom pair) (take (c .left) (drop (c .from) (map dataCode octets))) false) now (r .to) (r .from) (r .left) pos (stretching false) h
 
     -- it is written in what is lent from its place on
-    pub full-written : (z : ℕ) → z ≡ size t
-        → Advanced (t .width) pair octets out c (lentBack full (r .to) z now)
+    pub full-written : (z : ℕ) → z ≡ size t → (part : List ℕ) → part ≡ full ++ drop z (lent now (r .to))
+        → Advanced (t .width) pair octets out c (lentBack now (r .to) part)
         (record { to = r .to + z; from = r .from + t .width; left = r .left - t .width })
-    full-written z e =
-        record {
+    full-written z e part f =
+        rw f
+        (record {
           same = long ∙ a .same;
           fits = record { held = omega (arith, a .fits .held); room = λ last. next last .room };
           writes = λ last. next last .writes;
-        }
+        })
       where
         sized : length full ≡ z
         sized = record-long t (pairFrom pair) (take (t .width) (drop (r .from) (map dataCode octets))) false ∙ sym e
@@ -86,17 +100,18 @@ module _ (t : Shape) (pair : ℕ) (octets out : List ℕ) (c : Cursor) (now : Li
         there : r .to + z ≤ length now
         there = omega (arith, e, full-room)
 
-        long : length (lentBack full (r .to) z now) ≡ length now
+        long : length (lentBack now (r .to) (full ++ drop z (lent now (r .to)))) ≡ length now
         long = lent-long now full (r .to) z sized there (length now - r .to) refl
 
         next : (last : Bool)
             → Stretching (t .width) (pairFrom pair) last (map dataCode octets) out (c .to)
-            (stretchOctets (t .width) (pairFrom pair) (take (c .left) (drop (c .from) (map dataCode octets))) last) (lentBack full (r .to) z now)
-            (r .to + z) (r .from + t .width) (r .left - t .width)
+            (stretchOctets (t .width) (pairFrom pair) (take (c .left) (drop (c .from) (map dataCode octets))) last)
+            (lentBack now (r .to) (full ++ drop z (lent now (r .to)))) (r .to + z) (r .from + t .width) (r .left - t .width)
         next last =
             stretching-next t (pairFrom pair) last (map dataCode octets) out (c .to)
             (stretchOctets (t .width) (pairFrom pair) (take (c .left) (drop (c .from) (map dataCode octets))) last) now (r .to) (r .from) (r .left) pos (stretching last) h
-            (lentBack full (r .to) z now) (r .to + z) (omega (arith, e)) long (lent-writes now full (r .to) z sized there (length now - r .to) refl)
+            (lentBack now (r .to) (full ++ drop z (lent now (r .to)))) (r .to + z) (omega (arith, e)) long
+            (lent-writes now full (r .to) z sized there (length now - r .to) refl)
 
   -- the last record
   module _ (h : r .left ≤ t .width) (last : Bool) where
@@ -108,27 +123,24 @@ module _ (t : Shape) (pair : ℕ) (octets out : List ℕ) (c : Cursor) (now : Li
         stretching-last-room t (pairFrom pair) last (map dataCode octets) out (c .to)
         (stretchOctets (t .width) (pairFrom pair) (take (c .left) (drop (c .from) (map dataCode octets))) last) now (r .to) (r .from) (r .left) pos (stretching last) h
 
-    pub last-written : (z : ℕ) → z ≡ size t
-        → (length (lentBack ending (r .to) z now) ≡ length out)
-        × Writes (stretchOctets (t .width) (pairFrom pair) (take (c .left) (drop (c .from) (map dataCode octets))) last) out (c .to) (lentBack ending (r .to) z now) (r .to + z)
-    last-written z e =
+    pub last-written : (z : ℕ) → z ≡ size t → (part : List ℕ) → part ≡ ending ++ drop z (lent now (r .to))
+        → (length (lentBack now (r .to) part) ≡ length out)
+        × Writes (stretchOctets (t .width) (pairFrom pair) (take (c .left) (drop (c .from) (map dataCode octets))) last) out (c .to)
+        (lentBack now (r .to) part) (r .to + z)
+    last-written z e part f =
         let sized : length ending ≡ z = record-long t (pairFrom pair) (take (r .left) (drop (r .from) (map dataCode octets))) last ∙ sym e in
-        let there : r .to + z ≤ length now = omega (arith, e, last-room) in (
+        let there : r .to + z ≤ length now = omega (arith, e, last-room) in
+        rw f (
           lent-long now ending (r .to) z sized there (length now - r .to) refl ∙ a .same,
           stretching-done t (pairFrom pair) last (map dataCode octets) out (c .to)
               (stretchOctets (t .width) (pairFrom pair) (take (c .left) (drop (c .from) (map dataCode octets))) last) now (r .to) (r .from) (r .left) pos (stretching last) h
-              (lentBack ending (r .to) z now) (r .to + z) (lent-writes now ending (r .to) z sized there (length now - r .to) refl),
+              (lentBack now (r .to) (ending ++ drop z (lent now (r .to)))) (r .to + z) (lent-writes now ending (r .to) z sized there (length now - r .to) refl),
         )
 
--- ---- what the lent octets say
+-- ---- a record of one lane, which is data
 
--- the codes of the octets lent from a place on
-pub lent-codes : (octets : List ℕ) (from : ℕ) → map dataCode (take (length octets - from) (drop from octets)) ≡ drop from (map dataCode octets)
-lent-codes octets from = ap (map dataCode) (lent-items octets from) ∙ sym (map-drop dataCode from octets)
-
--- a record of one lane, which is data
 pub one-written : (pair d : ℕ) (octets tail : List ℕ) (from : ℕ) → pair < 65536 → from < length octets → d ≡ getD octets from 0 → d < 256
     → headerOctets 0 (pair % 256) (pair / 256) 1 1 ++ (d ∷ tail)
     ≡ octetsOf (recordOf 1 (pairFrom pair) (take 1 (drop from (map dataCode octets))) false) ++ tail
 one-written pair d octets tail from p h e b =
-    rw (map-drop dataCode from octets, drop-cons octets from 0 h, ← e) ?one
+    rw (map-drop dataCode from octets, drop-cons octets from 0 h, ← e) (rw (data-octet d b, data-strobe d b) refl)
