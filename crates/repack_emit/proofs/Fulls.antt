@@ -1,21 +1,21 @@
 -- The full records of a stretch of data, each written at its place: the laws of the loops that write them. Assumes nothing.
-use mathlib.Core.Path.{_≡_, refl, sym, ap, _∙_, subst}
-use mathlib.Core.Bool.{Bool, true, false}
-use mathlib.Core.List.{List, [], _∷_, _++_, map}
-use mathlib.Core.Option.{Option, some}
-use Prim.Native.Nat.{ℕ, zero, suc, _+_, _-_, _*_, _/_, _%_, _^_, _≤_, _<_}
+use mathlib.Core.Path.{_≡_, refl, sym, ap, _∙_}
+use mathlib.Core.Bool.{Bool, false}
+use mathlib.Core.List.{List, _∷_, _++_, map}
+use mathlib.Core.Option.{some}
+use Prim.Native.Nat.{ℕ, suc, _+_, _-_, _*_, _/_, _%_, _≤_, _<_}
 use native.Mathlib.Omega.{arith}
-use lib.ListN.{length, getD, take, drop, length-append, length-drop, length-map}
+use lib.ListN.{length, getD, take, drop, length-drop, length-map}
 use lib.Seq.{drop-cons}
 use Rattle.stream.specs.declared.Shape.{Shape}
 use Rattle.stream.specs.Packed.{spread}
-use Rattle.stream.specs.Layout.{size, odd, octetsOf}
+use Rattle.stream.specs.Layout.{size, octetsOf}
 use Rattle.stream.proofs.Pack.{wide-spread, length-spread}
 use Rattle.stream.proofs.Records.{length-octets}
 use Rattle.record.specs.Write.{headerOctets}
 use Rattle.scratch.specs.Codes.{dataCode, keptOf, pairFrom}
 use Rattle.repack_emit.specs.declared.plain.Cursor.{Cursor}
-use Rattle.repack_emit.specs.Write.{recordOf, stretchOctets, Writing, Writes, Fitting, Advanced}
+use Rattle.repack_emit.specs.Write.{recordOf, stretchOctets, Writes, Fitting, Advanced}
 use Rattle.repack_emit.proofs.Lanes.{data-octet, data-strobe}
 use Rattle.repack_emit.proofs.Memory.{lent-long, lent-writes}
 use Rattle.repack_emit.proofs.Stretches.{Stretching, record-long, stretching-room, stretching-next, stretching-last-room, stretching-done, map-drop, lent-items}
@@ -66,21 +66,26 @@ advanced-none v pair octets out c f = record { same = refl; fits = f; writes = �
 
 module _ (t : Shape) (pair : ℕ) (octets out : List ℕ) (c : Cursor) (now : List ℕ) (r : Cursor) (pos : 0 < t .width)
     (a : Advanced (t .width) pair octets out c now r) where
+  abbrev codes : List ℕ
+  codes = map dataCode octets
+
+  -- the octets of the stretch from its first cursor on
+  abbrev all : Bool → List ℕ
+  all last = stretchOctets (t .width) (pairFrom pair) (take (c .left) (drop (c .from) codes)) last
+
   stretching : (last : Bool)
-      → Stretching (t .width) (pairFrom pair) last (map dataCode octets) out (c .to)
-      (stretchOctets (t .width) (pairFrom pair) (take (c .left) (drop (c .from) (map dataCode octets))) last) now (r .to) (r .from) (r .left)
+      → Stretching (t .width) (pairFrom pair) last codes out (c .to) (all last) now (r .to) (r .from) (r .left)
   stretching last =
       record { within = omega (arith, a .fits .held, length-map octets dataCode); same = a .same; room = a .fits .room last; writes = a .writes last }
 
   -- one record more, that is full: there is room for it, and then as many items are left less
   module _ (h : t .width < r .left) where
     abbrev full : List ℕ
-    full = octetsOf (recordOf (t .width) (pairFrom pair) (take (t .width) (drop (r .from) (map dataCode octets))) false)
+    full = octetsOf (recordOf (t .width) (pairFrom pair) (take (t .width) (drop (r .from) codes)) false)
 
     pub full-room : r .to + size t ≤ length now
     full-room =
-        stretching-room t (pairFrom pair) false (map dataCode octets) out (c .to)
-        (stretchOctets (t .width) (pairFrom pair) (take (c .left) (drop (c .from) (map dataCode octets))) false) now (r .to) (r .from) (r .left) pos (stretching false) h
+        stretching-room t (pairFrom pair) false codes out (c .to) (all false) now (r .to) (r .from) (r .left) pos (stretching false) h
 
     -- it is written in what is lent from its place on
     pub full-written : (z : ℕ) → z ≡ size t → (part : List ℕ) → part ≡ full ++ drop z (lent now (r .to))
@@ -95,7 +100,7 @@ module _ (t : Shape) (pair : ℕ) (octets out : List ℕ) (c : Cursor) (now : Li
         })
       where
         sized : length full ≡ z
-        sized = record-long t (pairFrom pair) (take (t .width) (drop (r .from) (map dataCode octets))) false ∙ sym e
+        sized = record-long t (pairFrom pair) (take (t .width) (drop (r .from) codes)) false ∙ sym e
 
         there : r .to + z ≤ length now
         there = omega (arith, e, full-room)
@@ -104,36 +109,31 @@ module _ (t : Shape) (pair : ℕ) (octets out : List ℕ) (c : Cursor) (now : Li
         long = lent-long now full (r .to) z sized there (length now - r .to) refl
 
         next : (last : Bool)
-            → Stretching (t .width) (pairFrom pair) last (map dataCode octets) out (c .to)
-            (stretchOctets (t .width) (pairFrom pair) (take (c .left) (drop (c .from) (map dataCode octets))) last)
+            → Stretching (t .width) (pairFrom pair) last codes out (c .to) (all last)
             (lentBack now (r .to) (full ++ drop z (lent now (r .to)))) (r .to + z) (r .from + t .width) (r .left - t .width)
         next last =
-            stretching-next t (pairFrom pair) last (map dataCode octets) out (c .to)
-            (stretchOctets (t .width) (pairFrom pair) (take (c .left) (drop (c .from) (map dataCode octets))) last) now (r .to) (r .from) (r .left) pos (stretching last) h
+            stretching-next t (pairFrom pair) last codes out (c .to) (all last) now (r .to) (r .from) (r .left) pos (stretching last) h
             (lentBack now (r .to) (full ++ drop z (lent now (r .to)))) (r .to + z) (omega (arith, e)) long
             (lent-writes now full (r .to) z sized there (length now - r .to) refl)
 
   -- the last record
   module _ (h : r .left ≤ t .width) (last : Bool) where
     abbrev ending : List ℕ
-    ending = octetsOf (recordOf (t .width) (pairFrom pair) (take (r .left) (drop (r .from) (map dataCode octets))) last)
+    ending = octetsOf (recordOf (t .width) (pairFrom pair) (take (r .left) (drop (r .from) codes)) last)
 
     pub last-room : r .to + size t ≤ length now
     last-room =
-        stretching-last-room t (pairFrom pair) last (map dataCode octets) out (c .to)
-        (stretchOctets (t .width) (pairFrom pair) (take (c .left) (drop (c .from) (map dataCode octets))) last) now (r .to) (r .from) (r .left) pos (stretching last) h
+        stretching-last-room t (pairFrom pair) last codes out (c .to) (all last) now (r .to) (r .from) (r .left) pos (stretching last) h
 
     pub last-written : (z : ℕ) → z ≡ size t → (part : List ℕ) → part ≡ ending ++ drop z (lent now (r .to))
         → (length (lentBack now (r .to) part) ≡ length out)
-        × Writes (stretchOctets (t .width) (pairFrom pair) (take (c .left) (drop (c .from) (map dataCode octets))) last) out (c .to)
-        (lentBack now (r .to) part) (r .to + z)
+        × Writes (all last) out (c .to) (lentBack now (r .to) part) (r .to + z)
     last-written z e part f =
-        let sized : length ending ≡ z = record-long t (pairFrom pair) (take (r .left) (drop (r .from) (map dataCode octets))) last ∙ sym e in
+        let sized : length ending ≡ z = record-long t (pairFrom pair) (take (r .left) (drop (r .from) codes)) last ∙ sym e in
         let there : r .to + z ≤ length now = omega (arith, e, last-room) in
         rw f (
           lent-long now ending (r .to) z sized there (length now - r .to) refl ∙ a .same,
-          stretching-done t (pairFrom pair) last (map dataCode octets) out (c .to)
-              (stretchOctets (t .width) (pairFrom pair) (take (c .left) (drop (c .from) (map dataCode octets))) last) now (r .to) (r .from) (r .left) pos (stretching last) h
+          stretching-done t (pairFrom pair) last codes out (c .to) (all last) now (r .to) (r .from) (r .left) pos (stretching last) h
               (lentBack now (r .to) (ending ++ drop z (lent now (r .to)))) (r .to + z) (lent-writes now ending (r .to) z sized there (length now - r .to) refl),
         )
 

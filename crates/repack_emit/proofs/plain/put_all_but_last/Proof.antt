@@ -11,7 +11,7 @@ use Rattle.repack_emit.proofs.plain.put_fulls.Reads as put-fulls-reads
 use Rattle.repack_emit.proofs.plain.put_ones.Reads as put-ones-reads
 
 put-ones-requires : tie.Need-put-ones-requires
-put-ones-requires c κs = 
+put-ones-requires c κs =
     let a = c .before .before .before .before .before .args in
     let p = c .before .before .before .before .before .pre in
     (p .2, subst (λ (v : ℕ). Fitting v (a .pair) (a .octets .now) (a .out .now) (a .c)) (c .before .if1 .taken) (p .3))

@@ -52,7 +52,7 @@ loop-less : tie.Need-loop-less Inv-loop μ-loop
 loop-less c = omega (arith, c .before .before .before .before .before .loop-test .taken)
 
 loop-again : tie.Need-loop-again Inv-loop μ-loop
-loop-again c = 
+loop-again c =
     let a = c .before .before .before .before .before .before .before .before .before .args in
     let l = c .before .before .before .before .before .before .loop in
     full-written (record { width = 1 }) (c .before .before .before .before .before .before .before .before .before .args .pair) (c .before .before .before .before .before .before .before .before .before .args .octets .now) (c .before .before .before .before .before .before .before .before .before .args .out .now) (c .before .before .before .before .before .before .before .before .before .args .c) (c .before .before .before .before .before .before .loop .out) (record { to = c .before .before .before .before .before .before .loop .to; from = c .before .before .before .before .before .before .loop .from; left = c .before .before .before .before .before .before .loop .left }) (omega arith) (c .before .before .before .before .before .before .loop .inv) (c .before .before .before .before .before .loop-test .taken) 8 (sym (size-is (record { width = 1 }))) (c .before .before .write-one .last .0)

@@ -20,7 +20,7 @@ cast-put-plain : tie.Need-cast-put-plain
 cast-put-plain c = search needs
 
 put-all-but-last-requires : tie.Need-put-all-but-last-requires
-put-all-but-last-requires c κs = 
+put-all-but-last-requires c κs =
     let a = c .before .before .before .args in
     let p = c .before .before .before .pre in
     (p .0, p .1, omega (arith, c .before .before .before .fits .e), fitting (a .t) (a .e / 131072) (a .octets .now) (a .out .now) (record { to = a .at; from = a .start; left = entryCount (a .e) }) (odd (a .e / 65536)) (p .2) (p .3))
@@ -44,7 +44,7 @@ part-put-plain-end-2 : tie.Need-part-put-plain-end-2
 part-put-plain-end-2 c = search needs
 
 put-plain-requires : tie.Need-put-plain-requires
-put-plain-requires c κs = 
+put-plain-requires c κs =
     let a = c .before .before .before .before .before .before .before .before .args in
     let p = c .before .before .before .before .before .before .before .before .pre in
     let f = c .before .before .before .before .put-all-but-last in
@@ -54,7 +54,7 @@ record-size-requires : tie.Need-record-size-requires
 record-size-requires c κs = search needs
 
 add-result : tie.Need-add-result
-add-result c = 
+add-result c =
     let a = c .before .before .before .before .before .before .before .before .before .before .before .before .args in
     let p = c .before .before .before .before .before .before .before .before .before .before .before .before .pre in
     let f = c .before .before .before .before .before .before .before .before .put-all-but-last in
@@ -64,7 +64,7 @@ same-length : tie.Need-same-length
 same-length c = search needs
 
 returns : tie.Need-returns
-returns c = 
+returns c =
     let a = c .before .before .before .before .before .before .before .before .before .before .before .before .args in
     let p = c .before .before .before .before .before .before .before .before .before .before .before .before .pre in
     let f = c .before .before .before .before .before .before .before .before .put-all-but-last in
