@@ -21,7 +21,7 @@ abbrev μ-loop : tie.MeasureT-loop
 μ-loop out₀ octets t pair v to₀ from₀ left₀ out to from left = left
 
 loop-holds : tie.Need-loop-holds Inv-loop μ-loop
-loop-holds c = advanced-none (c .before .before .args .t .width) (c .before .before .args .pair) (c .before .before .args .octets .now) (c .before .before .args .out .now) (c .before .before .args .c) (c .before .before .pre .3)
+loop-holds c = advanced-none _ _ _ _ _ (c .before .before .pre .3)
 
 sub-put-plain : tie.Need-sub-put-plain Inv-loop μ-loop
 sub-put-plain c = omega (arith, c .before .loop .inv .fits .room false)
@@ -46,13 +46,13 @@ put-plain-requires c κs =
     let a = c .before .before .before .before .before .before .args in
     let p = c .before .before .before .before .before .before .pre in
     let l = c .before .before .before .loop in
-    (omega arith, p .0, p .1, lent-room (a .octets .now) (l .from) (a .t .width) (omega (arith, l .inv .fits .held, p .1)), lent-room (l .out) (l .to) (size (a .t)) (full-room (c .before .before .before .before .before .before .args .t) (c .before .before .before .before .before .before .args .pair) (c .before .before .before .before .before .before .args .octets .now) (c .before .before .before .before .before .before .args .out .now) (c .before .before .before .before .before .before .args .c) (c .before .before .before .loop .out) (record { to = c .before .before .before .loop .to; from = c .before .before .before .loop .from; left = c .before .before .before .loop .left }) (c .before .before .before .before .before .before .pre .0) (c .before .before .before .loop .inv) (c .before .before .loop-test .taken)), p .2, omega arith)
+    (omega arith, p .0, p .1, lent-room (a .octets .now) (l .from) (a .t .width) (omega (arith, l .inv .fits .held, p .1)), lent-room (l .out) (l .to) (size (a .t)) (full-room (a .t) _ _ _ _ _ _ (p .0) (l .inv) (c .before .before .loop-test .taken)), p .2, omega arith)
 
 record-size-requires : tie.Need-record-size-requires Inv-loop μ-loop
 record-size-requires c κs = search needs
 
 add-to : tie.Need-add-to Inv-loop μ-loop
-add-to c = omega (arith, c .record-size .ensures, full-room (c .before .before .before .before .before .before .before .before .before .before .args .t) (c .before .before .before .before .before .before .before .before .before .before .args .pair) (c .before .before .before .before .before .before .before .before .before .before .args .octets .now) (c .before .before .before .before .before .before .before .before .before .before .args .out .now) (c .before .before .before .before .before .before .before .before .before .before .args .c) (c .before .before .before .before .before .before .before .loop .out) (record { to = c .before .before .before .before .before .before .before .loop .to; from = c .before .before .before .before .before .before .before .loop .from; left = c .before .before .before .before .before .before .before .loop .left }) (c .before .before .before .before .before .before .before .before .before .before .pre .0) (c .before .before .before .before .before .before .before .loop .inv) (c .before .before .before .before .before .before .loop-test .taken), c .before .before .before .before .before .before .before .loop .inv .same, c .before .before .before .before .before .before .before .before .before .before .good)
+add-to c = omega (arith, c .record-size .ensures, full-room (c .before .before .before .before .before .before .before .before .before .before .args .t) _ _ _ _ _ _ (c .before .before .before .before .before .before .before .before .before .before .pre .0) (c .before .before .before .before .before .before .before .loop .inv) (c .before .before .before .before .before .before .loop-test .taken), c .before .before .before .before .before .before .before .loop .inv .same, c .before .before .before .before .before .before .before .before .before .before .good)
 
 add-from : tie.Need-add-from Inv-loop μ-loop
 add-from c = omega (arith, c .before .before .before .before .before .before .before .loop .inv .fits .held, c .before .before .before .before .before .before .loop-test .taken, c .before .before .before .before .before .before .before .before .before .before .good)
@@ -68,7 +68,7 @@ loop-again c =
     let a = c .before .before .before .before .before .before .before .before .before .before .args in
     let l = c .before .before .before .before .before .before .before .loop in
     rw (c .record-size .ensures)
-    (full-written (a .t) (a .pair) (a .octets .now) (a .out .now) (a .c) (l .out) (record { to = l .to; from = l .from; left = l .left }) (c .before .before .before .before .before .before .before .before .before .before .pre .0) (l .inv)
+    (full-written (a .t) _ _ _ _ _ _ (c .before .before .before .before .before .before .before .before .before .before .pre .0) (l .inv)
     (c .before .before .before .before .before .before .loop-test .taken) (size (a .t)) refl (c .before .before .before .put-plain .last .0) (rw (lent-codes (a .octets .now) (l .from)) at (c .before .before .before .put-plain .ensures)))
 
 same-length : tie.Need-same-length Inv-loop μ-loop

@@ -5,6 +5,7 @@ use Prim.Native.Nat.{_-_}
 use native.Mathlib.Omega.{arith}
 use borrow.Author.Needs.{needs}
 use lib.ListN.{length, getD, take, drop}
+use Rattle.stream.specs.declared.Shape.{Shape}
 use Rattle.repack_emit.specs.Write.{Advanced}
 use Rattle.repack_emit.proofs.Fulls.{advanced-none, full-room, full-written, one-written, lent-room}
 use Rattle.repack_emit.proofs.Memory.{size-is}
@@ -14,6 +15,9 @@ use Rattle.repack_emit.proofs.plain.put_ones.Reads as reads
 use Rattle.repack_emit.proofs.plain.put_ones.Lts as lts
 use Rattle.record.proofs.write.write_one.Reads as write-one-reads
 
+abbrev one-lane : Shape
+one-lane = record { width = 1 }
+
 abbrev Inv-loop : tie.InvT-loop
 Inv-loop out₀ octets pair to₀ from₀ left₀ out to from left =
     Advanced 1 pair octets out₀ (record { to = to₀; from = from₀; left = left₀ }) out (record { to = to; from = from; left = left })
@@ -22,7 +26,7 @@ abbrev μ-loop : tie.MeasureT-loop
 μ-loop out₀ octets pair to₀ from₀ left₀ out to from left = left
 
 loop-holds : tie.Need-loop-holds Inv-loop μ-loop
-loop-holds c = advanced-none 1 (c .before .before .args .pair) (c .before .before .args .octets .now) (c .before .before .args .out .now) (c .before .before .args .c) (c .before .before .pre .1)
+loop-holds c = advanced-none 1 _ _ _ _ (c .before .before .pre .1)
 
 sub-write-one : tie.Need-sub-write-one Inv-loop μ-loop
 sub-write-one c = omega (arith, c .before .loop .inv .fits .room false)
@@ -37,10 +41,11 @@ shared-slice-read-write-one : tie.Need-shared-slice-read-write-one Inv-loop μ-l
 shared-slice-read-write-one c = omega (arith, c .before .before .before .loop .inv .fits .held)
 
 write-one-requires : tie.Need-write-one-requires Inv-loop μ-loop
-write-one-requires c κs = (lent-room (c .before .before .before .loop .out) (c .before .before .before .loop .to) 8 (omega (arith, full-room (record { width = 1 }) (c .before .before .before .before .before .before .args .pair) (c .before .before .before .before .before .before .args .octets .now) (c .before .before .before .before .before .before .args .out .now) (c .before .before .before .before .before .before .args .c) (c .before .before .before .loop .out) (record { to = c .before .before .before .loop .to; from = c .before .before .before .loop .from; left = c .before .before .before .loop .left }) (omega arith) (c .before .before .before .loop .inv) (c .before .before .loop-test .taken), size-is (record { width = 1 }))), c .before .before .before .before .before .before .pre .0)
+write-one-requires c κs =
+    (lent-room (c .before .before .before .loop .out) (c .before .before .before .loop .to) 8 (omega (arith, full-room one-lane _ _ _ _ _ _ (omega arith) (c .before .before .before .loop .inv) (c .before .before .loop-test .taken), size-is one-lane)), c .before .before .before .before .before .before .pre .0)
 
 add-to : tie.Need-add-to Inv-loop μ-loop
-add-to c = omega (arith, full-room (record { width = 1 }) (c .before .before .before .before .before .before .before .before .before .args .pair) (c .before .before .before .before .before .before .before .before .before .args .octets .now) (c .before .before .before .before .before .before .before .before .before .args .out .now) (c .before .before .before .before .before .before .before .before .before .args .c) (c .before .before .before .before .before .before .loop .out) (record { to = c .before .before .before .before .before .before .loop .to; from = c .before .before .before .before .before .before .loop .from; left = c .before .before .before .before .before .before .loop .left }) (omega arith) (c .before .before .before .before .before .before .loop .inv) (c .before .before .before .before .before .loop-test .taken), size-is (record { width = 1 }), c .before .before .before .before .before .before .loop .inv .same, c .before .before .before .before .before .before .before .before .before .good)
+add-to c = omega (arith, full-room one-lane _ _ _ _ _ _ (omega arith) (c .before .before .before .before .before .before .loop .inv) (c .before .before .before .before .before .loop-test .taken), size-is one-lane, c .before .before .before .before .before .before .loop .inv .same, c .before .before .before .before .before .before .before .before .before .good)
 
 add-from : tie.Need-add-from Inv-loop μ-loop
 add-from c = omega (arith, c .before .before .before .before .before .before .loop .inv .fits .held, c .before .before .before .before .before .before .before .before .before .good)
@@ -55,7 +60,7 @@ loop-again : tie.Need-loop-again Inv-loop μ-loop
 loop-again c =
     let a = c .before .before .before .before .before .before .before .before .before .args in
     let l = c .before .before .before .before .before .before .loop in
-    full-written (record { width = 1 }) (c .before .before .before .before .before .before .before .before .before .args .pair) (c .before .before .before .before .before .before .before .before .before .args .octets .now) (c .before .before .before .before .before .before .before .before .before .args .out .now) (c .before .before .before .before .before .before .before .before .before .args .c) (c .before .before .before .before .before .before .loop .out) (record { to = c .before .before .before .before .before .before .loop .to; from = c .before .before .before .before .before .before .loop .from; left = c .before .before .before .before .before .before .loop .left }) (omega arith) (c .before .before .before .before .before .before .loop .inv) (c .before .before .before .before .before .loop-test .taken) 8 (sym (size-is (record { width = 1 }))) (c .before .before .write-one .last .0)
+    full-written one-lane _ _ _ _ _ _ (omega arith) (c .before .before .before .before .before .before .loop .inv) (c .before .before .before .before .before .loop-test .taken) 8 (sym (size-is one-lane)) (c .before .before .write-one .last .0)
     (c .before .before .write-one .ensures ∙ one-written (a .pair) (getD (a .octets .now) (l .from) 0) (a .octets .now) (drop 8 (take (length (l .out) - l .to) (drop (l .to) (l .out)))) (l .from) (c .before .before .before .before .before .before .before .before .before .pre .0) (omega (arith, l .inv .fits .held)) refl (omega (arith, c .before .before .before .shared-slice-known2 .given (l .from))))
 
 same-length : tie.Need-same-length Inv-loop μ-loop

@@ -48,7 +48,7 @@ put-plain-requires c κs =
     let a = c .before .before .before .before .before .before .before .before .args in
     let p = c .before .before .before .before .before .before .before .before .pre in
     let f = c .before .before .before .before .put-all-but-last in
-    (f .ensures .0, p .0, p .1, lent-room (a .octets .now) (f .result .from) (a .t .width) (omega (arith, f .ensures .1 .fits .held, p .1)), lent-room (f .last .0) (f .result .to) (size (a .t)) (last-room (a .t) (a .e / 131072) (a .octets .now) (a .out .now) (record { to = a .at; from = a .start; left = entryCount (a .e) }) (f .last .0) (f .result) (p .0) (f .ensures .1) (f .ensures .0) false), omega (arith, c .before .before .before .before .before .before .before .before .fits .e), omega arith)
+    (f .ensures .0, p .0, p .1, lent-room (a .octets .now) (f .result .from) (a .t .width) (omega (arith, f .ensures .1 .fits .held, p .1)), lent-room (f .last .0) (f .result .to) (size (a .t)) (last-room (a .t) _ _ _ _ _ _ (p .0) (f .ensures .1) (f .ensures .0) false), omega (arith, c .before .before .before .before .before .before .before .before .fits .e), omega arith)
 
 record-size-requires : tie.Need-record-size-requires
 record-size-requires c κs = search needs
@@ -58,7 +58,7 @@ add-result c =
     let a = c .before .before .before .before .before .before .before .before .before .before .before .before .args in
     let p = c .before .before .before .before .before .before .before .before .before .before .before .before .pre in
     let f = c .before .before .before .before .before .before .before .before .put-all-but-last in
-    omega (arith, c .record-size .ensures, last-room (a .t) (a .e / 131072) (a .octets .now) (a .out .now) (record { to = a .at; from = a .start; left = entryCount (a .e) }) (f .last .0) (f .result) (p .0) (f .ensures .1) (f .ensures .0) false, f .ensures .1 .same, c .before .before .before .before .before .before .before .before .before .before .before .before .good)
+    omega (arith, c .record-size .ensures, last-room (a .t) _ _ _ _ _ _ (p .0) (f .ensures .1) (f .ensures .0) false, f .ensures .1 .same, c .before .before .before .before .before .before .before .before .before .before .before .before .good)
 
 same-length : tie.Need-same-length
 same-length c = search needs
@@ -69,7 +69,7 @@ returns c =
     let p = c .before .before .before .before .before .before .before .before .before .before .before .before .pre in
     let f = c .before .before .before .before .before .before .before .before .put-all-but-last in
     rw (c .record-size .ensures)
-    (last-written (a .t) (a .e / 131072) (a .octets .now) (a .out .now) (record { to = a .at; from = a .start; left = entryCount (a .e) }) (f .last .0) (f .result) (p .0) (f .ensures .1) (f .ensures .0)
+    (last-written (a .t) _ _ _ _ _ _ (p .0) (f .ensures .1) (f .ensures .0)
     (odd (a .e / 65536)) (size (a .t)) refl (c .before .before .before .put-plain .last .0)
     (rw (lent-codes (a .octets .now) (f .result .from), odd-bit (a .e / 65536)) at (c .before .before .before .put-plain .ensures)))
 
