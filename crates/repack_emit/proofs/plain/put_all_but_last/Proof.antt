@@ -1,6 +1,6 @@
 -- `repack_emit::plain::put_all_but_last` meets its contract: the loop for one lane where there is one, else the other. Assumes nothing.
 use Prim.Native.Nat.{ℕ}
-use mathlib.Core.Path.{sym, subst}
+use mathlib.Core.Path.{subst}
 use Rattle.repack_emit.specs.Write.{Fitting}
 use borrow.Author.Needs.{needs}
 use Rattle.repack_emit.proofs.plain.put_all_but_last.Statement.{statement}
