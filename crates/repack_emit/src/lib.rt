@@ -12,7 +12,7 @@ ghost use mathlib.Core.List.{_++_, map};
 ghost use Prim.Native.Nat.{ℕ, _+_, _*_, _-_, _/_, _%_, _≤_, _<_};
 ghost use lib.ListN.{length, take, drop};
 ghost use Rattle.stream.specs.Layout.{size, odd, maskOf, octetsOf};
-ghost use Rattle.scratch.specs.Codes.{dataCode, heldCodes, pairFrom, entryCount, total};
+ghost use Rattle.scratch.specs.Codes.{dataCode, heldCodes, markBits, pairFrom, entryCount, total};
 ghost use Rattle.repack_emit.specs.Write.{itemOctet, itemStrobe, Held, recordOf, stretchOctets, packedFrom, countOf, Writes, Emitted};
 
 // The records of a stretch of n items.
