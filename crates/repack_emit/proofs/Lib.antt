@@ -2,3 +2,4 @@ pub mod Lanes
 pub mod Memory
 pub mod Stretches
 pub mod Answer
+pub mod Near

@@ -1,4 +1,4 @@
--- `repack_emit::put_at` meets its contract: what the lent part comes back as. Assumes nothing.
+-- `repack_emit::marked::put_at` meets its contract: what the lent part comes back as. Assumes nothing.
 use mathlib.Core.Path.{refl, ap, _∙_}
 use Prim.Native.Nat.{_-_}
 use native.Mathlib.Omega.{arith}
@@ -9,12 +9,12 @@ use Rattle.repack_emit.specs.Write.{recordOf}
 use Rattle.repack_emit.proofs.Memory.{lent-long, lent-writes}
 use Rattle.repack_emit.proofs.Stretches.{record-long, lent-items, held-part, held-from}
 use borrow.Author.Needs.{needs}
-use Rattle.repack_emit.proofs.put_at.Statement.{statement}
-use Rattle.repack_emit.proofs.put_at.Tie as tie
-use Rattle.repack_emit.proofs.put_at.Reads as reads
-use Rattle.repack_emit.proofs.put_at.Lts as lts
+use Rattle.repack_emit.proofs.marked.put_at.Statement.{statement}
+use Rattle.repack_emit.proofs.marked.put_at.Tie as tie
+use Rattle.repack_emit.proofs.marked.put_at.Reads as reads
+use Rattle.repack_emit.proofs.marked.put_at.Lts as lts
 use Rattle.record.proofs.record_size.Reads as record-size-reads
-use Rattle.repack_emit.proofs.put_record.Reads as put-record-reads
+use Rattle.repack_emit.proofs.marked.put_record.Reads as put-record-reads
 
 sub-put-record : tie.Need-sub-put-record
 sub-put-record c = search needs
