@@ -1,3 +1,8 @@
+-- `repack_emit::put_stretch` meets its contract: where no item is marked all are data. Assumes nothing.
+use mathlib.Core.Path.{_∙_}
+use Rattle.scratch.specs.Codes.{markBits}
+use Rattle.scratch.proofs.Held.{unmarked-held}
+use Rattle.scratch.proofs.Marks.{length-marks}
 use borrow.Author.Needs.{needs}
 use Rattle.repack_emit.proofs.put_stretch.Statement.{statement}
 use Rattle.repack_emit.proofs.put_stretch.Tie as tie
@@ -6,27 +11,29 @@ use Rattle.repack_emit.proofs.put_stretch.Lts as lts
 use Rattle.repack_emit.proofs.marked.put_stretch.Reads as marked-put-stretch-reads
 use Rattle.repack_emit.proofs.plain.put_stretch.Reads as plain-put-stretch-reads
 
--- src/lib.rt:59:9
 put-stretch-requires : tie.Need-put-stretch-requires
-put-stretch-requires c κs = ?h1
+put-stretch-requires c κs =
+    let a = c .before .before .before .before .before .args in
+    let p = c .before .before .before .before .before .pre in
+    (p .0, p .1, p .2, rw (unmarked-held (a .octets .now) (markBits (a .marks .now)) (p .3 .same) (p .3 .unmarked (c .before .if1 .taken))) at (p .4))
 
--- src/lib.rt:59:9
 same-length : tie.Need-same-length
 same-length c = search needs
 
--- src/lib.rt:59:9
 returns : tie.Need-returns
-returns c = ?h2
+returns c =
+    let a = c .before .before .before .before .before .before .before .before .args in
+    let held = c .before .before .before .before .before .before .before .before .pre .3 in
+    rw (unmarked-held (a .octets .now) (markBits (a .marks .now)) (held .same) (held .unmarked (c .before .before .before .before .if1 .taken))) (c .before .before .put-stretch .ensures)
 
--- src/lib.rt:61:5
 put-stretch-requires-2 : tie.Need-put-stretch-requires-2
-put-stretch-requires-2 c κs = ?h3
+put-stretch-requires-2 c κs =
+    let p = c .before .before .before .before .before .pre in
+    (p .0, p .1, p .2, p .3 .same ∙ length-marks (c .before .before .before .before .before .args .marks .now), p .4)
 
--- src/lib.rt:45:1
 same-length-2 : tie.Need-same-length-2
 same-length-2 c = search needs
 
--- src/lib.rt:45:1
 returns-2 : tie.Need-returns-2
 returns-2 c = search needs
 

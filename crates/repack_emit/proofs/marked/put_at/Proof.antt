@@ -1,13 +1,13 @@
 -- `repack_emit::marked::put_at` meets its contract: what the lent part comes back as. Assumes nothing.
-use mathlib.Core.Path.{refl, ap, _∙_}
+use mathlib.Core.Path.{refl}
 use Prim.Native.Nat.{_-_}
 use native.Mathlib.Omega.{arith}
-use lib.ListN.{length, take, drop, length-drop}
+use lib.ListN.{length, take, drop}
 use Rattle.stream.specs.Layout.{size, odd, octetsOf}
-use Rattle.scratch.specs.Codes.{heldCodes, pairFrom}
+use Rattle.scratch.specs.Codes.{heldCodes, markBits, pairFrom}
 use Rattle.repack_emit.specs.Write.{recordOf}
 use Rattle.repack_emit.proofs.Memory.{lent-long, lent-writes}
-use Rattle.repack_emit.proofs.Stretches.{record-long, lent-items, held-part, held-from}
+use Rattle.repack_emit.proofs.Stretches.{record-long}
 use borrow.Author.Needs.{needs}
 use Rattle.repack_emit.proofs.marked.put_at.Statement.{statement}
 use Rattle.repack_emit.proofs.marked.put_at.Tie as tie
@@ -25,30 +25,10 @@ part-put-record-start c = search needs
 part-put-record-end : tie.Need-part-put-record-end
 part-put-record-end c = search needs
 
-sub-put-record-2 : tie.Need-sub-put-record-2
-sub-put-record-2 c = search needs
-
-part-put-record-start-2 : tie.Need-part-put-record-start-2
-part-put-record-start-2 c = search needs
-
-part-put-record-end-2 : tie.Need-part-put-record-end-2
-part-put-record-end-2 c = search needs
-
-sub-put-record-3 : tie.Need-sub-put-record-3
-sub-put-record-3 c = search needs
-
-part-put-record-start-3 : tie.Need-part-put-record-start-3
-part-put-record-start-3 c = search needs
-
-part-put-record-end-3 : tie.Need-part-put-record-end-3
-part-put-record-end-3 c = search needs
-
 put-record-requires : tie.Need-put-record-requires
 put-record-requires c κs =
-    let a = c .before .before .before .before .before .before .args in
-    let p = c .before .before .before .before .before .before .pre in
-    let long = ap length (lent-items (a .octets .now) (a .from)) ∙ length-drop (a .from) (a .octets .now) in
-    (p .0, p .1, p .2, omega (arith, long, p .3), omega (arith, p .4), p .5, p .6, held-part (a .plain) (a .octets .now) (a .marks .now) (a .from) (p .7))
+    let p = c .before .before .before .before .pre in
+    (p .0, p .1, p .2, p .3, p .7, omega (arith, p .4), p .5, p .6)
 
 record-size-requires : tie.Need-record-size-requires
 record-size-requires c κs = search needs
@@ -61,12 +41,12 @@ same-length c = search needs
 
 returns : tie.Need-returns
 returns c =
-    let a = c .before .before .before .before .before .before .before .before .before .before .args in
-    let p = c .before .before .before .before .before .before .before .before .before .before .pre in
-    rw (c .before .before .before .put-record .ensures, c .record-size .ensures, held-from (a .octets .now) (a .marks .now) (a .from) (p .7 .same)) (
+    let a = c .before .before .before .before .before .before .before .before .args in
+    let p = c .before .before .before .before .before .before .before .before .pre in
+    rw (c .before .before .before .put-record .ensures, c .record-size .ensures) (
       refl,
-      lent-long (a .out .now) (octetsOf (recordOf (a .t .width) (pairFrom (a .pair)) (take (a .n) (drop (a .from) (heldCodes (a .octets .now) (a .marks .now)))) (odd (a .last)))) (a .to) (size (a .t)) (record-long (a .t) (pairFrom (a .pair)) (take (a .n) (drop (a .from) (heldCodes (a .octets .now) (a .marks .now)))) (odd (a .last))) (p .4) (length (a .out .now) - a .to) refl,
-      lent-writes (a .out .now) (octetsOf (recordOf (a .t .width) (pairFrom (a .pair)) (take (a .n) (drop (a .from) (heldCodes (a .octets .now) (a .marks .now)))) (odd (a .last)))) (a .to) (size (a .t)) (record-long (a .t) (pairFrom (a .pair)) (take (a .n) (drop (a .from) (heldCodes (a .octets .now) (a .marks .now)))) (odd (a .last))) (p .4) (length (a .out .now) - a .to) refl,
+      lent-long (a .out .now) (octetsOf (recordOf (a .t .width) (pairFrom (a .pair)) (take (a .n) (drop (a .from) (heldCodes (a .octets .now) (markBits (a .marks .now))))) (odd (a .last)))) (a .to) (size (a .t)) (record-long (a .t) (pairFrom (a .pair)) (take (a .n) (drop (a .from) (heldCodes (a .octets .now) (markBits (a .marks .now))))) (odd (a .last))) (p .4) (length (a .out .now) - a .to) refl,
+      lent-writes (a .out .now) (octetsOf (recordOf (a .t .width) (pairFrom (a .pair)) (take (a .n) (drop (a .from) (heldCodes (a .octets .now) (markBits (a .marks .now))))) (odd (a .last)))) (a .to) (size (a .t)) (record-long (a .t) (pairFrom (a .pair)) (take (a .n) (drop (a .from) (heldCodes (a .octets .now) (markBits (a .marks .now))))) (odd (a .last))) (p .4) (length (a .out .now) - a .to) refl,
     )
 
 pub put-at-spec : {M : Type 1} → statement M
@@ -76,12 +56,6 @@ put-at-spec =
     sub-put-record
     part-put-record-start
     part-put-record-end
-    sub-put-record-2
-    part-put-record-start-2
-    part-put-record-end-2
-    sub-put-record-3
-    part-put-record-start-3
-    part-put-record-end-3
     put-record-requires
     record-size-requires
     add-result

@@ -5,10 +5,11 @@ use native.Mathlib.Omega.{arith}
 use borrow.Author.Needs.{needs}
 use lib.ListN.{length, take, drop}
 use Rattle.stream.specs.Layout.{odd}
-use Rattle.scratch.specs.Codes.{heldCodes, pairFrom, entryCount}
+use Rattle.scratch.specs.Codes.{heldCodes, markBits, pairFrom, entryCount}
 use Rattle.scratch.proofs.Held.{length-held}
 use Rattle.repack_emit.specs.Write.{stretchOctets}
 use Rattle.repack_emit.proofs.Stretches.{Stretching, odd-bit, stretching-starts, stretching-room, stretching-next, stretching-last-room, stretching-done}
+use Rattle.repack_emit.proofs.Near.{marks-same}
 use Rattle.repack_emit.proofs.marked.put_stretch.Statement.{statement}
 use Rattle.repack_emit.proofs.marked.put_stretch.Tie as tie
 use Rattle.repack_emit.proofs.marked.put_stretch.Reads as reads
@@ -16,13 +17,13 @@ use Rattle.repack_emit.proofs.marked.put_stretch.Lts as lts
 use Rattle.repack_emit.proofs.marked.put_at.Reads as put-at-reads
 
 abbrev Inv-loop : tie.InvT-loop
-Inv-loop out₀ at octets marks plain start e t v to₀ from₀ left₀ out to from left =
+Inv-loop out₀ at octets marks start e t v to₀ from₀ left₀ out to from left =
     (from + left ≡ start + entryCount e)
-    × Stretching (t .width) (pairFrom (e / 131072)) (odd (e / 65536)) (heldCodes octets marks) out₀ at
-    (stretchOctets (t .width) (pairFrom (e / 131072)) (take (entryCount e) (drop start (heldCodes octets marks))) (odd (e / 65536))) out to from left
+    × Stretching (t .width) (pairFrom (e / 131072)) (odd (e / 65536)) (heldCodes octets (markBits marks)) out₀ at
+    (stretchOctets (t .width) (pairFrom (e / 131072)) (take (entryCount e) (drop start (heldCodes octets (markBits marks)))) (odd (e / 65536))) out to from left
 
 abbrev μ-loop : tie.MeasureT-loop
-μ-loop out₀ at octets marks plain start e t v to₀ from₀ left₀ out to from left = left
+μ-loop out₀ at octets marks start e t v to₀ from₀ left₀ out to from left = left
 
 cast-left : tie.Need-cast-left Inv-loop μ-loop
 cast-left c = search needs
@@ -31,14 +32,14 @@ loop-holds : tie.Need-loop-holds Inv-loop μ-loop
 loop-holds c =
     let a = c .before .before .before .args in
     let p = c .before .before .before .pre in
-    (refl, stretching-starts (a .t .width) (pairFrom (a .e / 131072)) (odd (a .e / 65536)) (heldCodes (a .octets .now) (a .marks .now)) (a .out .now) (a .at) (a .start) (entryCount (a .e)) (omega (arith, p .2, length-held (a .octets .now) (a .marks .now) (p .3 .same))) (p .4))
+    (refl, stretching-starts (a .t .width) (pairFrom (a .e / 131072)) (odd (a .e / 65536)) (heldCodes (a .octets .now) (markBits (a .marks .now))) (a .out .now) (a .at) (a .start) (entryCount (a .e)) (omega (arith, p .2, length-held (a .octets .now) (markBits (a .marks .now)) (marks-same (a .octets .now) (a .marks .now) (p .3)))) (p .4))
 
 put-at-requires : tie.Need-put-at-requires Inv-loop μ-loop
 put-at-requires c κs =
     let a = c .before .before .before .before .before .before .args in
     let p = c .before .before .before .before .before .before .pre in
     let l = c .before .before .loop in
-    (omega arith, p .0, p .1, omega (arith, l .inv .0, p .1, p .2), stretching-room (a .t) (pairFrom (a .e / 131072)) (odd (a .e / 65536)) (heldCodes (a .octets .now) (a .marks .now)) (a .out .now) (a .at) (stretchOctets (a .t .width) (pairFrom (a .e / 131072)) (take (entryCount (a .e)) (drop (a .start) (heldCodes (a .octets .now) (a .marks .now)))) (odd (a .e / 65536))) (l .out) (l .to) (l .from) (l .left) (p .0) (l .inv .1) (c .before .loop-test .taken), omega (arith, c .before .before .before .before .before .before .fits .e), omega arith, p .3)
+    (omega arith, p .0, p .1, omega (arith, l .inv .0, p .1, p .2), stretching-room (a .t) (pairFrom (a .e / 131072)) (odd (a .e / 65536)) (heldCodes (a .octets .now) (markBits (a .marks .now))) (a .out .now) (a .at) (stretchOctets (a .t .width) (pairFrom (a .e / 131072)) (take (entryCount (a .e)) (drop (a .start) (heldCodes (a .octets .now) (markBits (a .marks .now))))) (odd (a .e / 65536))) (l .out) (l .to) (l .from) (l .left) (p .0) (l .inv .1) (c .before .loop-test .taken), omega (arith, c .before .before .before .before .before .before .fits .e), omega arith, p .3)
 
 add-from : tie.Need-add-from Inv-loop μ-loop
 add-from c = omega (arith, c .before .before .before .before .before .loop .inv .0, c .before .before .before .before .loop-test .taken, c .before .before .before .before .before .before .before .before .before .pre .2, c .before .before .before .before .before .before .before .before .before .good)
@@ -55,7 +56,7 @@ loop-again c =
     let p = c .before .before .before .before .before .before .before .before .before .pre in
     let l = c .before .before .before .before .before .loop in (
       omega (arith, l .inv .0, c .before .before .before .before .loop-test .taken),
-      stretching-next (a .t) (pairFrom (a .e / 131072)) (odd (a .e / 65536)) (heldCodes (a .octets .now) (a .marks .now)) (a .out .now) (a .at) (stretchOctets (a .t .width) (pairFrom (a .e / 131072)) (take (entryCount (a .e)) (drop (a .start) (heldCodes (a .octets .now) (a .marks .now)))) (odd (a .e / 65536))) (l .out) (l .to) (l .from) (l .left) (p .0) (l .inv .1) (c .before .before .before .before .loop-test .taken) (c .before .before .put-at .last .0) (c .before .before .put-at .result)
+      stretching-next (a .t) (pairFrom (a .e / 131072)) (odd (a .e / 65536)) (heldCodes (a .octets .now) (markBits (a .marks .now))) (a .out .now) (a .at) (stretchOctets (a .t .width) (pairFrom (a .e / 131072)) (take (entryCount (a .e)) (drop (a .start) (heldCodes (a .octets .now) (markBits (a .marks .now))))) (odd (a .e / 65536))) (l .out) (l .to) (l .from) (l .left) (p .0) (l .inv .1) (c .before .before .before .before .loop-test .taken) (c .before .before .put-at .last .0) (c .before .before .put-at .result)
           (c .before .before .put-at .ensures .0) (c .before .before .put-at .ensures .1) (c .before .before .put-at .ensures .2),
     )
 
@@ -64,7 +65,7 @@ put-at-requires-2 c κs =
     let a = c .before .before .before .before .before .before .args in
     let p = c .before .before .before .before .before .before .pre in
     let l = c .before .before .loop in
-    (c .before .loop-test .left, p .0, p .1, omega (arith, l .inv .0, p .1, p .2), stretching-last-room (a .t) (pairFrom (a .e / 131072)) (odd (a .e / 65536)) (heldCodes (a .octets .now) (a .marks .now)) (a .out .now) (a .at) (stretchOctets (a .t .width) (pairFrom (a .e / 131072)) (take (entryCount (a .e)) (drop (a .start) (heldCodes (a .octets .now) (a .marks .now)))) (odd (a .e / 65536))) (l .out) (l .to) (l .from) (l .left) (p .0) (l .inv .1) (c .before .loop-test .left), omega (arith, c .before .before .before .before .before .before .fits .e), omega arith, p .3)
+    (c .before .loop-test .left, p .0, p .1, omega (arith, l .inv .0, p .1, p .2), stretching-last-room (a .t) (pairFrom (a .e / 131072)) (odd (a .e / 65536)) (heldCodes (a .octets .now) (markBits (a .marks .now))) (a .out .now) (a .at) (stretchOctets (a .t .width) (pairFrom (a .e / 131072)) (take (entryCount (a .e)) (drop (a .start) (heldCodes (a .octets .now) (markBits (a .marks .now))))) (odd (a .e / 65536))) (l .out) (l .to) (l .from) (l .left) (p .0) (l .inv .1) (c .before .loop-test .left), omega (arith, c .before .before .before .before .before .before .fits .e), omega arith, p .3)
 
 same-length : tie.Need-same-length Inv-loop μ-loop
 same-length c = c .before .before .put-at2 .kept .0 ∙ c .before .before .before .before .before .loop .inv .1 .same
@@ -75,7 +76,7 @@ returns c =
     let p = c .before .before .before .before .before .before .before .before .before .pre in
     let l = c .before .before .before .before .before .loop in (
       c .before .before .put-at2 .ensures .1 ∙ l .inv .1 .same,
-      stretching-done (a .t) (pairFrom (a .e / 131072)) (odd (a .e / 65536)) (heldCodes (a .octets .now) (a .marks .now)) (a .out .now) (a .at) (stretchOctets (a .t .width) (pairFrom (a .e / 131072)) (take (entryCount (a .e)) (drop (a .start) (heldCodes (a .octets .now) (a .marks .now)))) (odd (a .e / 65536))) (l .out) (l .to) (l .from) (l .left) (p .0) (l .inv .1) (c .before .before .before .before .loop-test .left) (c .before .before .put-at2 .last .0) (c .before .before .put-at2 .result)
+      stretching-done (a .t) (pairFrom (a .e / 131072)) (odd (a .e / 65536)) (heldCodes (a .octets .now) (markBits (a .marks .now))) (a .out .now) (a .at) (stretchOctets (a .t .width) (pairFrom (a .e / 131072)) (take (entryCount (a .e)) (drop (a .start) (heldCodes (a .octets .now) (markBits (a .marks .now))))) (odd (a .e / 65536))) (l .out) (l .to) (l .from) (l .left) (p .0) (l .inv .1) (c .before .before .before .before .loop-test .left) (c .before .before .put-at2 .last .0) (c .before .before .put-at2 .result)
           (rw (odd-bit (a .e / 65536)) at (c .before .before .put-at2 .ensures .2)),
     )
 
