@@ -1,6 +1,6 @@
 -- `repack_emit::marked::mark` meets its contract: bit i % 8 of octet i / 8. Assumes nothing.
-use mathlib.Core.Path.{_≡_, refl, sym, _∙_}
-use Prim.Native.Nat.{ℕ, _*_, _%_, _^_}
+use mathlib.Core.Path.{_≡_, sym}
+use Prim.Native.Nat.{_*_, _%_, _^_}
 use native.Mathlib.Omega.{arith}
 use lib.Pow.{pow-pos}
 use Rattle.scratch.proofs.Marks.{mark-at}

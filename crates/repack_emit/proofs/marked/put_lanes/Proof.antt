@@ -1,6 +1,6 @@
 -- `repack_emit::marked::put_lanes` meets its contract: items, nulls and header make the record. Assumes nothing.
 use mathlib.Core.Path.{_≡_, refl}
-use Prim.Native.Nat.{ℕ, _-_, _*_, _%_, _^_, _≤_}
+use Prim.Native.Nat.{_-_, _*_, _%_, _^_, _≤_}
 use native.Mathlib.Omega.{arith}
 use lib.Pow.{pow-pos, pow-mono}
 use lib.ListN.{length, take, drop}

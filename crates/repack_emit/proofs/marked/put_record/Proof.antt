@@ -1,8 +1,8 @@
 -- `repack_emit::marked::put_record` meets its contract: items that are not marked are data. Assumes nothing.
-use mathlib.Core.Path.{_≡_, sym, ap, _∙_}
-use Prim.Native.Nat.{ℕ, _+_, _-_, _<_}
+use mathlib.Core.Path.{ap, _∙_}
+use Prim.Native.Nat.{ℕ, _+_, _<_}
 use native.Mathlib.Omega.{arith}
-use lib.ListN.{length, getD, take, drop, length-drop}
+use lib.ListN.{length, getD, drop, length-drop}
 use lib.Seq.{getD-drop}
 use Rattle.scratch.specs.Codes.{markBits}
 use Rattle.repack_emit.proofs.Memory.{plain-written, size-is}

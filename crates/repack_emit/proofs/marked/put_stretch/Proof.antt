@@ -1,9 +1,9 @@
 -- `repack_emit::marked::put_stretch` meets its contract: full records while more is left than a record holds, then the last one. Assumes nothing.
 use mathlib.Core.Path.{_≡_, refl, _∙_}
-use Prim.Native.Nat.{ℕ, _+_, _-_, _*_, _/_, _%_, _≤_, _<_}
+use Prim.Native.Nat.{_+_, _/_}
 use native.Mathlib.Omega.{arith}
 use borrow.Author.Needs.{needs}
-use lib.ListN.{length, take, drop}
+use lib.ListN.{take, drop}
 use Rattle.stream.specs.Layout.{odd}
 use Rattle.scratch.specs.Codes.{heldCodes, markBits, pairFrom, entryCount}
 use Rattle.scratch.proofs.Held.{length-held}

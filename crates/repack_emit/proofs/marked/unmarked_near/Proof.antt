@@ -1,8 +1,7 @@
 -- `repack_emit::marked::unmarked_near` meets its contract: where four octets are zero no mark of theirs stands. Assumes nothing.
-use native.Mathlib.Omega.{arith}
+use mathlib.Core.Path.{sym, _∙_}
 use borrow.Author.Needs.{needs}
 use borrow.Author.Tests.{eqb-true}
-use mathlib.Core.Path.{sym, _∙_}
 use Rattle.repack_emit.proofs.Near.{unmarked-word}
 use Rattle.repack_emit.proofs.marked.unmarked_near.Statement.{statement}
 use Rattle.repack_emit.proofs.marked.unmarked_near.Tie as tie
