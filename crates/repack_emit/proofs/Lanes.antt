@@ -130,13 +130,13 @@ octet-small d (suc (suc n)) h s = absurd (omega arith)
 
 -- ---- items that are all data
 
-data-octet : (d : ℕ) → d < 256 → itemOctet (dataCode d) ≡ d
+pub data-octet : (d : ℕ) → d < 256 → itemOctet (dataCode d) ≡ d
 data-octet d h =
     let low : (d + 256) % 256 ≡ d = omega arith in
     let high : (d + 256) / 256 ≡ 1 = omega arith in
     sym (octet-is (d + 256)) ∙ rw (low, high) (mul-one d)
 
-data-strobe : (d : ℕ) → d < 256 → bitOf (itemStrobe (dataCode d)) ≡ 1
+pub data-strobe : (d : ℕ) → d < 256 → bitOf (itemStrobe (dataCode d)) ≡ 1
 data-strobe d h = let high : (d + 256) / 256 ≡ 1 = omega arith in sym (strobe-is (d + 256)) ∙ rw high refl
 
 no-octets : (k : ℕ) (xs : List ℕ) → front k zero xs ≡ replicate {A = ℕ} k 0

@@ -1,5 +1,6 @@
 pub mod Lanes
 pub mod Memory
 pub mod Stretches
+pub mod Fulls
 pub mod Answer
 pub mod Near

@@ -26,7 +26,7 @@ drop-take (suc v) zero xs h = absurd (omega arith)
 drop-take (suc v) (suc n) [] h = sym (take-nil (suc n - suc v))
 drop-take (suc v) (suc n) (x ∷ xs) h = let less : suc n - suc v ≡ n - v = omega arith in rw less (drop-take v n xs (omega arith))
 
-map-drop : {A B : Type 0} (f : A → B) (n : ℕ) (xs : List A) → drop n (map f xs) ≡ map f (drop n xs)
+pub map-drop : {A B : Type 0} (f : A → B) (n : ℕ) (xs : List A) → drop n (map f xs) ≡ map f (drop n xs)
 map-drop f zero xs = refl
 map-drop f (suc n) [] = refl
 map-drop f (suc n) (x ∷ xs) = map-drop f n xs

@@ -61,11 +61,10 @@ pub record Fitting (v pair : ℕ) (octets out : List ℕ) (c : Cursor) : Type 0 
   pub held : c .from + c .left + 32 ≤ length octets
   pub room : (last : Bool) → c .to + length (stretchOctets v (pairFrom pair) (take (c .left) (drop (c .from) (map dataCode octets))) last) ≤ length out
 
--- More of it is written, up to another cursor, from which on there is one record to write.
+-- More of it is written, up to another cursor.
 pub record Advanced (v pair : ℕ) (octets out : List ℕ) (c : Cursor) (after : List ℕ) (r : Cursor) : Type 0 where
   pub same : length after ≡ length out
-  pub short : r .left ≤ v
-  pub items : r .from + r .left ≡ c .from + c .left
+  pub fits : Fitting v pair octets after r
   pub writes :
       (last : Bool) (before whole rest : List ℕ)
       → Writing before out (c .to) whole (stretchOctets v (pairFrom pair) (take (c .left) (drop (c .from) (map dataCode octets))) last ++ rest)

@@ -2,7 +2,6 @@
 // lane in a loop of its own; then comes the last one.
 use stream::Shape;
 ghost use mathlib.Core.Path.{_≡_};
-ghost use mathlib.Core.Bool.{Bool};
 ghost use mathlib.Core.List.{_++_, map};
 ghost use Prim.Native.Nat.{_+_, _/_, _≤_, _<_};
 ghost use lib.ListN.{length, take, drop};
@@ -30,7 +29,7 @@ fn put_plain(out: &mut [u8], octets: &[u8], n: usize, t: Shape, pair: u32, last:
 // The full records of a stretch where records have one lane: each is one word.
 fn put_ones(out: &mut [u8], octets: &[u8], c: Cursor, pair: u32) -> Cursor
     requires { ⌜ (pair < 65536) × Fitting 1 pair (now octets) (now out) c ⌝ }
-    ensures { λ r. ⌜ Advanced 1 pair (now (octets .entry)) (now (out .entry)) c (now (out .exit)) r ⌝ }
+    ensures { λ r. ⌜ (r .left ≤ 1) × Advanced 1 pair (now (octets .entry)) (now (out .entry)) c (now (out .exit)) r ⌝ }
 {
     let mut to = c.to;
     let mut from = c.from;
@@ -51,7 +50,7 @@ fn put_ones(out: &mut [u8], octets: &[u8], c: Cursor, pair: u32) -> Cursor
 // The full records of a stretch, all but its last.
 fn put_fulls(out: &mut [u8], octets: &[u8], c: Cursor, t: Shape, pair: u32) -> Cursor
     requires { ⌜ (1 ≤ t .width) × (t .width ≤ 16) × (pair < 65536) × Fitting (t .width) pair (now octets) (now out) c ⌝ }
-    ensures { λ r. ⌜ Advanced (t .width) pair (now (octets .entry)) (now (out .entry)) c (now (out .exit)) r ⌝ }
+    ensures { λ r. ⌜ (r .left ≤ t .width) × Advanced (t .width) pair (now (octets .entry)) (now (out .entry)) c (now (out .exit)) r ⌝ }
 {
     let v = t.width;
     let mut to = c.to;
@@ -73,7 +72,7 @@ fn put_fulls(out: &mut [u8], octets: &[u8], c: Cursor, t: Shape, pair: u32) -> C
 // The same, for any width.
 fn put_all_but_last(out: &mut [u8], octets: &[u8], c: Cursor, t: Shape, pair: u32) -> Cursor
     requires { ⌜ (1 ≤ t .width) × (t .width ≤ 16) × (pair < 65536) × Fitting (t .width) pair (now octets) (now out) c ⌝ }
-    ensures { λ r. ⌜ Advanced (t .width) pair (now (octets .entry)) (now (out .entry)) c (now (out .exit)) r ⌝ }
+    ensures { λ r. ⌜ (r .left ≤ t .width) × Advanced (t .width) pair (now (octets .entry)) (now (out .entry)) c (now (out .exit)) r ⌝ }
 {
     if t.width == 1 {
         return put_ones(out, octets, c, pair);

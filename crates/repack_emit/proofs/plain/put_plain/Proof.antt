@@ -1,11 +1,11 @@
--- `repack_emit::put_plain` meets its contract: the header's word and the lanes' groups make the record. Assumes nothing.
+-- `repack_emit::plain::put_plain` meets its contract: the header's word and the lanes' groups make the record. Assumes nothing.
 use native.Mathlib.Omega.{arith}
 use Rattle.repack_emit.proofs.Memory.{plain-written, size-is}
 use borrow.Author.Needs.{needs}
-use Rattle.repack_emit.proofs.put_plain.Statement.{statement}
-use Rattle.repack_emit.proofs.put_plain.Tie as tie
-use Rattle.repack_emit.proofs.put_plain.Reads as reads
-use Rattle.repack_emit.proofs.put_plain.Lts as lts
+use Rattle.repack_emit.proofs.plain.put_plain.Statement.{statement}
+use Rattle.repack_emit.proofs.plain.put_plain.Tie as tie
+use Rattle.repack_emit.proofs.plain.put_plain.Reads as reads
+use Rattle.repack_emit.proofs.plain.put_plain.Lts as lts
 use Rattle.record.proofs.write.write_data_header.Reads as write-data-header-reads
 use Rattle.words.proofs.place.Reads as place-reads
 
