@@ -3,3 +3,4 @@ pub mod Memory
 pub mod Stretches
 pub mod Fulls
 pub mod Answer
+pub mod Near

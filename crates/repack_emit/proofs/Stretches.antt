@@ -8,16 +8,15 @@ use native.Mathlib.Nat.{add-div-right, div-eq-of-lt, div-le-self}
 use native.Mathlib.Numerals.{add-one}
 use native.Mathlib.Omega.{arith}
 use lib.ListN.{length, getD, take, drop, length-append, length-drop, length-take, length-map, take-append-drop, drop-of-length-le}
-use lib.Seq.{take-all, take-take, take-nil, drop-drop, drop-cons, getD-drop, length-take-le}
+use lib.Seq.{take-all, take-take, take-nil, drop-drop, drop-cons, length-take-le}
 use Rattle.stream.specs.declared.Shape.{Shape}
 use Rattle.stream.specs.Items.{Pair, Transfer}
 use Rattle.stream.specs.Packed.{Stretch, fitted, spread, packStretch, packStretches}
 use Rattle.stream.specs.Layout.{size, odd, Kept, octetsOf, octets}
 use Rattle.stream.proofs.Pack.{Wide, wide-append, wide-spread, length-fitted, length-spread}
 use Rattle.stream.proofs.Records.{octets-sized, length-octets, octets-append}
-use Rattle.scratch.specs.Codes.{heldCodes, keptOf, pairFrom, entryCount, stretchOf, stretchesOf, total}
-use Rattle.scratch.proofs.Held.{drop-held, unmarked-at, clear-unmarked}
-use Rattle.repack_emit.specs.Write.{Held, recordOf, stretchOctets, countOf, Writing, Writes}
+use Rattle.scratch.specs.Codes.{keptOf, pairFrom, entryCount, stretchOf, stretchesOf, total}
+use Rattle.repack_emit.specs.Write.{recordOf, stretchOctets, countOf, Writing, Writes}
 
 -- ---- lists
 
@@ -182,24 +181,10 @@ count-step v table n k r whole h e f =
 pub records-few : (n v : ℕ) → 0 < v → n < 65536 → (n - 1) / v + 1 ≤ 65536
 records-few n v h k = omega (arith, div-le-self (n - 1) v)
 
--- ---- the codes that are lent from a place on, and the flag of an entry
+-- ---- what is lent from a place on, and the flag of an entry
 
 pub lent-items : (items : List ℕ) (from : ℕ) → take (length items - from) (drop from items) ≡ drop from items
 lent-items items from = take-all (length items - from) (drop from items) (omega (arith, length-drop from items))
-
--- items held from a place on
-pub held-part : (plain : Bool) (ds ms : List ℕ) (from : ℕ) → Held plain ds ms
-    → Held plain (take (length ds - from) (drop from ds)) (take (length ms - from) (drop from ms))
-held-part plain ds ms from h =
-    rw (lent-items ds from, lent-items ms from)
-    (record {
-      same = rw (length-drop from ds, length-drop from ms, h .same) refl;
-      unmarked = λ p. clear-unmarked (drop from ms) (λ i. getD-drop from ms i 0 ∙ unmarked-at ms (h .unmarked p) (from + i));
-    })
-
-pub held-from : (ds ms : List ℕ) (from : ℕ) → length ds ≡ length ms
-    → heldCodes (take (length ds - from) (drop from ds)) (take (length ms - from) (drop from ms)) ≡ drop from (heldCodes ds ms)
-held-from ds ms from e = rw (lent-items ds from, lent-items ms from) (sym (drop-held from ds ms e))
 
 pub odd-bit : (x : ℕ) → odd (x % 2) ≡ odd x
 odd-bit x = let same : x % 2 % 2 ≡ x % 2 = omega arith in rw same refl

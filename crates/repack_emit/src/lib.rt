@@ -8,12 +8,12 @@ use refusal::Refusal;
 use stream::Shape;
 use stream::Written;
 ghost use mathlib.Core.Path.{_≡_};
-ghost use mathlib.Core.List.{_++_, map};
-ghost use Prim.Native.Nat.{ℕ, _+_, _*_, _-_, _/_, _%_, _≤_, _<_};
+ghost use mathlib.Core.List.{_++_};
+ghost use Prim.Native.Nat.{_+_, _*_, _-_, _/_, _≤_, _<_};
 ghost use lib.ListN.{length, take, drop};
-ghost use Rattle.stream.specs.Layout.{size, odd, maskOf, octetsOf};
-ghost use Rattle.scratch.specs.Codes.{dataCode, heldCodes, markBits, pairFrom, entryCount, total};
-ghost use Rattle.repack_emit.specs.Write.{itemOctet, itemStrobe, Held, recordOf, stretchOctets, packedFrom, countOf, Writes, Emitted};
+ghost use Rattle.stream.specs.Layout.{odd};
+ghost use Rattle.scratch.specs.Codes.{heldCodes, markBits, pairFrom, entryCount, total};
+ghost use Rattle.repack_emit.specs.Write.{Held, stretchOctets, packedFrom, countOf, Writes, Emitted};
 
 // The records of a stretch of n items.
 fn records_of(n: u32, v: u32) -> u32

@@ -1,6 +1,6 @@
 -- `repack_emit::emit` meets its contract: ROOM where the records do not fit, else all of them. Assumes nothing.
 use native.Mathlib.Omega.{arith}
-use Rattle.scratch.specs.Codes.{heldCodes}
+use Rattle.scratch.specs.Codes.{heldCodes, markBits}
 use Rattle.scratch.proofs.Held.{length-held}
 use Rattle.repack_emit.proofs.Answer.{product-fits, packed-long, emit-refused, emit-written}
 use borrow.Author.Needs.{needs}
@@ -28,13 +28,13 @@ returns : tie.Need-returns
 returns c =
     let a = c .before .before .before .before .before .before .before .before .args in
     let p = c .before .before .before .before .before .before .before .before .pre in
-    emit-refused (a .t) (heldCodes (a .octets .now) (a .marks .now)) (a .table .now) (a .out .now) (c .before .before .count .result) (c .before .record-size .result) (omega (arith, p .2, length-held (a .octets .now) (a .marks .now) (p .3 .same))) (c .before .before .count .ensures .0) (c .before .record-size .ensures) (c .if1 .taken)
+    emit-refused (a .t) (heldCodes (a .octets .now) (markBits (a .marks .now))) (a .table .now) (a .out .now) (c .before .before .count .result) (c .before .record-size .result) (omega (arith, p .2, length-held (a .octets .now) (markBits (a .marks .now)) (p .3 .same))) (c .before .before .count .ensures .0) (c .before .record-size .ensures) (c .if1 .taken)
 
 put-all-requires : tie.Need-put-all-requires
 put-all-requires c κs =
     let a = c .before .before .before .before .before .before .before .before .before .args in
     let p = c .before .before .before .before .before .before .before .before .before .pre in
-    let long = packed-long (a .t) (heldCodes (a .octets .now) (a .marks .now)) (a .table .now) (a .out .now) (c .before .before .before .count .result) (c .before .before .record-size .result) (omega (arith, p .2, length-held (a .octets .now) (a .marks .now) (p .3 .same))) (c .before .before .before .count .ensures .0) (c .before .before .record-size .ensures) in
+    let long = packed-long (a .t) (heldCodes (a .octets .now) (markBits (a .marks .now))) (a .table .now) (a .out .now) (c .before .before .before .count .result) (c .before .before .record-size .result) (omega (arith, p .2, length-held (a .octets .now) (markBits (a .marks .now)) (p .3 .same))) (c .before .before .before .count .ensures .0) (c .before .before .record-size .ensures) in
     (p .0, p .1, p .2, p .3, rw long (c .before .if1 .left))
 
 same-length : tie.Need-same-length
@@ -44,7 +44,7 @@ returns-2 : tie.Need-returns-2
 returns-2 c =
     let a = c .before .before .before .before .before .before .before .before .before .before .before .before .args in
     let p = c .before .before .before .before .before .before .before .before .before .before .before .before .pre in
-    emit-written (a .t) (heldCodes (a .octets .now) (a .marks .now)) (a .table .now) (a .out .now) (c .before .before .before .before .before .before .count .result) (c .before .before .before .before .before .record-size .result) (omega (arith, p .2, length-held (a .octets .now) (a .marks .now) (p .3 .same))) (c .before .before .before .before .before .before .count .ensures .0) (c .before .before .before .before .before .record-size .ensures)
+    emit-written (a .t) (heldCodes (a .octets .now) (markBits (a .marks .now))) (a .table .now) (a .out .now) (c .before .before .before .before .before .before .count .result) (c .before .before .before .before .before .record-size .result) (omega (arith, p .2, length-held (a .octets .now) (markBits (a .marks .now)) (p .3 .same))) (c .before .before .before .before .before .before .count .ensures .0) (c .before .before .before .before .before .record-size .ensures)
     (c .before .before .put-all .last .0) (c .before .before .before .before .if1 .left) (c .before .before .put-all .ensures)
 
 pub emit-spec : {M : Type 1} → statement M

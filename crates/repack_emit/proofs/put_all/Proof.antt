@@ -1,10 +1,10 @@
 -- `repack_emit::put_all` meets its contract: stretch by stretch, what is left to write gets less. Assumes nothing.
 use mathlib.Core.Path.{_≡_}
-use Prim.Native.Nat.{ℕ, _+_, _-_, _≤_}
+use Prim.Native.Nat.{_+_, _-_}
 use native.Mathlib.Omega.{arith}
 use borrow.Author.Needs.{needs}
 use lib.ListN.{length, drop}
-use Rattle.scratch.specs.Codes.{heldCodes, total}
+use Rattle.scratch.specs.Codes.{heldCodes, markBits, total}
 use Rattle.scratch.proofs.Held.{length-held}
 use Rattle.repack_emit.proofs.Stretches.{Packing, packing-starts, total-step, packing-room, packing-next, packing-done}
 use Rattle.repack_emit.proofs.put_all.Statement.{statement}
@@ -15,7 +15,7 @@ use Rattle.repack_emit.proofs.put_stretch.Reads as put-stretch-reads
 
 abbrev Inv-loop : tie.InvT-loop
 Inv-loop out₀ octets marks plain table t to₀ from₀ entry₀ out to from entry =
-    (from + total (drop entry table) ≡ total table) × Packing (t .width) (heldCodes octets marks) table out₀ out to from entry
+    (from + total (drop entry table) ≡ total table) × Packing (t .width) (heldCodes octets (markBits marks)) table out₀ out to from entry
 
 abbrev μ-loop : tie.MeasureT-loop
 μ-loop out₀ octets marks plain table t to₀ from₀ entry₀ out to from entry = length table - entry
@@ -24,7 +24,7 @@ loop-holds : tie.Need-loop-holds Inv-loop μ-loop
 loop-holds c =
     let a = c .before .before .before .before .args in
     let p = c .before .before .before .before .pre in
-    (omega arith, packing-starts (a .t .width) (heldCodes (a .octets .now) (a .marks .now)) (a .table .now) (a .out .now) (omega (arith, p .2, length-held (a .octets .now) (a .marks .now) (p .3 .same))) (p .4))
+    (omega arith, packing-starts (a .t .width) (heldCodes (a .octets .now) (markBits (a .marks .now))) (a .table .now) (a .out .now) (omega (arith, p .2, length-held (a .octets .now) (markBits (a .marks .now)) (p .3 .same))) (p .4))
 
 mul-e : tie.Need-mul-e Inv-loop μ-loop
 mul-e c = search needs
@@ -38,7 +38,7 @@ put-stretch-requires c κs =
     let p = c .before .before .before .before .before .before .before .before .pre in
     let l = c .before .before .before .loop in
     let h = c .before .before .loop-test .taken in
-    (p .0, p .1, omega (arith, l .inv .0, p .2, total-step (a .t .width) (heldCodes (a .octets .now) (a .marks .now)) (a .table .now) (a .out .now) (l .out) (l .to) (l .from) (l .entry) (l .inv .1) h), p .3, packing-room (a .t .width) (heldCodes (a .octets .now) (a .marks .now)) (a .table .now) (a .out .now) (l .out) (l .to) (l .from) (l .entry) (l .inv .1) h)
+    (p .0, p .1, omega (arith, l .inv .0, p .2, total-step (a .t .width) (heldCodes (a .octets .now) (markBits (a .marks .now))) (a .table .now) (a .out .now) (l .out) (l .to) (l .from) (l .entry) (l .inv .1) h), p .3, packing-room (a .t .width) (heldCodes (a .octets .now) (markBits (a .marks .now))) (a .table .now) (a .out .now) (l .out) (l .to) (l .from) (l .entry) (l .inv .1) h)
 
 cast-from : tie.Need-cast-from Inv-loop μ-loop
 cast-from c = search needs
@@ -47,7 +47,7 @@ add-from : tie.Need-add-from Inv-loop μ-loop
 add-from c =
     let a = c .before .before .before .before .before .before .before .before .before .before .before .args in
     let l = c .before .before .before .before .before .before .loop in
-    omega (arith, l .inv .0, c .before .before .before .before .before .before .before .before .before .before .before .pre .2, total-step (a .t .width) (heldCodes (a .octets .now) (a .marks .now)) (a .table .now) (a .out .now) (l .out) (l .to) (l .from) (l .entry) (l .inv .1) (c .before .before .before .before .before .loop-test .taken), c .before .before .before .before .before .before .before .before .before .before .before .good)
+    omega (arith, l .inv .0, c .before .before .before .before .before .before .before .before .before .before .before .pre .2, total-step (a .t .width) (heldCodes (a .octets .now) (markBits (a .marks .now))) (a .table .now) (a .out .now) (l .out) (l .to) (l .from) (l .entry) (l .inv .1) (c .before .before .before .before .before .loop-test .taken), c .before .before .before .before .before .before .before .before .before .before .before .good)
 
 add-entry : tie.Need-add-entry Inv-loop μ-loop
 add-entry c = search needs
@@ -60,7 +60,7 @@ loop-again c =
     let a = c .before .before .before .before .before .before .before .before .before .before .before .args in
     let l = c .before .before .before .before .before .before .loop in
     let h = c .before .before .before .before .before .loop-test .taken in
-    (omega (arith, l .inv .0, total-step (a .t .width) (heldCodes (a .octets .now) (a .marks .now)) (a .table .now) (a .out .now) (l .out) (l .to) (l .from) (l .entry) (l .inv .1) h), packing-next (a .t .width) (heldCodes (a .octets .now) (a .marks .now)) (a .table .now) (a .out .now) (l .out) (l .to) (l .from) (l .entry) (l .inv .1) h (c .before .before .put-stretch .last .0) (c .before .before .put-stretch .result) (c .before .before .put-stretch .ensures .1))
+    (omega (arith, l .inv .0, total-step (a .t .width) (heldCodes (a .octets .now) (markBits (a .marks .now))) (a .table .now) (a .out .now) (l .out) (l .to) (l .from) (l .entry) (l .inv .1) h), packing-next (a .t .width) (heldCodes (a .octets .now) (markBits (a .marks .now))) (a .table .now) (a .out .now) (l .out) (l .to) (l .from) (l .entry) (l .inv .1) h (c .before .before .put-stretch .last .0) (c .before .before .put-stretch .result) (c .before .before .put-stretch .ensures .1))
 
 same-length : tie.Need-same-length Inv-loop μ-loop
 same-length c = c .before .loop .inv .1 .writing .same
@@ -69,7 +69,7 @@ returns : tie.Need-returns Inv-loop μ-loop
 returns c =
     let a = c .before .before .before .before .before .before .args in
     let l = c .before .loop in
-    packing-done (a .t .width) (heldCodes (a .octets .now) (a .marks .now)) (a .table .now) (a .out .now) (l .out) (l .to) (l .from) (l .entry) (l .inv .1) (c .loop-test .left)
+    packing-done (a .t .width) (heldCodes (a .octets .now) (markBits (a .marks .now))) (a .table .now) (a .out .now) (l .out) (l .to) (l .from) (l .entry) (l .inv .1) (c .loop-test .left)
 
 pub put-all-spec : {M : Type 1} → statement M
 put-all-spec =

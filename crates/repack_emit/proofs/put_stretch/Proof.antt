@@ -1,97 +1,49 @@
--- `repack_emit::put_stretch` meets its contract: full records while more is left than a record holds, then the last one. Assumes nothing.
-use mathlib.Core.Path.{_≡_, refl, _∙_}
-use Prim.Native.Nat.{ℕ, _+_, _-_, _*_, _/_, _%_, _≤_, _<_}
-use native.Mathlib.Omega.{arith}
+-- `repack_emit::put_stretch` meets its contract: where no item is marked all are data. Assumes nothing.
+use mathlib.Core.Path.{_∙_}
+use Rattle.scratch.specs.Codes.{markBits}
+use Rattle.scratch.proofs.Held.{unmarked-held}
+use Rattle.scratch.proofs.Marks.{length-marks}
 use borrow.Author.Needs.{needs}
-use lib.ListN.{length, take, drop}
-use Rattle.stream.specs.Layout.{odd}
-use Rattle.scratch.specs.Codes.{heldCodes, pairFrom, entryCount}
-use Rattle.scratch.proofs.Held.{length-held}
-use Rattle.repack_emit.specs.Write.{stretchOctets}
-use Rattle.repack_emit.proofs.Stretches.{Stretching, odd-bit, stretching-starts, stretching-room, stretching-next, stretching-last-room, stretching-done}
 use Rattle.repack_emit.proofs.put_stretch.Statement.{statement}
 use Rattle.repack_emit.proofs.put_stretch.Tie as tie
 use Rattle.repack_emit.proofs.put_stretch.Reads as reads
 use Rattle.repack_emit.proofs.put_stretch.Lts as lts
-use Rattle.repack_emit.proofs.put_at.Reads as put-at-reads
+use Rattle.repack_emit.proofs.marked.put_stretch.Reads as marked-put-stretch-reads
+use Rattle.repack_emit.proofs.plain.put_stretch.Reads as plain-put-stretch-reads
 
-abbrev Inv-loop : tie.InvT-loop
-Inv-loop out₀ at octets marks plain start e t v to₀ from₀ left₀ out to from left =
-    (from + left ≡ start + entryCount e)
-    × Stretching (t .width) (pairFrom (e / 131072)) (odd (e / 65536)) (heldCodes octets marks) out₀ at
-    (stretchOctets (t .width) (pairFrom (e / 131072)) (take (entryCount e) (drop start (heldCodes octets marks))) (odd (e / 65536))) out to from left
+put-stretch-requires : tie.Need-put-stretch-requires
+put-stretch-requires c κs =
+    let a = c .before .before .before .before .before .args in
+    let p = c .before .before .before .before .before .pre in
+    (p .0, p .1, p .2, rw (unmarked-held (a .octets .now) (markBits (a .marks .now)) (p .3 .same) (p .3 .unmarked (c .before .if1 .taken))) at (p .4))
 
-abbrev μ-loop : tie.MeasureT-loop
-μ-loop out₀ at octets marks plain start e t v to₀ from₀ left₀ out to from left = left
+same-length : tie.Need-same-length
+same-length c = search needs
 
-cast-left : tie.Need-cast-left Inv-loop μ-loop
-cast-left c = search needs
-
-loop-holds : tie.Need-loop-holds Inv-loop μ-loop
-loop-holds c =
-    let a = c .before .before .before .args in
-    let p = c .before .before .before .pre in
-    (refl, stretching-starts (a .t .width) (pairFrom (a .e / 131072)) (odd (a .e / 65536)) (heldCodes (a .octets .now) (a .marks .now)) (a .out .now) (a .at) (a .start) (entryCount (a .e)) (omega (arith, p .2, length-held (a .octets .now) (a .marks .now) (p .3 .same))) (p .4))
-
-put-at-requires : tie.Need-put-at-requires Inv-loop μ-loop
-put-at-requires c κs =
-    let a = c .before .before .before .before .before .before .args in
-    let p = c .before .before .before .before .before .before .pre in
-    let l = c .before .before .loop in
-    (omega arith, p .0, p .1, omega (arith, l .inv .0, p .1, p .2), stretching-room (a .t) (pairFrom (a .e / 131072)) (odd (a .e / 65536)) (heldCodes (a .octets .now) (a .marks .now)) (a .out .now) (a .at) (stretchOctets (a .t .width) (pairFrom (a .e / 131072)) (take (entryCount (a .e)) (drop (a .start) (heldCodes (a .octets .now) (a .marks .now)))) (odd (a .e / 65536))) (l .out) (l .to) (l .from) (l .left) (p .0) (l .inv .1) (c .before .loop-test .taken), omega (arith, c .before .before .before .before .before .before .fits .e), omega arith, p .3)
-
-add-from : tie.Need-add-from Inv-loop μ-loop
-add-from c = omega (arith, c .before .before .before .before .before .loop .inv .0, c .before .before .before .before .loop-test .taken, c .before .before .before .before .before .before .before .before .before .pre .2, c .before .before .before .before .before .before .before .before .before .good)
-
-sub-left : tie.Need-sub-left Inv-loop μ-loop
-sub-left c = search needs
-
-loop-less : tie.Need-loop-less Inv-loop μ-loop
-loop-less c = omega (arith, c .before .before .before .before .loop-test .taken, c .before .before .before .before .before .before .before .before .before .pre .0)
-
-loop-again : tie.Need-loop-again Inv-loop μ-loop
-loop-again c =
-    let a = c .before .before .before .before .before .before .before .before .before .args in
-    let p = c .before .before .before .before .before .before .before .before .before .pre in
-    let l = c .before .before .before .before .before .loop in (
-      omega (arith, l .inv .0, c .before .before .before .before .loop-test .taken),
-      stretching-next (a .t) (pairFrom (a .e / 131072)) (odd (a .e / 65536)) (heldCodes (a .octets .now) (a .marks .now)) (a .out .now) (a .at) (stretchOctets (a .t .width) (pairFrom (a .e / 131072)) (take (entryCount (a .e)) (drop (a .start) (heldCodes (a .octets .now) (a .marks .now)))) (odd (a .e / 65536))) (l .out) (l .to) (l .from) (l .left) (p .0) (l .inv .1) (c .before .before .before .before .loop-test .taken) (c .before .before .put-at .last .0) (c .before .before .put-at .result)
-          (c .before .before .put-at .ensures .0) (c .before .before .put-at .ensures .1) (c .before .before .put-at .ensures .2),
-    )
-
-put-at-requires-2 : tie.Need-put-at-requires-2 Inv-loop μ-loop
-put-at-requires-2 c κs =
-    let a = c .before .before .before .before .before .before .args in
-    let p = c .before .before .before .before .before .before .pre in
-    let l = c .before .before .loop in
-    (c .before .loop-test .left, p .0, p .1, omega (arith, l .inv .0, p .1, p .2), stretching-last-room (a .t) (pairFrom (a .e / 131072)) (odd (a .e / 65536)) (heldCodes (a .octets .now) (a .marks .now)) (a .out .now) (a .at) (stretchOctets (a .t .width) (pairFrom (a .e / 131072)) (take (entryCount (a .e)) (drop (a .start) (heldCodes (a .octets .now) (a .marks .now)))) (odd (a .e / 65536))) (l .out) (l .to) (l .from) (l .left) (p .0) (l .inv .1) (c .before .loop-test .left), omega (arith, c .before .before .before .before .before .before .fits .e), omega arith, p .3)
-
-same-length : tie.Need-same-length Inv-loop μ-loop
-same-length c = c .before .before .put-at2 .kept .0 ∙ c .before .before .before .before .before .loop .inv .1 .same
-
-returns : tie.Need-returns Inv-loop μ-loop
+returns : tie.Need-returns
 returns c =
-    let a = c .before .before .before .before .before .before .before .before .before .args in
-    let p = c .before .before .before .before .before .before .before .before .before .pre in
-    let l = c .before .before .before .before .before .loop in (
-      c .before .before .put-at2 .ensures .1 ∙ l .inv .1 .same,
-      stretching-done (a .t) (pairFrom (a .e / 131072)) (odd (a .e / 65536)) (heldCodes (a .octets .now) (a .marks .now)) (a .out .now) (a .at) (stretchOctets (a .t .width) (pairFrom (a .e / 131072)) (take (entryCount (a .e)) (drop (a .start) (heldCodes (a .octets .now) (a .marks .now)))) (odd (a .e / 65536))) (l .out) (l .to) (l .from) (l .left) (p .0) (l .inv .1) (c .before .before .before .before .loop-test .left) (c .before .before .put-at2 .last .0) (c .before .before .put-at2 .result)
-          (rw (odd-bit (a .e / 65536)) at (c .before .before .put-at2 .ensures .2)),
-    )
+    let a = c .before .before .before .before .before .before .before .before .args in
+    let held = c .before .before .before .before .before .before .before .before .pre .3 in
+    rw (unmarked-held (a .octets .now) (markBits (a .marks .now)) (held .same) (held .unmarked (c .before .before .before .before .if1 .taken))) (c .before .before .put-stretch .ensures)
+
+put-stretch-requires-2 : tie.Need-put-stretch-requires-2
+put-stretch-requires-2 c κs =
+    let p = c .before .before .before .before .before .pre in
+    (p .0, p .1, p .2, p .3 .same ∙ length-marks (c .before .before .before .before .before .args .marks .now), p .4)
+
+same-length-2 : tie.Need-same-length-2
+same-length-2 c = search needs
+
+returns-2 : tie.Need-returns-2
+returns-2 c = search needs
 
 pub put-stretch-spec : {M : Type 1} → statement M
 put-stretch-spec =
     tie.close
     (tie.spec
-    Inv-loop
-    μ-loop
-    cast-left
-    loop-holds
-    put-at-requires
-    add-from
-    sub-left
-    loop-less
-    loop-again
-    put-at-requires-2
+    put-stretch-requires
     same-length
-    returns)
+    returns
+    put-stretch-requires-2
+    same-length-2
+    returns-2)
