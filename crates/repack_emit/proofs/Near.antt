@@ -24,10 +24,6 @@ length-from ds ms from e =
 
 -- ---- marks
 
--- a one shifted to a place of an octet
-pub shifted-octet : (i : ℕ) → i < 8 → 1 * 2 ^ i % 256 ≡ 2 ^ i
-shifted-octet i h = rw (one-mul (2 ^ i)) (mod-eq-of-lt (pow-lt {j = 8} h))
-
 -- a word of zero has octets of zero
 octets-zero : (k : ℕ) (s : List ℕ) (i j : ℕ) → wordAt k s i ≡ 0 → j < k → getD s (i + j) 0 ≡ 0
 octets-zero zero s i j e h = absurd (omega arith)

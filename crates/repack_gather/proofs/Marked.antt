@@ -38,10 +38,6 @@ mark-small k t = go (eqb (k % 2) 1) refl
 
 -- ---- where it stands in its octet
 
--- a one shifted to a place of an octet
-pub shifted-octet : (i : ℕ) → i < 8 → 1 * 2 ^ i % 256 ≡ 2 ^ i
-shifted-octet i h = rw (one-mul (2 ^ i)) (mod-eq-of-lt (pow-lt {j = 8} h))
-
 pub mark-shifted : (i m : ℕ) → i < 8 → m ≤ 1 → m * 2 ^ i < 256
 mark-shifted i zero h l = omega arith
 mark-shifted i (suc zero) h l = rw (one-mul (2 ^ i)) (pow-lt {j = 8} h)

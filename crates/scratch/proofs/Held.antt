@@ -74,10 +74,6 @@ clear-take a n ms h l c =
     zeros-take (n - a) (drop a ms) (rw (length-drop a ms) (omega arith)) (λ i. getD-drop a ms i 0 ∙ c (a + i) (omega arith)) in
     ap (λ (k : ℕ). take k ms) (sym split) ∙ take-add a (n - a) ms ∙ rw rest refl
 
--- where they are zero from the start on, none is marked
-pub clear-unmarked : (ms : List ℕ) → ((i : ℕ) → getD ms i 0 ≡ 0) → Unmarked ms
-clear-unmarked ms c = sym (take-length ms) ∙ zeros-take (length ms) ms (omega arith) c
-
 -- octets stored where no mark is are data items more
 pub held-more : (octets after marks xs : List ℕ) (at r : ℕ) → length octets ≡ length marks → length after ≡ length octets
     → at ≤ r → r ≤ length octets → ((i : ℕ) → at ≤ i → getD marks i 0 ≡ 0) → take r after ≡ take at octets ++ xs

@@ -1,7 +1,7 @@
 -- `repack_gather::add_mark` meets its contract: no bit is carried. Assumes nothing.
 use mathlib.Core.Path.{refl}
-use Rattle.scratch.proofs.Marks.{bit-fits}
-use Rattle.repack_gather.proofs.Marked.{shifted-octet, mark-shifted}
+use Rattle.scratch.proofs.Marks.{bit-fits, shifted-octet}
+use Rattle.repack_gather.proofs.Marked.{mark-shifted}
 use borrow.Author.Needs.{needs}
 use Rattle.repack_gather.proofs.add_mark.Statement.{statement}
 use Rattle.repack_gather.proofs.add_mark.Tie as tie
