@@ -43,11 +43,14 @@ fn scan<const W: usize>(take: &[u8]) -> Result<(usize, u32, usize), (u32, usize)
     Ok((transfers, rule, cycle))
 }
 
-/// `scan` by width.
-const SCANS: [fn(&[u8]) -> Result<(usize, u32, usize), (u32, usize)>; 16] = [
-    scan::<1>, scan::<2>, scan::<3>, scan::<4>, scan::<5>, scan::<6>, scan::<7>, scan::<8>, scan::<9>, scan::<10>, scan::<11>,
-    scan::<12>, scan::<13>, scan::<14>, scan::<15>, scan::<16>,
-];
+/// Writes the transfers of a clean take, where there is room.
+fn put<const W: usize>(take: &[u8], out: &mut [u8]) {
+    let moved = take.chunks_exact(7 + W).filter(|r| flags(r) == TRANSFERS);
+    for (record, r) in out.chunks_exact_mut(7 + W).zip(moved) {
+        record.copy_from_slice(r);
+        record[0] &= 1;
+    }
+}
 
 fn answer(refusal: u32, rule: u32, place: usize, count: usize) -> StreamAnswer {
     StreamAnswer { refusal, rule, place: place as u64, count: count as u64 }
@@ -57,7 +60,7 @@ fn answer(refusal: u32, rule: u32, place: usize, count: usize) -> StreamAnswer {
 fn looked_at(w: usize, take: &[u8]) -> Result<(usize, u32, usize), StreamAnswer> {
     if !(1..=16).contains(&w) { return Err(answer(1, 0, 0, 0)); }
     if take.len() > 65_536 || take.len() % (7 + w) != 0 { return Err(answer(2, 0, 0, 0)); }
-    SCANS[w - 1](take).map_err(|(refusal, place)| answer(refusal, 0, place, 0))
+    by_width!(w, scan(take)).map_err(|(refusal, place)| answer(refusal, 0, place, 0))
 }
 
 fn plain_judge(w: usize, take: &[u8], _out: &mut [u8]) -> StreamAnswer {
@@ -75,11 +78,7 @@ fn plain_harvest(w: usize, take: &[u8], out: &mut [u8]) -> StreamAnswer {
         Ok((_, rule, cycle)) => return answer(14, rule, cycle, 0),
     };
     if out.len() < transfers * (7 + w) { return answer(5, 0, 0, 0); }
-    let moved = take.chunks_exact(7 + w).filter(|r| flags(r) == TRANSFERS);
-    for (record, r) in out.chunks_exact_mut(7 + w).zip(moved) {
-        record.copy_from_slice(r);
-        record[0] &= 1;
-    }
+    by_width!(w, put(take, out));
     answer(0, 0, 0, transfers)
 }
 

@@ -2,8 +2,9 @@
 //! the lent output: on edge cases, on random takes and on every take that is measured. Then the times, a line a case;
 //! `rust_us` is the fastest yardstick shape in that case. With the word `shapes`, each shape's time stands below.
 //! cycles.rs does the same for judge and harvest, before repack's lines.
-mod cycles;
+#[macro_use]
 mod yardstick;
+mod cycles;
 use std::{hint::black_box, time::Instant};
 use yardstick::{Answer, Converter, SHAPES};
 

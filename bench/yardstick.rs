@@ -3,6 +3,12 @@
 //! `out` alone, an accepted one leaves what follows its records alone. No code is shared with the library.
 #![forbid(unsafe_code)]
 
+/// Runs a function as compiled for one width.
+macro_rules! by_width {
+    ($w:expr, $f:ident $args:tt) => { by_width!($w, $f $args 1 2 3 4 5 6 7 8 9 10 11 12 13 14 15 16) };
+    ($w:expr, $f:ident $args:tt $($n:literal)*) => { match $w { $($n => $f::<$n> $args,)* _ => unreachable!() } };
+}
+
 #[derive(Clone, Copy, PartialEq, Eq, Debug)]
 pub struct Answer { pub refusal: u32, pub place: u64, pub count: u64 }
 
@@ -202,12 +208,6 @@ fn codes(w: usize, v: usize, input: &[u8], out: &mut [u8]) -> Counted {
 // Shape (d): one parse into an array of octets, one of marks for position items (not even allocated in a take that has
 // none) and one of stretches, then the records. What makes it fast: each width compiled for itself; one test for the
 // usual record; full records moved whole; null lanes closed up eight at a time by moves from a table, with no branch.
-
-/// Runs a function as compiled for one width.
-macro_rules! by_width {
-    ($w:expr, $f:ident $args:tt) => { by_width!($w, $f $args 1 2 3 4 5 6 7 8 9 10 11 12 13 14 15 16) };
-    ($w:expr, $f:ident $args:tt $($n:literal)*) => { match $w { $($n => $f::<$n> $args,)* _ => unreachable!() } };
-}
 
 /// For each eight TKEEP bits: the octets they name, which of these move down by 1, by 2 and by 4 lanes, their number.
 static SIFT: [[u64; 5]; 256] = {
