@@ -64,14 +64,8 @@ pub fn gather(
     requires { ⌜ (1 ≤ w) × (w ≤ 16) × (7 ≤ from) × (from + w ≤ length (now input)) × (at + 16 ≤ length (now octets)) × (full ≡ 2 ^ w - 1) × (keep ≤ full) × (now sieve ≡ sieveRows) ⌝ }
     ensures { λ r. ⌜ Collected w keep (drop from (now (input .entry))) (now (octets .entry)) at (now (octets .exit)) r ⌝ }
 {
-    if w == 1 {
-        return keep_lane(octets, at, input[from], keep);
-    }
-    if keep == full {
-        words::place(octets, at, &input[from..], w, w);
-        return at + w;
-    }
-    sieve::sift(octets, at, input, from, w, keep, sieve)
+    let end = from + w;
+    gather_lanes(octets, at, &input[from..end], keep, full)
 }
 
 // An octet of marks with mark m at place i, where none stands.
