@@ -85,7 +85,7 @@ abbrev pub start : Open
 start = record { items = 0; start = 0; closed = 0; pair = 0 }
 
 pub reading-starts : (s : Shape) (input octets table : List ℕ) → 1 ≤ s .width → s .width ≤ 16 → length input ≤ 65536 → length input % size s ≡ 0
-    → length octets ≡ 45616 → length table ≡ 8193 → Reading s input octets table start 0
+    → length octets ≡ 45664 → length table ≡ 8193 → Reading s input octets table start 0
 reading-starts s input octets table low high short w i t =
     let zeroth : 0 / size s ≡ 0 = zero-div (size s) in
     record {

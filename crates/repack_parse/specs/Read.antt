@@ -69,12 +69,6 @@ pub record Added (s : Shape) (rec items table : List ℕ) (st : Open) (itemsAfte
       → Stands (take (st .items) items) (take (st .closed) table) st (transferItems (transferOf s rec) ++ rest) all
       → Stands (take (r .items) itemsAfter) (take (r .closed) tableAfter) r rest all
 
--- Lanes of which each kept one is data, and their record's end: octets behind those of the open stretch, and perhaps a
--- table entry more.
-pub record Filled (keep flags : ℕ) (lanes octets table : List ℕ) (st : Open) (octetsAfter tableAfter : List ℕ) (r : Open) : Type 0 where
-  pub collected : Collected (length lanes) keep lanes octets (st .items) octetsAfter (r .items)
-  pub ended : Ended flags table (keptAt st (r .items)) tableAfter r
-
 -- One record more, of which each kept lane is data: it needs no mark, where none stands yet.
 pub record AddedData (s : Shape) (rec octets table : List ℕ) (st : Open) (octetsAfter tableAfter : List ℕ) (r : Open) : Type 0 where
   pub same : length octetsAfter ≡ length octets
