@@ -23,7 +23,7 @@ use Rattle.scratch.specs.Codes.{heldCodes}
 use Rattle.scratch.proofs.Held.{unmarked-at}
 use Rattle.scratch.specs.Stands.{keptAt}
 use Rattle.repack_gather.specs.Gather.{keptOctet, keptOctets, Collected, Clear}
-use Rattle.repack_parse.specs.Read.{Ready, Ended, Added, AddedData}
+use Rattle.repack_parse.specs.Read.{Ready, Ended, AddedData}
 use Rattle.repack_parse.specs.Reading.{UsualAt, Reading, Holding, Skimmed}
 use Rattle.repack_parse.proofs.Faults.{Fields, data-faultless}
 use Rattle.repack_parse.proofs.Records.{size-low, octets-of, codeOf, lanes-long, paired-same, add-collected}

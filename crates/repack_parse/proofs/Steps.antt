@@ -1,5 +1,5 @@
 -- What each step of reading does to the state: laws of Read's records, a law for each way a function returns. Assumes nothing.
-use mathlib.Core.Path.{_≡_, refl, sym, ap, _∙_, subst}
+use mathlib.Core.Path.{_≡_, refl, sym, ap, _∙_}
 use mathlib.Core.Bool.{Bool, true, false, cond}
 use mathlib.Core.List.{List, [], _∷_, _++_, map, append-assoc, append-nil}
 use Prim.Native.Nat.{ℕ, zero, suc, _+_, _-_, _*_, _/_, _%_, _^_, _≤_, _<_}
@@ -13,7 +13,7 @@ use Rattle.stream.specs.Layout.{bit, odd, Kept}
 use Rattle.stream.proofs.Cut.{cut-ended}
 use Rattle.scratch.specs.declared.Open.{Open}
 use Rattle.scratch.specs.Codes.{keptOf, pairFrom, entryOf, stretchesOf, total}
-use Rattle.scratch.specs.Stands.{closedAt, pairedAt, keptAt, Stands}
+use Rattle.scratch.specs.Stands.{closedAt, pairedAt, Stands}
 use Rattle.scratch.proofs.Codes.{stretches-more}
 use Rattle.scratch.proofs.Stands.{opened, made, close-stands, turn-stands, gather-stands, all-closed, pairs-differ, cut-apart, cut-last}
 use Rattle.repack_parse.specs.Read.{Turned, Ended, Finished}

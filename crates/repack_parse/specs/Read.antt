@@ -17,8 +17,8 @@ use Rattle.record.specs.declared.Fault.the-variants.{Sound, Field, Reserved}
 use Rattle.record.specs.Header.{headerFault}
 use Rattle.scratch.specs.declared.Open.{Open}
 use Rattle.scratch.specs.Codes.{heldCodes, Unmarked, pairFrom, stretchesOf, total}
-use Rattle.scratch.specs.Stands.{keptAt, Stands}
-use Rattle.repack_gather.specs.Gather.{Collected, Clear}
+use Rattle.scratch.specs.Stands.{Stands}
+use Rattle.repack_gather.specs.Gather.{Clear}
 use Rattle.repack_parse.specs.declared.Next.{Next}
 use Rattle.repack_parse.specs.declared.Next.the-variants.{Read, Marked, Refused as NotRead}
 use Rattle.repack_parse.specs.declared.Parsed.{Parsed}

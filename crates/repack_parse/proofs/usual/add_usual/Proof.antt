@@ -1,5 +1,4 @@
 -- `repack_parse::usual::add_usual` meets its contract: the words give TLAST and TKEEP, gathered and ended. Assumes nothing.
-use mathlib.Core.Path.{_≡_}
 use native.Mathlib.Omega.{arith}
 use Rattle.repack_parse.proofs.Records.{size-low}
 use Rattle.repack_parse.proofs.Skimming.{usual-added}
