@@ -69,7 +69,7 @@ lanes-taken s input at h =
     let there : 7 ≤ length (drop at input) = rw (length-drop at input) (omega arith) in
     rw (behind 7 (s .width) (drop at input) there, drop-drop 7 at input) (sym (take-take (s .width) (s .width) (drop (at + 7) input) (omega arith)))
 
--- ---- of lanes that are not cut off behind the last
+-- ---- what stands behind the last lane is not looked at
 
 kept-taken : (w k : ℕ) (ds : List ℕ) → keptOctets w k (take w ds) ≡ keptOctets w k ds
 kept-taken zero k ds = refl
