@@ -24,9 +24,9 @@ use Rattle.scratch.specs.Stands.{keptAt, Stands}
 use Rattle.scratch.proofs.Codes.{sifted-kept}
 use Rattle.scratch.proofs.Held.{length-held}
 use Rattle.scratch.proofs.Stands.{gather-stands}
-use Rattle.repack_gather.specs.Gather.{Gathered, Clear, Marks}
+use Rattle.repack_gather.specs.Gather.{Collected, Gathered, Clear, Marks}
 use Rattle.repack_gather.proofs.Lanes.{collected-codes}
-use Rattle.repack_parse.specs.Read.{Few, Turned, Ended, Added, Filled, AddedData, AddedMarked, Ready}
+use Rattle.repack_parse.specs.Read.{Few, Turned, Ended, Added, AddedData, AddedMarked, Ready}
 use Rattle.repack_parse.proofs.Faults.{Fields, fields-of}
 
 -- a record has an octet for each lane behind its header
@@ -164,11 +164,11 @@ module _ (s : Shape) (rec : List ℕ) (oct : Octets rec) (long : length rec ≡ 
       (append-assoc (map (byte (pairOf rec)) (map keptOf more)) (cond (tlast rec) (end (pairOf rec) ∷ []) []) rest)
 
   module _ (items items1 table table1 table2 : List ℕ) (st o r : Open) (n : ℕ) (high : s .width ≤ 16) (tdest : pairOf rec .tdest ≤ 15)
-      (holds : st .items + s .width ≤ length items) (paired : Paired s rec items table st table1 o)
+      (holds : st .items + 16 ≤ length items) (paired : Paired s rec items table st table1 o)
       (gathered : Gathered (tkeep rec) (tstrb rec) (dataOctets s rec) items (o .items) items1 n)
       (ended : Ended (flags rec) table1 (keptAt o n) table2 r) where
     reached : n ≤ length items1
-    reached = omega (arith, gathered .within, gathered .same, paired .items, holds, lanes-long)
+    reached = omega (arith, gathered .within, gathered .same, paired .items, high, holds, lanes-long)
 
     counted : n ≡ o .items + length more
     counted =
@@ -203,24 +203,24 @@ module _ (s : Shape) (rec : List ℕ) (oct : Octets rec) (long : length rec ≡ 
         }
 
   -- where each kept lane is data
-  pub add-filled : (octets octets1 table table1 table2 : List ℕ) (st o r : Open) (keep last : ℕ) → s .width ≤ 16 → pairOf rec .tdest ≤ 15
-      → tkeep rec ≡ keep → tstrb rec ≡ keep → flags rec ≡ last → st .items + s .width ≤ length octets
+  pub add-collected : (octets octets1 table table1 table2 : List ℕ) (st o r : Open) (n keep last : ℕ) → s .width ≤ 16 → pairOf rec .tdest ≤ 15
+      → tkeep rec ≡ keep → tstrb rec ≡ keep → flags rec ≡ last → st .items + 16 ≤ length octets
       → ((items : List ℕ) → Paired s rec items table st table1 o)
-      → Filled keep last (dataOctets s rec) octets table1 o octets1 table2 r → AddedData s rec octets table st octets1 table2 r
-  add-filled octets octets1 table table1 table2 st o r keep last high tdest k t f holds paired filled =
+      → Collected (length (dataOctets s rec)) keep (dataOctets s rec) octets (o .items) octets1 n → Ended last table1 (keptAt o n) table2 r
+      → AddedData s rec octets table st octets1 table2 r
+  add-collected octets octets1 table table1 table2 st o r n keep last high tdest k t f holds paired collected ended =
       record {
-        same = filled .collected .same;
+        same = collected .same;
         added =
             λ marks l c.
             let p = paired (heldCodes octets marks) in
             let clear : Clear (o .items) marks = λ i b. c i (omega (arith, p .items)) in
             let long : length (heldCodes octets marks) ≡ length octets = length-held octets marks (sym l) in
-            let gathered : Gathered (tkeep rec) (tstrb rec) (dataOctets s rec) (heldCodes octets marks) (o .items) (heldCodes octets1 marks) (r .items) =
+            let gathered : Gathered (tkeep rec) (tstrb rec) (dataOctets s rec) (heldCodes octets marks) (o .items) (heldCodes octets1 marks) n =
             rw (k, t)
-            (collected-codes keep (dataOctets s rec) octets octets1 marks (o .items) (r .items)
-            (omega (arith, filled .collected .within, lanes-long, p .items)) l clear (filled .collected)) in
-            let ended : Ended (flags rec) table1 (keptAt o (r .items)) table2 r = rw f (filled .ended) in
-            add-some (heldCodes octets marks) (heldCodes octets1 marks) table table1 table2 st o r (r .items) high tdest (rw long holds) p gathered ended;
+            (collected-codes keep (dataOctets s rec) octets octets1 marks (o .items) n (omega (arith, collected .within, lanes-long, p .items)) l clear
+            collected) in
+            add-some (heldCodes octets marks) (heldCodes octets1 marks) table table1 table2 st o r n high tdest (rw long holds) p gathered (rw f ended);
       }
 
 -- ---- the same, of the values that the code has
@@ -248,12 +248,13 @@ module _ (s : Shape) (rec octets table table1 : List ℕ) (h : Header) (st o : O
     lane-count : length lanes ≡ s .width
     lane-count = ap length le ∙ lanes-long s rec (octets-of rec byte-at) long
 
-    pub added-data : (octets1 table2 : List ℕ) (r : Open) → h .keep ≡ h .strb
-        → Filled (h .keep) (h .flags) lanes octets table1 o octets1 table2 r → AddedData s rec octets table st octets1 table2 r
-    added-data octets1 table2 r d filled =
+    pub added-data : (octets1 table2 : List ℕ) (r : Open) (n : ℕ) → h .keep ≡ h .strb
+        → Collected (length lanes) (h .keep) lanes octets (o .items) octets1 n → Ended (h .flags) table1 (keptAt o n) table2 r
+        → AddedData s rec octets table st octets1 table2 r
+    added-data octets1 table2 r n d collected ended =
         let strb : tstrb rec ≡ h .keep = sym (rw e at d) ∙ rw e refl in
-        add-filled s rec (octets-of rec byte-at) long octets octets1 table table1 table2 st o r (h .keep) (h .flags) (ready .high) (fields .tdest)
-        (rw e refl) strb (rw e refl) (ready .holds) paired (rw le at filled)
+        add-collected s rec (octets-of rec byte-at) long octets octets1 table table1 table2 st o r n (h .keep) (h .flags) (ready .high) (fields .tdest)
+        (rw e refl) strb (rw e refl) (ready .holds) paired (rw le at collected) ended
 
     pub added-marked : (octets1 marks marks1 table2 : List ℕ) (r : Open) (n : ℕ) → length marks ≡ length octets → Clear (st .items) marks
         → Marks (h .keep) (h .strb) lanes octets marks (o .items) octets1 marks1 n → Ended (h .flags) table1 (keptAt o n) table2 r
@@ -268,37 +269,27 @@ module _ (s : Shape) (rec octets table table1 : List ℕ) (h : Header) (st o : O
           clear = λ i b. marked .clear (λ j g. c j (omega (arith, q .items))) i (omega (arith, ended .items));
         }
 
-    -- what filling needs of the state after turning
-    pub fill-ready : (full : ℕ) → full ≡ 2 ^ s .width - 1
-        → ((length lanes ≤ 16) × (o .items + length lanes ≤ length octets) × (length octets < 65536) × (full ≡ 2 ^ length lanes - 1))
-        × ((o .start ≤ o .items) × (o .closed < length table1) × (o .pair < 4096) × (h .flags < 2))
-    fill-ready full fe =
-        let tid : h .tid < 256 = rw e (byte-at 1) in
-        let f = fields-of s h sound in (
-          (
-            omega (arith, lane-count, ready .high),
-            omega (arith, turned .items, lane-count, ready .holds),
-            ready .small,
-            rw lane-count fe,
-          ),
-          (
-            turned .started,
-            omega (arith, turned .closed, turned .same, ready .lists),
-            omega (arith, turned .paired, f .tdest),
-            f .flags,
-          ),
-        )
+    -- what gathering needs of the state after turning
+    pub lanes-ready : (full : ℕ) → full ≡ 2 ^ s .width - 1
+        → (1 ≤ length lanes) × (length lanes ≤ 16) × (o .items + length lanes ≤ length octets) × (full ≡ 2 ^ length lanes - 1)
+    lanes-ready full fe = (
+      omega (arith, lane-count, ready .low),
+      omega (arith, lane-count, ready .high),
+      omega (arith, turned .items, lane-count, ready .high, ready .holds),
+      rw lane-count fe,
+    )
 
     -- and ending, of the state after gathering
-    pub end-ready : (octets1 marks marks1 : List ℕ) (n : ℕ) → Marks (h .keep) (h .strb) lanes octets marks (o .items) octets1 marks1 n
+    pub end-ready : (n : ℕ) → o .items ≤ n → n ≤ o .items + length lanes
         → (o .start ≤ n) × (n < 65536) × (o .closed < length table1) × (o .pair < 4096) × (h .flags < 2)
-    end-ready octets1 marks marks1 n marked =
-        let f = fill-ready (2 ^ s .width - 1) refl in (
-          omega (arith, f .1 .0, marked .gathered .beyond),
-          omega (arith, f .0 .1, f .0 .2, marked .gathered .within),
-          f .1 .1,
-          f .1 .2,
-          f .1 .3,
+    end-ready n low high =
+        let tid : h .tid < 256 = rw e (byte-at 1) in
+        let f = fields-of s h sound in (
+          omega (arith, turned .started),
+          omega (arith, turned .items, lane-count, ready .high, ready .holds, ready .small),
+          omega (arith, turned .closed, turned .same, ready .lists),
+          omega (arith, turned .paired, f .tdest),
+          f .flags,
         )
 
 -- ---- a record of data, with the marks that were there

@@ -1,7 +1,7 @@
 -- The usual record: what its two words tell of it, that it has no fault, and that adding it is a step of reading. Assumes
 -- nothing.
 use mathlib.Core.Path.{_≡_, refl, sym, ap, _∙_}
-use mathlib.Core.List.{List, [], _∷_}
+use mathlib.Core.List.{List, [], _∷_, _++_}
 use mathlib.Core.Option.{none}
 use Prim.Native.Nat.{ℕ, zero, suc, _+_, _-_, _*_, _/_, _%_, _^_, _≤_, _<_}
 use native.Mathlib.Omega.{arith}
@@ -21,11 +21,12 @@ use Rattle.record.specs.Usual.{Usual, UsualWords}
 use Rattle.scratch.specs.declared.Open.{Open}
 use Rattle.scratch.specs.Codes.{heldCodes}
 use Rattle.scratch.proofs.Held.{unmarked-at}
-use Rattle.repack_gather.specs.Gather.{Clear}
-use Rattle.repack_parse.specs.Read.{Ready, Filled, Added, AddedData}
+use Rattle.scratch.specs.Stands.{keptAt}
+use Rattle.repack_gather.specs.Gather.{keptOctet, keptOctets, Collected, Clear}
+use Rattle.repack_parse.specs.Read.{Ready, Ended, AddedData}
 use Rattle.repack_parse.specs.Reading.{UsualAt, Reading, Holding, Skimmed}
 use Rattle.repack_parse.proofs.Faults.{Fields, data-faultless}
-use Rattle.repack_parse.proofs.Records.{size-low, octets-of, codeOf, lanes-long, paired-same, add-filled}
+use Rattle.repack_parse.proofs.Records.{size-low, octets-of, codeOf, lanes-long, paired-same, add-collected}
 use Rattle.repack_parse.proofs.Take.{reading-next, holding-next}
 
 -- ---- the words of a record that starts at octet `a`
@@ -61,13 +62,26 @@ header-taken n xs h =
 behind : (v w : ℕ) (xs : List ℕ) → v ≤ length xs → drop v (take (v + w) xs) ≡ take w (drop v xs)
 behind v w xs h = rw (take-add v w xs) (drop-at (take v xs) (take w (drop v xs)) v (length-take-le v xs h))
 
-pub lanes-taken : (s : Shape) (input : List ℕ) (at : ℕ) → at + size s ≤ length input
-    → take (at + 7 + s .width - (at + 7)) (drop (at + 7) input) ≡ dataOctets s (take (size s) (drop at input))
+lanes-taken : (s : Shape) (input : List ℕ) (at : ℕ) → at + size s ≤ length input
+    → take (s .width) (drop (at + 7) input) ≡ dataOctets s (take (size s) (drop at input))
 unfolding size
 lanes-taken s input at h =
-    let wide : at + 7 + s .width - (at + 7) ≡ s .width = omega arith in
     let there : 7 ≤ length (drop at input) = rw (length-drop at input) (omega arith) in
-    rw (wide, behind 7 (s .width) (drop at input) there, drop-drop 7 at input) (sym (take-take (s .width) (s .width) (drop (at + 7) input) (omega arith)))
+    rw (behind 7 (s .width) (drop at input) there, drop-drop 7 at input) (sym (take-take (s .width) (s .width) (drop (at + 7) input) (omega arith)))
+
+-- ---- what stands behind the last lane is not looked at
+
+kept-taken : (w k : ℕ) (ds : List ℕ) → keptOctets w k (take w ds) ≡ keptOctets w k ds
+kept-taken zero k ds = refl
+kept-taken (suc w) k [] = refl
+kept-taken (suc w) k (d ∷ ds) = ap (λ (l : List ℕ). keptOctet k d ++ l) (kept-taken w (k / 2) ds)
+
+collected-taken : (w k : ℕ) (ds octets : List ℕ) (at : ℕ) (after : List ℕ) (r : ℕ) → Collected w k ds octets at after r
+    → Collected w k (take w ds) octets at after r
+collected-taken w k ds octets at after r c =
+    record { same = c .same; beyond = c .beyond; within = c .within; is = c .is ∙ rw (kept-taken w k ds) refl }
+
+-- ---- the usual record
 
 module _ (s : Shape) (input octets table : List ℕ) (st : Open) (at full : ℕ) (b : (i : ℕ) → getD input i 0 < 256) (fits : at + size s ≤ length input)
     (fe : full ≡ 2 ^ s .width - 1) (ready : Ready s octets table st) (u : UsualAt input at (st .pair) full) where
@@ -98,23 +112,15 @@ module _ (s : Shape) (input octets table : List ℕ) (st : Open) (at full : ℕ)
   pub usual-faultless : (k : ℕ) → first (transferChecks s k (rec ∷ [])) ≡ none
   usual-faultless k = data-faultless s rec k usual-fields (told .keep ∙ sym (told .strb))
 
-  pub usual-added : (lanes octets1 table1 : List ℕ) (r : Open) (lo hi : ℕ) → lanes ≡ dataOctets s rec → lo ≡ wordAt 4 input at
-      → hi ≡ wordAt 4 input (at + 3) → Filled (hi % 65536) (lo % 2) lanes octets table st octets1 table1 r
+  pub usual-added : (octets1 table1 : List ℕ) (r : Open) (n lo hi : ℕ) → lo ≡ wordAt 4 input at → hi ≡ wordAt 4 input (at + 3)
+      → Collected (s .width) (hi % 65536) (drop (at + 7) input) octets (st .items) octets1 n → Ended (lo % 2) table (keptAt st n) table1 r
       → AddedData s rec octets table st octets1 table1 r
-  usual-added lanes octets1 table1 r lo hi e l h filled =
-      add-filled s rec rec-octets rec-long octets octets1 table table table1 st st r (wordAt 4 input (at + 3) % 65536) (wordAt 4 input at % 2)
-      (ready .high) (usual-fields .tdest) (told .keep) (told .strb) (told .flags) (ready .holds)
-      (λ items. paired-same s rec items table st (ready .started) (sym (told .paired))) (rw (e, l, h) at filled)
-
-  -- what filling needs, TLAST apart
-  pub usual-ready : (lanes : List ℕ) → lanes ≡ dataOctets s rec
-      → ((length lanes ≤ 16) × (st .items + length lanes ≤ length octets) × (length octets < 65536) × (full ≡ 2 ^ length lanes - 1))
-      × ((st .start ≤ st .items) × (st .closed < length table) × (st .pair < 4096))
-  usual-ready lanes e =
-      let count : length lanes ≡ s .width = ap length e ∙ lanes-long s rec rec-octets rec-long in (
-        (omega (arith, ready .high), omega (arith, ready .holds), ready .small, rw count fe),
-        (ready .started, omega (arith, ready .lists), ready .pair),
-      )
+  usual-added octets1 table1 r n lo hi l h collected ended =
+      let of-lanes : Collected (s .width) (hi % 65536) (dataOctets s rec) octets (st .items) octets1 n =
+      rw (lanes-taken s input at fits) at (collected-taken (s .width) (hi % 65536) (drop (at + 7) input) octets (st .items) octets1 n collected) in
+      add-collected s rec rec-octets rec-long octets octets1 table table table1 st st r n (hi % 65536) (lo % 2) (ready .high) (usual-fields .tdest)
+      (rw h (told .keep)) (rw h (told .strb)) (rw l (told .flags)) (ready .holds)
+      (λ items. paired-same s rec items table st (ready .started) (sym (told .paired))) (rw (lanes-long s rec rec-octets rec-long) of-lanes) ended
 
 -- ---- a step of skimming
 

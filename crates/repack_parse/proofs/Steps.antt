@@ -1,5 +1,5 @@
 -- What each step of reading does to the state: laws of Read's records, a law for each way a function returns. Assumes nothing.
-use mathlib.Core.Path.{_≡_, refl, sym, ap, _∙_, subst}
+use mathlib.Core.Path.{_≡_, refl, sym, ap, _∙_}
 use mathlib.Core.Bool.{Bool, true, false, cond}
 use mathlib.Core.List.{List, [], _∷_, _++_, map, append-assoc, append-nil}
 use Prim.Native.Nat.{ℕ, zero, suc, _+_, _-_, _*_, _/_, _%_, _^_, _≤_, _<_}
@@ -13,11 +13,10 @@ use Rattle.stream.specs.Layout.{bit, odd, Kept}
 use Rattle.stream.proofs.Cut.{cut-ended}
 use Rattle.scratch.specs.declared.Open.{Open}
 use Rattle.scratch.specs.Codes.{keptOf, pairFrom, entryOf, stretchesOf, total}
-use Rattle.scratch.specs.Stands.{closedAt, pairedAt, keptAt, Stands}
+use Rattle.scratch.specs.Stands.{closedAt, pairedAt, Stands}
 use Rattle.scratch.proofs.Codes.{stretches-more}
 use Rattle.scratch.proofs.Stands.{opened, made, close-stands, turn-stands, gather-stands, all-closed, pairs-differ, cut-apart, cut-last}
-use Rattle.repack_gather.specs.Gather.{Collected}
-use Rattle.repack_parse.specs.Read.{Turned, Ended, Filled, Finished}
+use Rattle.repack_parse.specs.Read.{Turned, Ended, Finished}
 
 -- ---- closing
 
@@ -117,16 +116,3 @@ finish-close items table st all s b m n h =
     finished items (set table (st .closed) (entryOf (st .items - st .start) 0 (st .pair))) (closedAt st (st .pair)) all refl
     (closed-stands table st s b m (take (st .items) items) [] [] all 0 (st .pair) (omega arith)
     (cut-last (pairFrom (st .pair)) (opened st (take (st .items) items)) (some-open table st s b m (take (st .items) items) n (h .kept))) h)
-
--- ---- lanes that are data, and their record's end
-
-pub filled : (keep flags : ℕ) (lanes octets table octets1 table1 : List ℕ) (st p r : Open) (n : ℕ) → p ≡ keptAt st n
-    → Collected (length lanes) keep lanes octets (st .items) octets1 n → Ended flags table p table1 r
-    → Filled keep flags lanes octets table st octets1 table1 r
-filled keep flags lanes octets table octets1 table1 st p r n e c d =
-    let ended : Ended flags table (keptAt st n) table1 r = rw e at d in
-    let same : n ≡ r .items = sym (ended .items) in
-    record {
-      collected = subst (λ (m : ℕ). Collected (length lanes) keep lanes octets (st .items) octets1 m) same c;
-      ended = subst (λ (m : ℕ). Ended flags table (keptAt st m) table1 r) same ended;
-    }

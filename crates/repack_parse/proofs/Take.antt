@@ -22,9 +22,10 @@ use Rattle.stream.proofs.Records.{size-pos}
 use Rattle.stream.proofs.Bools.{no-such}
 use Rattle.stream.proofs.First.{first-none}
 use Rattle.scratch.specs.declared.Open.{Open}
-use Rattle.scratch.specs.Codes.{heldCodes, Unmarked, total}
+use Rattle.scratch.specs.Codes.{heldCodes, Unmarked, markBits, total}
 use Rattle.scratch.specs.Stands.{Stands}
 use Rattle.scratch.proofs.Held.{unmarked-at}
+use Rattle.scratch.proofs.Marks.{length-marks}
 use Rattle.repack_gather.specs.Gather.{Clear}
 use Rattle.repack_parse.specs.Read.{Few, Added, Ready, Sounds, Finished, Taken}
 use Rattle.repack_parse.specs.Reading.{Reading, Holding}
@@ -85,7 +86,7 @@ abbrev pub start : Open
 start = record { items = 0; start = 0; closed = 0; pair = 0 }
 
 pub reading-starts : (s : Shape) (input octets table : List ℕ) → 1 ≤ s .width → s .width ≤ 16 → length input ≤ 65536 → length input % size s ≡ 0
-    → length octets ≡ 45616 → length table ≡ 8193 → Reading s input octets table start 0
+    → length octets ≡ 45664 → length table ≡ 8193 → Reading s input octets table start 0
 reading-starts s input octets table low high short w i t =
     let zeroth : 0 / size s ≡ 0 = zero-div (size s) in
     record {
@@ -263,3 +264,8 @@ pub this-long : (s : Shape) (input : List ℕ) (at z : ℕ) → z ≡ size s →
     → length (take (at + z - at) (drop at input)) ≡ size s
 this-long s input at z e h =
     ap length (this-record s input at z e) ∙ length-take-le (size s) (drop at input) (rw (length-drop at input) (omega arith))
+
+-- ---- as many octets of marks hold as many marks
+
+pub marks-kept : (ms ms' : List ℕ) → length ms' ≡ length ms → length (markBits ms') ≡ length (markBits ms)
+marks-kept ms ms' e = omega (arith, length-marks ms, length-marks ms')

@@ -17,8 +17,8 @@ use Rattle.record.specs.declared.Fault.the-variants.{Sound, Field, Reserved}
 use Rattle.record.specs.Header.{headerFault}
 use Rattle.scratch.specs.declared.Open.{Open}
 use Rattle.scratch.specs.Codes.{heldCodes, Unmarked, pairFrom, stretchesOf, total}
-use Rattle.scratch.specs.Stands.{keptAt, Stands}
-use Rattle.repack_gather.specs.Gather.{Collected, Clear}
+use Rattle.scratch.specs.Stands.{Stands}
+use Rattle.repack_gather.specs.Gather.{Clear}
 use Rattle.repack_parse.specs.declared.Next.{Next}
 use Rattle.repack_parse.specs.declared.Next.the-variants.{Read, Marked, Refused as NotRead}
 use Rattle.repack_parse.specs.declared.Parsed.{Parsed}
@@ -68,12 +68,6 @@ pub record Added (s : Shape) (rec items table : List ℕ) (st : Open) (itemsAfte
       (rest : List (Item Kept)) (all : List (Stretch Kept))
       → Stands (take (st .items) items) (take (st .closed) table) st (transferItems (transferOf s rec) ++ rest) all
       → Stands (take (r .items) itemsAfter) (take (r .closed) tableAfter) r rest all
-
--- Lanes of which each kept one is data, and their record's end: octets behind those of the open stretch, and perhaps a
--- table entry more.
-pub record Filled (keep flags : ℕ) (lanes octets table : List ℕ) (st : Open) (octetsAfter tableAfter : List ℕ) (r : Open) : Type 0 where
-  pub collected : Collected (length lanes) keep lanes octets (st .items) octetsAfter (r .items)
-  pub ended : Ended flags table (keptAt st (r .items)) tableAfter r
 
 -- One record more, of which each kept lane is data: it needs no mark, where none stands yet.
 pub record AddedData (s : Shape) (rec octets table : List ℕ) (st : Open) (octetsAfter tableAfter : List ℕ) (r : Open) : Type 0 where

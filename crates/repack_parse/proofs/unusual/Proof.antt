@@ -5,7 +5,8 @@ use native.Mathlib.Omega.{arith}
 use lib.Pow.{pow-mono}
 use Rattle.stream.specs.Layout.{size}
 use Rattle.stream.proofs.Records.{size-pos}
-use Rattle.scratch.specs.Codes.{heldCodes}
+use Rattle.scratch.specs.Codes.{heldCodes, markBits}
+use Rattle.scratch.proofs.Marks.{length-marks}
 use Rattle.repack_parse.proofs.Faults.{fields-of, told-field, told-reserved, told-sound, told-fields}
 use Rattle.repack_parse.proofs.Records.{size-low, added-none, data-marked}
 use borrow.Author.Needs.{needs}
@@ -55,7 +56,7 @@ returns c =
           added =
               added-none (a .s) (a .rec .now) (a .octets .now) (a .table .now) (a .table .now) (c .before .before .before .before .before .read-header .result) (a .st) (a .st)
               (λ i. omega (arith, c .before .before .before .before .before .before .before .before .before .shared-slice-known .given i)) (p .0) (c .before .before .before .before .before .read-header .ensures) (told-fields (a .s) (a .rec .now) (a .at / size (a .s)) (c .before .before .before .before .before .read-header .result) (c .before .before .before .before .before .read-header .ensures) (sym (c .before .before .enum-told3 .given .1) ∙ c .before .before .before .before .judge .ensures)) (p .1)
-              (heldCodes (a .octets .now) (a .marks .now)) (c .if1 .taken);
+              (heldCodes (a .octets .now) (markBits (a .marks .now))) (c .if1 .taken);
           clear = p .3;
         };
       },
@@ -80,8 +81,8 @@ returns-2 c =
     let p = c .before .before .before .before .before .before .before .before .before .before .before .before .before .before .before .before .before .before .before .pre in (
       record {
         faultless = told-sound (a .s) (a .rec .now) (a .at / size (a .s)) (c .before .before .before .before .before .before .before .before .before .before .before .before .before .before .read-header .result) (c .before .before .before .before .before .before .before .before .before .before .before .before .before .before .read-header .ensures) (sym (c .before .before .before .before .before .before .before .before .before .before .before .enum-told3 .given .1) ∙ c .before .before .before .before .before .before .before .before .before .before .before .before .before .judge .ensures);
-        added = data-marked (a .s) (a .rec .now) (a .octets .now) (a .marks .now) (a .table .now) (a .st) (c .before .before .before .before .add-data .last .1 .1 .1 .0) (c .before .before .before .before .add-data .last .1 .1 .1 .1 .0) (c .before .before .before .before .add-data .result)
-            (p .2) (p .3) (c .before .before .before .before .add-data .ensures);
+        added = data-marked (a .s) (a .rec .now) (a .octets .now) (markBits (a .marks .now)) (a .table .now) (a .st) (c .before .before .before .before .add-data .last .1 .1 .1 .0) (c .before .before .before .before .add-data .last .1 .1 .1 .1 .0) (c .before .before .before .before .add-data .result)
+            (length-marks (a .marks .now) ∙ p .2) (p .3) (c .before .before .before .before .add-data .ensures);
       },
       refl,
     )
