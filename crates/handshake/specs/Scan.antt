@@ -35,6 +35,10 @@ lowestRule s b c = cond (r1 b c) 1 (cond (r2 b c) 2 (cond (r3 b c) 3 (cond (r4 s
 abbrev pub start : Scan
 start = record { count = 0; cycle = 0; rule = 0; waited = false }
 
+-- what is known where a cycle has broken a rule
+abbrev pub found : ℕ → ℕ → ℕ → Bool → Scan
+found count cycle rule wait = record { count = count; cycle = cycle; rule = rule; waited = wait }
+
 -- what is known after cycle k as well
 abbrev pub scanStep : Shape → Option (List ℕ) → ℕ → List ℕ → Scan → Scan
 scanStep s b k c st =

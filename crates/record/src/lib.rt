@@ -4,12 +4,15 @@
 mod lookup;
 mod usual;
 pub mod write;
+mod zeros;
 
 pub use lookup::data_octets;
 pub use lookup::data_start;
 pub use lookup::find_data;
 use stream::Shape;
 pub use usual::is_usual;
+pub use zeros::breaks;
+pub use zeros::zeros;
 ghost use mathlib.Core.Path.{_≡_};
 ghost use Prim.Native.Nat.{ℕ, _≤_, _<_, _^_};
 ghost use lib.ListN.{length};
@@ -24,6 +27,12 @@ pub struct Header {
     pub tdest: u8,
     pub keep: u32,
     pub strb: u32,
+}
+
+// The bits of a header that must be zero: in octets 0 to 3, and in octets 3 to 6.
+pub struct Zeros {
+    pub low: u32,
+    pub high: u32,
 }
 
 // What is wrong with a transfer record.
