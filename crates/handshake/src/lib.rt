@@ -155,7 +155,7 @@ fn judge_cycles(s: Shape, capture: &[u8]) -> Verdict
     ensures { λ r. ⌜ r ≡ scanned s none 0 (records s (now (capture .entry))) start ⌝ }
 {
     let size = record::record_size(s);
-    let z = record::zeros(4, s);
+    let z = record::must_be_zero(4, s);
     let mut count = 0;
     let mut waited = false;
     let mut from = 0;

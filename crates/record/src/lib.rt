@@ -2,17 +2,17 @@
 // Layout knowledge stands here and in stream's Layout only. Functions with a `requires` are for the crates above, which
 // make the test first; the calls of the library are there.
 mod lookup;
+mod masks;
 mod usual;
 pub mod write;
-mod zeros;
 
 pub use lookup::data_octets;
 pub use lookup::data_start;
 pub use lookup::find_data;
 use stream::Shape;
 pub use usual::is_usual;
-pub use zeros::breaks;
-pub use zeros::zeros;
+pub use masks::breaks;
+pub use masks::must_be_zero;
 ghost use mathlib.Core.Path.{_≡_};
 ghost use Prim.Native.Nat.{ℕ, _≤_, _<_, _^_};
 ghost use lib.ListN.{length};

@@ -9,7 +9,7 @@ ghost use Rattle.record.specs.Header.{headerOf, headerFault};
 ghost use Rattle.record.specs.Zeros.{zerosOf};
 
 // The bits that must be zero where `used` flags of octet 0 are in use.
-pub fn zeros(used: u32, s: Shape) -> Zeros
+pub fn must_be_zero(used: u32, s: Shape) -> Zeros
     requires { ⌜ (s .width ≤ 16) × (used ≤ 8) ⌝ }
     ensures { λ r. ⌜ r ≡ zerosOf used s ⌝ }
 {
