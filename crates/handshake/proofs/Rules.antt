@@ -13,7 +13,6 @@ use Rattle.stream.specs.Layout.{flags, pairOf, tkeep, tstrb, aresetn, tvalid, l
 use Rattle.stream.specs.Checks.{fieldFault, cycleFlags}
 use Rattle.stream.specs.Handshake.{waited, differs}
 use Rattle.stream.proofs.Bools.{neither}
-use Rattle.stream.proofs.Records.{size-pos}
 use Rattle.record.specs.declared.Header.{Header}
 use Rattle.record.specs.Header.{headerOf}
 use Rattle.handshake.specs.Scan.{beforeOf, lowestRule, CycleAt}
@@ -80,5 +79,6 @@ module _ (s : Shape) (h : Header) (w : Bool) (prev rec : List ℕ) (k : ℕ) (c 
       (subst (λ (x : Header). (n : ℕ) → x .strb < 2 ^ n → r ≡ anyReserved (typesOf n (x .keep) (x .strb))) (c .header) f (s .width)
       (strb-low s rec (c .sound)))
 
-  pub moved-needs : w ≡ true → (length prev ≡ length rec) × (0 < length rec)
-  moved-needs e = (c .before e, rw (c .whole) (size-pos s))
+  pub moved-needs : w ≡ true → (length prev ≡ length rec) × (8 ≤ length rec) × (length rec ≤ 23)
+  unfolding size
+  moved-needs e = (c .before e, rw (c .whole) (omega (arith, c .low)), rw (c .whole) (omega (arith, c .high)))

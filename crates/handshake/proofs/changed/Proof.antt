@@ -1,74 +1,87 @@
--- `handshake::changed` meets its contract. The loop's invariant: whether the records differ is whether they differ from
--- octet i on. Assumes nothing.
-use Prim.Native.Nat.{_≤_, _-_}
-use native.Mathlib.Omega.{arith}
-use lib.ListN.{length}
 use borrow.Author.Needs.{needs}
-use Rattle.handshake.specs.Scan.{Left}
-use Rattle.handshake.proofs.Differ.{left-more, differs-last, differs-at, differs-not}
 use Rattle.handshake.proofs.changed.Statement.{statement}
 use Rattle.handshake.proofs.changed.Tie as tie
 use Rattle.handshake.proofs.changed.Reads as reads
 use Rattle.handshake.proofs.changed.Lts as lts
-use Rattle.handshake.proofs.same_words.Reads as same-words-reads
+use Rattle.handshake.proofs.differ4.Reads as differ4-reads
+use Rattle.handshake.proofs.differ8.Reads as differ8-reads
 
-abbrev Inv-loop : tie.InvT-loop
-Inv-loop prev rec i₀ i = (1 ≤ i) × (i ≤ length rec) × Left prev rec i
+-- src/lib.rt:43:8
+shared-slice-read-if1 : tie.Need-shared-slice-read-if1
+shared-slice-read-if1 c = search needs
 
-abbrev μ-loop : tie.MeasureT-loop
-μ-loop prev rec i₀ i = length rec - i
+-- src/lib.rt:43:23
+shared-slice-read-if1-2 : tie.Need-shared-slice-read-if1-2
+shared-slice-read-if1-2 c = search needs
 
-shared-slice-read-if1 : tie.Need-shared-slice-read-if1 Inv-loop μ-loop
-shared-slice-read-if1 c = omega arith
+-- src/lib.rt:44:9
+returns : tie.Need-returns
+returns c = ?h1
 
-shared-slice-read-if1-2 : tie.Need-shared-slice-read-if1-2 Inv-loop μ-loop
-shared-slice-read-if1-2 c = omega arith
+-- src/lib.rt:48:12
+differ4-requires : tie.Need-differ4-requires
+differ4-requires c κs = search needs
 
-returns : tie.Need-returns Inv-loop μ-loop
-returns c = differs-last (c .before .before .before .before .before .args .prev .now) (c .before .before .before .before .before .args .rec .now) (c .if1 .taken)
+-- src/lib.rt:49:13
+returns-2 : tie.Need-returns-2
+returns-2 c = ?h2
 
-same-words-requires : tie.Need-same-words-requires Inv-loop μ-loop
-same-words-requires c κs = search needs
+-- src/lib.rt:51:9
+differ4-requires-2 : tie.Need-differ4-requires-2
+differ4-requires-2 c κs = search needs
 
-loop-holds : tie.Need-loop-holds Inv-loop μ-loop
-loop-holds c = (c .same-words .ensures .0, c .same-words .ensures .1, c .same-words .ensures .2)
+-- src/lib.rt:51:9
+returns-3 : tie.Need-returns-3
+returns-3 c = ?h3
 
-shared-slice-read-if2 : tie.Need-shared-slice-read-if2 Inv-loop μ-loop
-shared-slice-read-if2 c = omega arith
+-- src/lib.rt:53:8
+differ8-requires : tie.Need-differ8-requires
+differ8-requires c κs = search needs
 
-shared-slice-read-if2-2 : tie.Need-shared-slice-read-if2-2 Inv-loop μ-loop
-shared-slice-read-if2-2 c = omega arith
+-- src/lib.rt:54:9
+returns-4 : tie.Need-returns-4
+returns-4 c = ?h4
 
-returns-2 : tie.Need-returns-2 Inv-loop μ-loop
-returns-2 c = differs-at (c .before .before .before .before .before .before .before .before .before .before .before .args .prev .now) (c .before .before .before .before .before .before .before .before .before .before .before .args .rec .now) (c .before .before .before .before .loop .i) (omega (arith, c .before .before .before .before .before .before .before .before .before .before .before .pre .0, c .before .before .before .loop-test .taken)) (c .before .before .before .loop-test .taken) (c .if2 .taken) (c .before .before .before .before .loop .inv .2)
+-- src/lib.rt:56:27
+sub-differ8 : tie.Need-sub-differ8
+sub-differ8 c = search needs
 
-add-i : tie.Need-add-i Inv-loop μ-loop
-add-i c = omega arith
+-- src/lib.rt:56:8
+differ8-requires-2 : tie.Need-differ8-requires-2
+differ8-requires-2 c κs = search needs
 
-loop-less : tie.Need-loop-less Inv-loop μ-loop
-loop-less c = omega arith
+-- src/lib.rt:57:9
+returns-5 : tie.Need-returns-5
+returns-5 c = ?h5
 
-loop-again : tie.Need-loop-again Inv-loop μ-loop
-loop-again c = (omega arith, omega arith, left-more (c .before .before .before .before .before .before .before .before .before .before .before .args .prev .now) (c .before .before .before .before .before .before .before .before .before .before .before .args .rec .now) (c .before .before .before .before .loop .i) (omega (arith, c .before .before .before .before .before .before .before .before .before .before .before .pre .0, c .before .before .before .loop-test .taken)) (c .before .before .before .loop-test .taken) (c .if2 .left) (c .before .before .before .before .loop .inv .2))
+-- src/lib.rt:60:9
+differ8-requires-3 : tie.Need-differ8-requires-3
+differ8-requires-3 c κs = search needs
 
-returns-3 : tie.Need-returns-3 Inv-loop μ-loop
-returns-3 c = differs-not (c .before .before .before .before .before .before .before .before .args .prev .now) (c .before .before .before .before .before .before .before .before .args .rec .now) (c .before .loop .i) (omega (arith, c .before .before .before .before .before .before .before .before .pre .0, c .loop-test .left)) (c .loop-test .left) (c .before .before .before .if1 .left) (c .before .loop .inv .2)
+-- src/lib.rt:60:9
+returns-6 : tie.Need-returns-6
+returns-6 c = ?h6
+
+-- src/lib.rt:39:1
+returns-7 : tie.Need-returns-7
+returns-7 c = ?h7
 
 pub changed-spec : {M : Type 1} → statement M
 changed-spec =
     tie.close
     (tie.spec
-    Inv-loop
-    μ-loop
     shared-slice-read-if1
     shared-slice-read-if1-2
     returns
-    same-words-requires
-    loop-holds
-    shared-slice-read-if2
-    shared-slice-read-if2-2
+    differ4-requires
     returns-2
-    add-i
-    loop-less
-    loop-again
-    returns-3)
+    differ4-requires-2
+    returns-3
+    differ8-requires
+    returns-4
+    sub-differ8
+    differ8-requires-2
+    returns-5
+    differ8-requires-3
+    returns-6
+    returns-7)
