@@ -1,63 +1,68 @@
+-- `handshake::broken` meets its contract. The loop's invariant: the first bad field among the cycles left, or else the
+-- finding, is the verdict on all from cycle j on. Assumes nothing.
+use mathlib.Core.Bool.{true, false}
+use Prim.Native.Nat.{_+_, _-_, _%_}
+use mathlib.Core.Path.{_≡_}
+use native.Mathlib.Omega.{arith}
+use lib.ListN.{length, take, drop}
+use borrow.Author.Needs.{needs}
+use Rattle.stream.specs.declared.Shape.{Shape}
+use Rattle.stream.specs.declared.Verdict.the-variants.{Broken}
+use Rattle.stream.specs.Layout as layout
+use Rattle.stream.specs.Checks.{cycleFlags}
+use Rattle.stream.proofs.Records.{size-pos}
+use Rattle.record.specs.Zeros.{zerosOf}
+use Rattle.handshake.specs.Scan.{Looking, Passed}
+use Rattle.handshake.proofs.Turns.{room, part-long, fault-is, looking-start, looks-bad, looks-on, looks-end}
 use Rattle.handshake.proofs.broken.Statement.{statement}
 use Rattle.handshake.proofs.broken.Tie as tie
-use Rattle.handshake.proofs.broken.Reads as reads
-use Rattle.handshake.proofs.broken.Lts as lts
-use Rattle.record.proofs.breaks.Reads as breaks-reads
-use Rattle.record.proofs.record_size.Reads as record-size-reads
 
+-- the loop does not read the shape, so it is any that fits
 abbrev Inv-loop : tie.InvT-loop
-Inv-loop z capture from j cycle rule size at₀ k₀ at k = ?h1
+Inv-loop z capture from j cycle rule size at₀ k₀ at k =
+    (s : Shape) → Passed s capture → z ≡ zerosOf cycleFlags s → size ≡ layout.size s → length (drop from capture) % layout.size s ≡ 0 → Looking s capture from j at k (Broken cycle rule)
 
 abbrev μ-loop : tie.MeasureT-loop
-μ-loop z capture from j cycle rule size at₀ k₀ at k = ?h2
+μ-loop z capture from j cycle rule size at₀ k₀ at k = length capture - at
 
--- src/lib.rt:138:9
 record-size-requires : tie.Need-record-size-requires Inv-loop μ-loop
-record-size-requires c κs = ?h3
+record-size-requires c κs = c .before .pre .0 .width
 
--- src/lib.rt:141:5
 loop-holds : tie.Need-loop-holds Inv-loop μ-loop
-loop-holds c = ?h4
+loop-holds c = λ s p z q w. looking-start s (c .before .before .args .capture .now) (c .before .before .args .from) (c .before .before .args .j) (Broken (c .before .before .args .cycle) (c .before .before .args .rule)) (c .before .before .pre .2) w (c .before .before .pre .4)
 
--- src/lib.rt:142:20
 add-next : tie.Need-add-next Inv-loop μ-loop
-add-next c = ?h5
+add-next c = omega (arith, room (c .before .before .before .before .args .s) (c .before .before .before .before .args .capture .now) (c .before .loop .at) ((c .before .loop .inv (c .before .before .before .before .args .s) (c .before .before .before .before .pre .0) (c .before .before .before .before .pre .1) (c .before .before .record-size .ensures) (c .before .before .before .before .pre .3)) .whole) (c .loop-test .taken) (c .before .before .record-size .result) (c .before .before .record-size .ensures))
 
--- src/lib.rt:143:27
 sub-breaks : tie.Need-sub-breaks Inv-loop μ-loop
-sub-breaks c = ?h6
+sub-breaks c = omega (arith, room (c .before .before .before .before .args .s) (c .before .before .before .before .args .capture .now) (c .before .loop .at) ((c .before .loop .inv (c .before .before .before .before .args .s) (c .before .before .before .before .pre .0) (c .before .before .before .before .pre .1) (c .before .before .record-size .ensures) (c .before .before .before .before .pre .3)) .whole) (c .loop-test .taken) (c .before .before .record-size .result) (c .before .before .record-size .ensures))
 
--- src/lib.rt:143:27
 part-breaks-start : tie.Need-part-breaks-start Inv-loop μ-loop
-part-breaks-start c = ?h7
+part-breaks-start c = omega (arith, room (c .before .before .before .before .args .s) (c .before .before .before .before .args .capture .now) (c .before .loop .at) ((c .before .loop .inv (c .before .before .before .before .args .s) (c .before .before .before .before .pre .0) (c .before .before .before .before .pre .1) (c .before .before .record-size .ensures) (c .before .before .before .before .pre .3)) .whole) (c .loop-test .taken) (c .before .before .record-size .result) (c .before .before .record-size .ensures))
 
--- src/lib.rt:143:27
 part-breaks-end : tie.Need-part-breaks-end Inv-loop μ-loop
-part-breaks-end c = ?h8
+part-breaks-end c = omega (arith, room (c .before .before .before .before .args .s) (c .before .before .before .before .args .capture .now) (c .before .loop .at) ((c .before .loop .inv (c .before .before .before .before .args .s) (c .before .before .before .before .pre .0) (c .before .before .before .before .pre .1) (c .before .before .record-size .ensures) (c .before .before .before .before .pre .3)) .whole) (c .loop-test .taken) (c .before .before .record-size .result) (c .before .before .record-size .ensures))
 
--- src/lib.rt:143:12
 breaks-requires : tie.Need-breaks-requires Inv-loop μ-loop
-breaks-requires c κs = ?h9
+breaks-requires c κs = part-long (c .before .before .before .before .before .args .s) (c .before .before .before .before .before .args .capture .now) (c .before .before .loop .at) ((c .before .before .loop .inv (c .before .before .before .before .before .args .s) (c .before .before .before .before .before .pre .0) (c .before .before .before .before .before .pre .1) (c .before .before .before .record-size .ensures) (c .before .before .before .before .before .pre .3)) .whole) (c .before .loop-test .taken) (c .before .before .before .record-size .result) (c .before .before .before .record-size .ensures)
 
--- src/lib.rt:144:13
 returns : tie.Need-returns Inv-loop μ-loop
-returns c = ?h10
+returns c = looks-bad (c .before .before .before .before .before .before .before .args .s) (c .before .before .before .before .before .before .before .args .capture .now) (c .before .before .before .before .before .before .before .args .from) (c .before .before .before .before .before .before .before .args .j) (c .before .before .before .before .loop .at) (c .before .before .before .before .loop .k) (c .before .before .before .before .before .before .before .args .cycle) (c .before .before .before .before .before .before .before .args .rule) (c .before .before .before .before .loop .inv (c .before .before .before .before .before .before .before .args .s) (c .before .before .before .before .before .before .before .pre .0) (c .before .before .before .before .before .before .before .pre .1) (c .before .before .before .before .before .record-size .ensures) (c .before .before .before .before .before .before .before .pre .3)) (c .before .before .before .before .before .before .before .pre .5) (c .before .before .before .loop-test .taken) (c .before .before .before .before .before .record-size .result) (c .before .before .before .before .before .record-size .ensures) (fault-is (c .before .before .before .before .before .before .before .args .s) (take (c .before .before .before .before .loop .at + c .before .before .before .before .before .record-size .result - c .before .before .before .before .loop .at) (drop (c .before .before .before .before .loop .at) (c .before .before .before .before .before .before .before .args .capture .now))) (c .before .before .before .before .before .before .before .args .z) (c .before .breaks .result) true (c .before .before .before .before .before .before .before .pre .0 .width) (c .before .before .before .before .before .before .before .pre .1) (c .before .breaks .ensures) (c .if1 .taken))
 
--- src/lib.rt:147:9
 add-k : tie.Need-add-k Inv-loop μ-loop
-add-k c = ?h11
+add-k c = omega (arith, (c .before .before .before .before .loop .inv (c .before .before .before .before .before .before .before .args .s) (c .before .before .before .before .before .before .before .pre .0) (c .before .before .before .before .before .before .before .pre .1) (c .before .before .before .before .before .record-size .ensures) (c .before .before .before .before .before .before .before .pre .3)) .few, (c .before .before .before .before .loop .inv (c .before .before .before .before .before .before .before .args .s) (c .before .before .before .before .before .before .before .pre .0) (c .before .before .before .before .before .before .before .pre .1) (c .before .before .before .before .before .record-size .ensures) (c .before .before .before .before .before .before .before .pre .3)) .within, c .before .before .before .before .before .before .before .pre .0 .short)
 
--- src/lib.rt:141:5
 loop-less : tie.Need-loop-less Inv-loop μ-loop
-loop-less c = ?h12
+loop-less c = omega (arith, room (c .before .before .before .before .before .before .before .args .s) (c .before .before .before .before .before .before .before .args .capture .now) (c .before .before .before .before .loop .at) ((c .before .before .before .before .loop .inv (c .before .before .before .before .before .before .before .args .s) (c .before .before .before .before .before .before .before .pre .0) (c .before .before .before .before .before .before .before .pre .1) (c .before .before .before .before .before .record-size .ensures) (c .before .before .before .before .before .before .before .pre .3)) .whole) (c .before .before .before .loop-test .taken) (c .before .before .before .before .before .record-size .result) (c .before .before .before .before .before .record-size .ensures), c .before .before .before .before .before .record-size .ensures, size-pos (c .before .before .before .before .before .before .before .args .s))
 
--- src/lib.rt:141:5
 loop-again : tie.Need-loop-again Inv-loop μ-loop
-loop-again c = ?h13
+loop-again c = λ s p z q w.
+    let h = c .before .before .before .before .loop .inv s p z q w in
+    looks-on s (c .before .before .before .before .before .before .before .args .capture .now) (c .before .before .before .before .before .before .before .args .from) (c .before .before .before .before .before .before .before .args .j) (c .before .before .before .before .loop .at) (c .before .before .before .before .loop .k) (c .before .before .before .before .before .before .before .args .cycle) (c .before .before .before .before .before .before .before .args .rule) h (c .before .before .before .before .before .before .before .pre .5) (c .before .before .before .loop-test .taken) (c .before .before .before .before .before .record-size .result) q
+    (fault-is s (take (c .before .before .before .before .loop .at + c .before .before .before .before .before .record-size .result - c .before .before .before .before .loop .at) (drop (c .before .before .before .before .loop .at) (c .before .before .before .before .before .before .before .args .capture .now))) (c .before .before .before .before .before .before .before .args .z) (c .before .breaks .result) false (p .width) z (c .before .breaks .ensures) (c .if1 .left))
 
--- src/lib.rt:134:1
 returns-2 : tie.Need-returns-2 Inv-loop μ-loop
-returns-2 c = ?h14
+returns-2 c = looks-end (c .before .before .before .before .args .s) (c .before .before .before .before .args .capture .now) (c .before .before .before .before .args .from) (c .before .before .before .before .args .j) (c .before .loop .at) (c .before .loop .k) (c .before .before .before .before .args .cycle) (c .before .before .before .before .args .rule) (c .before .loop .inv (c .before .before .before .before .args .s) (c .before .before .before .before .pre .0) (c .before .before .before .before .pre .1) (c .before .before .record-size .ensures) (c .before .before .before .before .pre .3)) (c .before .before .before .before .pre .5) (c .loop-test .left)
 
 pub broken-spec : {M : Type 1} → statement M
 broken-spec =
