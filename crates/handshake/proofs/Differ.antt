@@ -1,6 +1,6 @@
 -- Two records compared in groups of octets that may overlap, a group as one word, and by the lowest bit of octet 0.
 -- Assumes nothing.
-use mathlib.Core.Path.{_≡_, refl, sym, ap, ap₂, _∙_, subst}
+use mathlib.Core.Path.{_≡_, refl, sym, ap, ap₂, _∙_}
 use mathlib.Core.Bool.{Bool, true, false, not, _&&_, and-false, Bool·beq}
 use mathlib.Core.List.{List, [], _∷_}
 use mathlib.Core.Option.{some}
@@ -12,7 +12,7 @@ use borrow.Author.Tests.{eq-eqb, ne-eqb, eqb-true, eqb-false, ltb-true, ltb-fals
 use lib.Dec.{eqb, ltb}
 use lib.ListN.{length, getD, take, drop, length-drop}
 use lib.Seq.{drop-cons, drop-drop, getD-take, getD-drop, ext-getD}
-use Rattle.stream.specs.Layout.{bit, tlast, body}
+use Rattle.stream.specs.Layout.{bit, body}
 use Rattle.stream.specs.Handshake.{sameOctets, differs}
 use Rattle.stream.proofs.Bools.{and-left, and-right, no-such}
 use Rattle.words.specs.Words.{wordAt}
@@ -100,7 +100,7 @@ module _ (p r : List ℕ) where
       go false q = rw q refl
       go true q =
           let from : (xs : List ℕ) → drop i xs ≡ drop (i - 1) (drop 1 xs) =
-              λ xs. let n : i ≡ 1 + (i - 1) = omega arith in ap (λ (n : ℕ). drop n xs) n ∙ sym (drop-drop (i - 1) 1 xs) in
+          λ xs. let n : i ≡ 1 + (i - 1) = omega arith in ap (λ (n : ℕ). drop n xs) n ∙ sym (drop-drop (i - 1) 1 xs) in
           let tail : drop i p ≡ drop i r = from p ∙ ap (drop (i - 1)) (same-true (drop 1 p) (drop 1 r) q) ∙ sym (from r) in
           no-such (not-true (sameOctets (take k (drop i p)) (take k (drop i r))) (sym e ∙ f))
           (ap (λ (l : List ℕ). sameOctets (take k l) (take k (drop i r))) tail ∙ same-refl (take k (drop i r)))
@@ -110,7 +110,7 @@ module _ (p r : List ℕ) where
   group-same k i d e f j h l =
       let there : i + (j - i) ≡ j = omega arith in
       let at : (xs : List ℕ) → getD (take k (drop i xs)) (j - i) 0 ≡ getD xs j 0 =
-          λ xs. getD-take k (drop i xs) (j - i) 0 (omega arith) ∙ getD-drop i xs (j - i) 0 ∙ ap (λ (n : ℕ). getD xs n 0) there in
+      λ xs. getD-take k (drop i xs) (j - i) 0 (omega arith) ∙ getD-drop i xs (j - i) 0 ∙ ap (λ (n : ℕ). getD xs n 0) there in
       let alike = not-false (sameOctets (take k (drop i p)) (take k (drop i r))) (sym e ∙ f) in
       sym (at p) ∙ ap (λ (l : List ℕ). getD l (j - i) 0) (same-true (take k (drop i p)) (take k (drop i r)) alike) ∙ at r
 
@@ -119,8 +119,8 @@ module _ (p r : List ℕ) where
     differs-not : Same p r 1 (length r) → false ≡ differs (some p) r
     differs-not f =
         let rest : drop 1 p ≡ drop 1 r =
-            ext-getD 0 (drop 1 p) (drop 1 r) (length-drop 1 p ∙ ap (λ (n : ℕ). n - 1) long ∙ sym (length-drop 1 r))
-            (λ i h. getD-drop 1 p i 0 ∙ f (1 + i) (omega arith) (omega (arith, length-drop 1 p)) ∙ sym (getD-drop 1 r i 0)) in
+        ext-getD 0 (drop 1 p) (drop 1 r) (length-drop 1 p ∙ ap (λ (n : ℕ). n - 1) long ∙ sym (length-drop 1 r))
+        (λ i h. getD-drop 1 p i 0 ∙ f (1 + i) (omega arith) (omega (arith, length-drop 1 p)) ∙ sym (getD-drop 1 r i 0)) in
         let alike : sameOctets (drop 1 p) (drop 1 r) ≡ true = ap (λ (l : List ℕ). sameOctets l (drop 1 r)) rest ∙ same-refl (drop 1 r) in
         rw (alike, last-same (getD p 0 0) (getD r 0 0) last) refl
 

@@ -2,19 +2,18 @@
 use mathlib.Core.Path.{_≡_, refl, sym, ap, ap₂, _∙_, subst}
 use mathlib.Core.Bool.{Bool, true, false, not, _&&_, _||_, cond}
 use mathlib.Core.List.{List}
-use mathlib.Core.Option.{Option, none, some}
+use mathlib.Core.Option.{some}
 use Prim.Native.Nat.{ℕ, zero, suc, _/_, _%_, _^_, _≤_, _<_}
 use native.Mathlib.Omega.{arith}
 use borrow.Author.Tests.{eq-eqb, ne-eqb, leb-false}
 use lib.Dec.{eqb, leb, ltb}
 use lib.ListN.{length}
 use Rattle.stream.specs.declared.Shape.{Shape}
-use Rattle.stream.specs.Layout.{flags, pairOf, tkeep, tstrb, aresetn, tvalid, laneTypes, typesOf, anyReserved, size}
+use Rattle.stream.specs.Layout.{flags, pairOf, tkeep, tstrb, laneTypes, typesOf, anyReserved, size}
 use Rattle.stream.specs.Checks.{fieldFault, cycleFlags}
 use Rattle.stream.specs.Handshake.{waited, differs}
 use Rattle.stream.proofs.Bools.{neither}
 use Rattle.record.specs.declared.Header.{Header}
-use Rattle.record.specs.Header.{headerOf}
 use Rattle.handshake.specs.Scan.{beforeOf, lowestRule, CycleAt}
 
 strb-low : (s : Shape) (r : List ℕ) → fieldFault cycleFlags s r ≡ false → tstrb r < 2 ^ s .width

@@ -2,27 +2,26 @@
 -- the pass behind a finding, which looks for a bad field only. The verdict of the pass is judging's, since the first finding
 -- and the first bad field are kept apart. Assumes nothing.
 use mathlib.Core.Path.{_≡_, refl, sym, ap, ap₂, _∙_, subst}
-use mathlib.Core.Bool.{Bool, true, false, not, _&&_, _||_, cond}
+use mathlib.Core.Bool.{Bool, true, false, not, _&&_, cond}
 use mathlib.Core.List.{List, [], _∷_, _++_}
 use mathlib.Core.Option.{Option, none, some}
-use Prim.Native.Nat.{ℕ, zero, suc, _+_, _-_, _*_, _/_, _%_, _≤_, _<_}
-use native.Mathlib.Nat.{zero-div, add-suc, suc-add, add-zero, zero-add}
+use Prim.Native.Nat.{ℕ, suc, _+_, _-_, _%_, _≤_, _<_}
+use native.Mathlib.Nat.{zero-div, add-zero, zero-add}
 use native.Mathlib.Numerals.{add-one}
 use native.Mathlib.Omega.{arith}
-use borrow.Author.Tests.{eq-eqb, ne-eqb, eqb-true, eqb-false}
+use borrow.Author.Tests.{ne-eqb}
 use lib.Dec.{eqb}
-use lib.ListN.{length, take, drop, length-take, length-drop, drop-of-length-le}
+use lib.ListN.{length, take, drop, length-drop, drop-of-length-le}
 use lib.Seq.{drop-drop, length-take-le}
-use Rattle.refusal.specs.declared.Refusal.{Refusal}
 use Rattle.refusal.specs.declared.Refusal.the-variants.{Width, Length, Field}
 use Rattle.stream.specs.declared.Shape.{Shape}
 use Rattle.stream.specs.declared.Verdict.{Verdict}
 use Rattle.stream.specs.declared.Verdict.the-variants.{Clean, Broken, Refused}
 use Rattle.stream.specs.Layout.{bit, bitOf, size, records}
-use Rattle.stream.specs.Checks.{Check, check, first, fieldFault, cycleFlags, cycleChecks, widthCheck, lengthCheck}
-use Rattle.stream.specs.Handshake.{waited, waits, r1, r2, r3, r4, transferred, handshakes, Finding, finding, ruleChecks, findings, firstFinding, transferCount}
-use Rattle.stream.specs.Answers.{verdict, verdictValues, judgeAnswer, judgeChecks, Judged}
-use Rattle.stream.proofs.Records.{size-pos, FirstRecord, first-record}
+use Rattle.stream.specs.Checks.{Check, first, fieldFault, cycleFlags, cycleChecks, widthCheck, lengthCheck}
+use Rattle.stream.specs.Handshake.{waited, waits, r1, r2, r3, r4, transferred, handshakes, Finding, finding, ruleChecks, findings}
+use Rattle.stream.specs.Answers.{verdict, verdictValues, judgeAnswer, Judged}
+use Rattle.stream.proofs.Records.{FirstRecord, first-record}
 use Rattle.stream.proofs.Repack.{width-fits, length-fits}
 use Rattle.record.specs.declared.Header.{Header}
 use Rattle.record.specs.declared.Zeros.{Zeros}
@@ -82,7 +81,7 @@ found-on s b k [] n cycle rule w h = rw (ne-eqb rule 0 (λ e. omega arith)) refl
 found-on s b k (c ∷ cs) n cycle rule w h =
     let no : eqb rule 0 ≡ false = ne-eqb rule 0 (λ e. omega arith) in
     let kept : scanStep s b k c (found n cycle rule w) ≡ found (n + bitOf (transferred c)) cycle rule (waits c) =
-        λ i. found (n + bitOf (transferred c)) (cond (no i) k cycle) (cond (no i) (lowestRule s b c) rule) (waits c) in
+    λ i. found (n + bitOf (transferred c)) (cond (no i) k cycle) (cond (no i) (lowestRule s b c) rule) (waits c) in
     ap (cond (fieldFault cycleFlags s c) (Refused (Field k)))
     (ap (scanned s (some c) (suc k) cs) kept ∙ found-on s (some c) (suc k) cs (n + bitOf (transferred c)) cycle rule (waits c) h)
 
@@ -201,11 +200,11 @@ module _ (s : Shape) (xs : List ℕ) (from at k count : ℕ) (wait : Bool) (h : 
         let last : k + 1 - 1 ≡ k = omega arith in
         let now : beforeOf (k + 1) rec ≡ some rec = rw (add-one k) refl in
         let same-count : n ≡ bitOf (transferred rec) =
-            counted ∙ ap (λ (g : Header). bitOf (bit 3 (g .flags) && bit 1 (g .flags) && bit 2 (g .flags))) is in
+        counted ∙ ap (λ (g : Header). bitOf (bit 3 (g .flags) && bit 1 (g .flags) && bit 2 (g .flags))) is in
         let same-wait : w ≡ waits rec = waiting ∙ ap (λ (g : Header). bit 3 (g .flags) && bit 1 (g .flags) && not (bit 2 (g .flags))) is in
         let none-broken : 0 ≡ lowestRule s (beforeOf k prev) rec = sym none' ∙ e in
         let state : found (count + n) (k + 1 - 1) 0 w ≡ found (count + bitOf (transferred rec)) k (lowestRule s (beforeOf k prev) rec) (waits rec) =
-            λ i. found (count + same-count i) (last i) (none-broken i) (same-wait i) in
+        λ i. found (count + same-count i) (last i) (none-broken i) (same-wait i) in
         record {
           within = room s xs at (h .whole) l z q;
           whole = rest-whole s xs at (h .whole) l z q;

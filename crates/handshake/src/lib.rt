@@ -7,9 +7,8 @@ use stream::Shape;
 use stream::Verdict;
 ghost use mathlib.Core.Path.{_≡_};
 ghost use mathlib.Core.List.{List};
-ghost use Prim.Native.Nat.{ℕ, _+_, _≤_, _<_, _^_, _%_};
+ghost use Prim.Native.Nat.{ℕ, _+_, _≤_, _<_, _%_};
 ghost use lib.ListN.{length, take, drop};
-ghost use Rattle.record.specs.Header.{headerOf};
 ghost use mathlib.Core.Bool.{Bool, _&&_, not, true};
 ghost use mathlib.Core.Option.{Option, none, some};
 ghost use Rattle.stream.specs.Layout.{size, records, bit, bitOf};
@@ -131,7 +130,15 @@ fn rule_of(s: Shape, h: Header, waited: bool, prev: &[u8], rec: &[u8], k: usize)
 
 // A finding stands, of this cycle and rule. The cycles from cycle j on, whose records begin at octet `from`, are only looked
 // through for a bit that must be zero.
-fn broken(s: Shape, z: Zeros, capture: &[u8], from: usize, j: usize, cycle: usize, rule: u32) -> Verdict
+fn broken(
+    s: Shape,
+    z: Zeros,
+    capture: &[u8],
+    from: usize,
+    j: usize,
+    cycle: usize,
+    rule: u32,
+) -> Verdict
     requires { ⌜ Passed s (now capture) × (z ≡ zerosOf cycleFlags s) × (from ≤ length (now capture)) × (length (drop from (now capture)) % size s ≡ 0) × (j ≤ from) × (0 < rule) ⌝ }
     ensures { λ r. ⌜ ((before : Option (List ℕ)) (count : ℕ) (wait : Bool) → r ≡ scanned s before j (records s (drop from (now (capture .entry)))) (found count cycle rule wait)) ⌝ }
 {

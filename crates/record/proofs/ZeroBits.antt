@@ -6,7 +6,7 @@ use mathlib.Core.List.{List}
 use Prim.Native.Nat.{ℕ, zero, suc, _+_, _-_, _*_, _/_, _%_, _^_, _≤_, _<_}
 use native.Mathlib.Nat.{suc-mul, mod-lt, zero-add}
 use native.Mathlib.Omega.{arith}
-use borrow.Author.Tests.{le-leb, lt-leb, eq-eqb, ne-eqb, eqb-true, eqb-false}
+use borrow.Author.Tests.{le-leb, lt-leb, eq-eqb, ne-eqb}
 use lib.Bits.{bitAnd, and-block, and-high, and-zero-r}
 use lib.Dec.{leb, ltb, eqb}
 use lib.ListN.{getD}
@@ -17,7 +17,7 @@ use Rattle.record.specs.declared.Zeros.{Zeros}
 use Rattle.record.specs.Header.{headerOf, headerFault}
 use Rattle.record.specs.Zeros.{zerosOf}
 
--- a number is some bit, by a test that computes
+-- some bit is set
 abbrev set : ℕ → Bool
 set n = not (eqb n 0)
 
@@ -36,7 +36,7 @@ set-parts a zero m h = go a
     go (suc a) = set-some (suc a * m + 0) (omega (arith, suc-mul a m)) ∙ sym (set-some (suc a) (omega arith))
 set-parts a (suc b) m h = set-some (a * m + suc b) (omega arith) ∙ rw (set-some (suc b) (omega arith)) refl
 
--- the bits from k on, in a number of `top` bits: none is set where it is below 2 ^ k
+-- a bit from k on is set in a number of j + k bits just where it is 2 ^ k or more
 set-above : (n j k : ℕ) → n < 2 ^ (j + k) → set (bitAnd n (2 ^ (j + k) - 2 ^ k)) ≡ leb (2 ^ k) n
 set-above n j k h =
     ap set (and-high n j k ∙ ap (λ (x : ℕ). x * 2 ^ k) (shr-mod j k h)) ∙ go (n / 2 ^ k) (split n k) (mod-lt n (pow-pos k))
@@ -60,13 +60,13 @@ low-set used a b c d u ha hb hc =
     let word : a + 256 * (b + 256 * (c + 256 * (d + 256 * 0))) ≡ ((d * 256 + c) * 256 + b) * 256 + a = omega arith in
     let mask : 15728896 - 2 ^ used ≡ 61440 * 256 + (256 - 2 ^ used) = omega arith in
     let top : bitAnd (d * 256 + c) 240 ≡ bitAnd c 240 =
-        and-block 8 d 0 c 240 hc (omega arith) ∙ ap (λ (x : ℕ). x * 256 + bitAnd c 240) (and-zero-r d) ∙ zero-add (bitAnd c 240) in
+    and-block 8 d 0 c 240 hc (omega arith) ∙ ap (λ (x : ℕ). x * 256 + bitAnd c 240) (and-zero-r d) ∙ zero-add (bitAnd c 240) in
     let mid : bitAnd ((d * 256 + c) * 256 + b) 61440 ≡ bitAnd c 240 * 256 + 0 =
-        and-block 8 (d * 256 + c) 240 b 0 hb (omega arith) ∙ ap₂ (λ (x y : ℕ). x * 256 + y) top (and-zero-r b) in
+    and-block 8 (d * 256 + c) 240 b 0 hb (omega arith) ∙ ap₂ (λ (x y : ℕ). x * 256 + y) top (and-zero-r b) in
     let all : bitAnd (a + 256 * (b + 256 * (c + 256 * (d + 256 * 0)))) (15728896 - 2 ^ used) ≡ (bitAnd c 240 * 256 + 0) * 256 + bitAnd a (256 - 2 ^ used) =
-        ap₂ bitAnd word mask
-        ∙ and-block 8 ((d * 256 + c) * 256 + b) 61440 a (256 - 2 ^ used) ha (omega arith)
-        ∙ ap (λ (x : ℕ). x * 256 + bitAnd a (256 - 2 ^ used)) mid in
+    ap₂ bitAnd word mask
+    ∙ and-block 8 ((d * 256 + c) * 256 + b) 61440 a (256 - 2 ^ used) ha (omega arith)
+    ∙ ap (λ (x : ℕ). x * 256 + bitAnd a (256 - 2 ^ used)) mid in
     ap set all
     ∙ set-parts (bitAnd c 240 * 256 + 0) (bitAnd a (256 - 2 ^ used)) 256 (omega arith)
     ∙ ap₂ (λ (x y : Bool). x || y) (set-from a 8 used u ha) (set-parts (bitAnd c 240) 0 256 (omega arith) ∙ set-from c 8 4 (omega arith) hc)

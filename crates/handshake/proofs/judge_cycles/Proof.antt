@@ -27,70 +27,70 @@ loop-holds : tie.Need-loop-holds Inv-loop μ-loop
 loop-holds c = standing-start (c .before .before .before .args .s) (c .before .before .before .args .capture .now) (c .before .before .before .pre)
 
 add-next : tie.Need-add-next Inv-loop μ-loop
-add-next c = 
+add-next c =
     let a = c .before .before .before .before .before .args in
     let l = c .before .loop in
     let z = c .before .before .before .record-size in
     omega (arith, room (a .s) (a .capture .now) (l .at) (l .inv .whole) (c .loop-test .taken) (z .result) (z .ensures))
 
 sub-breaks : tie.Need-sub-breaks Inv-loop μ-loop
-sub-breaks c = 
+sub-breaks c =
     let a = c .before .before .before .before .before .args in
     let l = c .before .loop in
     let z = c .before .before .before .record-size in
     omega (arith, room (a .s) (a .capture .now) (l .at) (l .inv .whole) (c .loop-test .taken) (z .result) (z .ensures))
 
 part-breaks-start : tie.Need-part-breaks-start Inv-loop μ-loop
-part-breaks-start c = 
+part-breaks-start c =
     let a = c .before .before .before .before .before .args in
     let l = c .before .loop in
     let z = c .before .before .before .record-size in
     omega (arith, room (a .s) (a .capture .now) (l .at) (l .inv .whole) (c .loop-test .taken) (z .result) (z .ensures))
 
 part-breaks-end : tie.Need-part-breaks-end Inv-loop μ-loop
-part-breaks-end c = 
+part-breaks-end c =
     let a = c .before .before .before .before .before .args in
     let l = c .before .loop in
     let z = c .before .before .before .record-size in
     omega (arith, room (a .s) (a .capture .now) (l .at) (l .inv .whole) (c .loop-test .taken) (z .result) (z .ensures))
 
 breaks-requires : tie.Need-breaks-requires Inv-loop μ-loop
-breaks-requires c κs = 
+breaks-requires c κs =
     let a = c .before .before .before .before .before .before .args in
     let l = c .before .before .loop in
     let z = c .before .before .before .before .record-size in
     part-long (a .s) (a .capture .now) (l .at) (l .inv .whole) (c .before .loop-test .taken) (z .result) (z .ensures)
 
 returns : tie.Need-returns Inv-loop μ-loop
-returns c = 
+returns c =
     let a = c .before .before .before .before .before .before .before .before .args in
     let l = c .before .before .before .before .loop in
     let z = c .before .before .before .before .before .before .record-size in
     turn-bad (a .s) (a .capture .now) (l .from) (l .at) (l .k) (l .count) (l .waited) (l .inv) (c .before .before .before .loop-test .taken) (z .result) (z .ensures) (fault-is (a .s) (take (l .at + z .result - l .at) (drop (l .at) (a .capture .now))) (c .before .before .before .before .before .must-be-zero .result) (c .before .breaks .result) true (c .before .before .before .before .before .before .before .before .pre .width) (c .before .before .before .before .before .must-be-zero .ensures) (c .before .breaks .ensures) (c .if1 .taken))
 
 sub-read-header : tie.Need-sub-read-header Inv-loop μ-loop
-sub-read-header c = 
+sub-read-header c =
     let a = c .before .before .before .before .before .before .before .before .args in
     let l = c .before .before .before .before .loop in
     let z = c .before .before .before .before .before .before .record-size in
     omega (arith, room (a .s) (a .capture .now) (l .at) (l .inv .whole) (c .before .before .before .loop-test .taken) (z .result) (z .ensures))
 
 part-read-header-start : tie.Need-part-read-header-start Inv-loop μ-loop
-part-read-header-start c = 
+part-read-header-start c =
     let a = c .before .before .before .before .before .before .before .before .args in
     let l = c .before .before .before .before .loop in
     let z = c .before .before .before .before .before .before .record-size in
     omega (arith, room (a .s) (a .capture .now) (l .at) (l .inv .whole) (c .before .before .before .loop-test .taken) (z .result) (z .ensures))
 
 part-read-header-end : tie.Need-part-read-header-end Inv-loop μ-loop
-part-read-header-end c = 
+part-read-header-end c =
     let a = c .before .before .before .before .before .before .before .before .args in
     let l = c .before .before .before .before .loop in
     let z = c .before .before .before .before .before .before .record-size in
     omega (arith, room (a .s) (a .capture .now) (l .at) (l .inv .whole) (c .before .before .before .loop-test .taken) (z .result) (z .ensures))
 
 read-header-requires : tie.Need-read-header-requires Inv-loop μ-loop
-read-header-requires c κs = 
+read-header-requires c κs =
     let a = c .before .before .before .before .before .before .before .before .before .args in
     let l = c .before .before .before .before .before .loop in
     let z = c .before .before .before .before .before .before .before .record-size in
@@ -106,49 +106,49 @@ part-rule-of-end : tie.Need-part-rule-of-end Inv-loop μ-loop
 part-rule-of-end c = omega (arith, c .before .before .before .before .before .before .loop .inv .behind, c .before .before .before .before .before .before .loop .inv .within)
 
 sub-rule-of-2 : tie.Need-sub-rule-of-2 Inv-loop μ-loop
-sub-rule-of-2 c = 
+sub-rule-of-2 c =
     let a = c .before .before .before .before .before .before .before .before .before .before .before .args in
     let l = c .before .before .before .before .before .before .before .loop in
     let z = c .before .before .before .before .before .before .before .before .before .record-size in
     omega (arith, room (a .s) (a .capture .now) (l .at) (l .inv .whole) (c .before .before .before .before .before .before .loop-test .taken) (z .result) (z .ensures))
 
 part-rule-of-start-2 : tie.Need-part-rule-of-start-2 Inv-loop μ-loop
-part-rule-of-start-2 c = 
+part-rule-of-start-2 c =
     let a = c .before .before .before .before .before .before .before .before .before .before .before .args in
     let l = c .before .before .before .before .before .before .before .loop in
     let z = c .before .before .before .before .before .before .before .before .before .record-size in
     omega (arith, room (a .s) (a .capture .now) (l .at) (l .inv .whole) (c .before .before .before .before .before .before .loop-test .taken) (z .result) (z .ensures))
 
 part-rule-of-end-2 : tie.Need-part-rule-of-end-2 Inv-loop μ-loop
-part-rule-of-end-2 c = 
+part-rule-of-end-2 c =
     let a = c .before .before .before .before .before .before .before .before .before .before .before .args in
     let l = c .before .before .before .before .before .before .before .loop in
     let z = c .before .before .before .before .before .before .before .before .before .record-size in
     omega (arith, room (a .s) (a .capture .now) (l .at) (l .inv .whole) (c .before .before .before .before .before .before .loop-test .taken) (z .result) (z .ensures))
 
 rule-of-requires : tie.Need-rule-of-requires Inv-loop μ-loop
-rule-of-requires c κs = 
+rule-of-requires c κs =
     let a = c .before .before .before .before .before .before .before .before .before .before .before .before .args in
     let l = c .before .before .before .before .before .before .before .before .loop in
     let z = c .before .before .before .before .before .before .before .before .before .before .record-size in
     asks (a .s) (a .capture .now) (l .from) (l .at) (l .k) (l .count) (l .waited) (l .inv) (c .before .before .before .before .before .before .before .loop-test .taken) (z .result) (z .ensures) (c .before .before .before .before .before .before .before .before .before .before .before .before .pre) (c .before .before .read-header .result) (c .before .before .read-header .ensures) (fault-is (a .s) (take (l .at + z .result - l .at) (drop (l .at) (a .capture .now))) (c .before .before .before .before .before .before .before .before .before .must-be-zero .result) (c .before .before .before .before .before .breaks .result) false (c .before .before .before .before .before .before .before .before .before .before .before .before .pre .width) (c .before .before .before .before .before .before .before .before .before .must-be-zero .ensures) (c .before .before .before .before .before .breaks .ensures) (c .before .before .before .before .if1 .left))
 
 add-broken : tie.Need-add-broken Inv-loop μ-loop
-add-broken c = 
+add-broken c =
     let a = c .before .before .before .before .before .before .before .before .before .before .before .before .before .before .args in
     let l = c .before .before .before .before .before .before .before .before .before .before .loop in
     let z = c .before .before .before .before .before .before .before .before .before .before .before .before .record-size in
     omega (arith, l .inv .few, l .inv .within, c .before .before .before .before .before .before .before .before .before .before .before .before .before .before .pre .short)
 
 broken-requires : tie.Need-broken-requires Inv-loop μ-loop
-broken-requires c κs = 
+broken-requires c κs =
     let a = c .before .before .before .before .before .before .before .before .before .before .before .before .before .before .args in
     let l = c .before .before .before .before .before .before .before .before .before .before .loop in
     let z = c .before .before .before .before .before .before .before .before .before .before .before .before .record-size in
     (c .before .before .before .before .before .before .before .before .before .before .before .before .before .before .pre, c .before .before .before .before .before .before .before .before .before .before .before .must-be-zero .ensures, room (a .s) (a .capture .now) (l .at) (l .inv .whole) (c .before .before .before .before .before .before .before .before .before .loop-test .taken) (z .result) (z .ensures), rest-whole (a .s) (a .capture .now) (l .at) (l .inv .whole) (c .before .before .before .before .before .before .before .before .before .loop-test .taken) (z .result) (z .ensures), more (a .s) (a .capture .now) (l .at) (l .inv .whole) (c .before .before .before .before .before .before .before .before .before .loop-test .taken) (z .result) (z .ensures) (l .k) (l .inv .few), omega (arith, c .if2 .taken))
 
 returns-2 : tie.Need-returns-2 Inv-loop μ-loop
-returns-2 c = 
+returns-2 c =
     let a = c .before .before .before .before .before .before .before .before .before .before .before .before .before .before .before .args in
     let l = c .before .before .before .before .before .before .before .before .before .before .before .loop in
     let z = c .before .before .before .before .before .before .before .before .before .before .before .before .before .record-size in
@@ -158,7 +158,7 @@ transfers-requires : tie.Need-transfers-requires Inv-loop μ-loop
 transfers-requires c κs = search needs
 
 add-count : tie.Need-add-count Inv-loop μ-loop
-add-count c = 
+add-count c =
     let a = c .before .before .before .before .before .before .before .before .before .before .before .before .before .before .before .args in
     let l = c .before .before .before .before .before .before .before .before .before .before .before .loop in
     let z = c .before .before .before .before .before .before .before .before .before .before .before .before .before .record-size in
@@ -168,28 +168,28 @@ waiting-requires : tie.Need-waiting-requires Inv-loop μ-loop
 waiting-requires c κs = search needs
 
 add-k : tie.Need-add-k Inv-loop μ-loop
-add-k c = 
+add-k c =
     let a = c .before .before .before .before .before .before .before .before .before .before .before .before .before .before .before .before .args in
     let l = c .before .before .before .before .before .before .before .before .before .before .before .before .loop in
     let z = c .before .before .before .before .before .before .before .before .before .before .before .before .before .before .record-size in
     omega (arith, l .inv .few, l .inv .within, c .before .before .before .before .before .before .before .before .before .before .before .before .before .before .before .before .pre .short)
 
 loop-less : tie.Need-loop-less Inv-loop μ-loop
-loop-less c = 
+loop-less c =
     let a = c .before .before .before .before .before .before .before .before .before .before .before .before .before .before .before .before .args in
     let l = c .before .before .before .before .before .before .before .before .before .before .before .before .loop in
     let z = c .before .before .before .before .before .before .before .before .before .before .before .before .before .before .record-size in
     omega (arith, room (a .s) (a .capture .now) (l .at) (l .inv .whole) (c .before .before .before .before .before .before .before .before .before .before .before .loop-test .taken) (z .result) (z .ensures), z .ensures, size-pos (a .s))
 
 loop-again : tie.Need-loop-again Inv-loop μ-loop
-loop-again c = 
+loop-again c =
     let a = c .before .before .before .before .before .before .before .before .before .before .before .before .before .before .before .before .args in
     let l = c .before .before .before .before .before .before .before .before .before .before .before .before .loop in
     let z = c .before .before .before .before .before .before .before .before .before .before .before .before .before .before .record-size in
     goes-on (a .s) (a .capture .now) (l .from) (l .at) (l .k) (l .count) (l .waited) (l .inv) (c .before .before .before .before .before .before .before .before .before .before .before .loop-test .taken) (z .result) (z .ensures) (fault-is (a .s) (take (l .at + z .result - l .at) (drop (l .at) (a .capture .now))) (c .before .before .before .before .before .before .before .before .before .before .before .before .before .must-be-zero .result) (c .before .before .before .before .before .before .before .before .before .breaks .result) false (c .before .before .before .before .before .before .before .before .before .before .before .before .before .before .before .before .pre .width) (c .before .before .before .before .before .before .before .before .before .before .before .before .before .must-be-zero .ensures) (c .before .before .before .before .before .before .before .before .before .breaks .ensures) (c .before .before .before .before .before .before .before .before .if1 .left)) (c .before .before .before .rule-of .result) (c .before .before .before .rule-of .ensures) (c .before .before .if2 .left) (c .before .before .before .before .before .before .read-header .result) (c .before .before .before .before .before .before .read-header .ensures) (c .before .transfers .result) (c .before .transfers .ensures) (c .waiting .result) (c .waiting .ensures)
 
 returns-3 : tie.Need-returns-3 Inv-loop μ-loop
-returns-3 c = 
+returns-3 c =
     let a = c .before .before .before .before .before .args in
     let l = c .before .loop in
     turns-end (a .s) (a .capture .now) (l .from) (l .at) (l .k) (l .count) (l .waited) (l .inv) (c .loop-test .left)
