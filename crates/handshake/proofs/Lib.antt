@@ -1,4 +1,3 @@
 pub mod Differ
 pub mod Rules
-pub mod Steps
 pub mod Turns

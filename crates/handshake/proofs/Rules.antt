@@ -2,20 +2,18 @@
 use mathlib.Core.Path.{_≡_, refl, sym, ap, ap₂, _∙_, subst}
 use mathlib.Core.Bool.{Bool, true, false, not, _&&_, _||_, cond}
 use mathlib.Core.List.{List}
-use mathlib.Core.Option.{Option, none, some}
+use mathlib.Core.Option.{some}
 use Prim.Native.Nat.{ℕ, zero, suc, _/_, _%_, _^_, _≤_, _<_}
 use native.Mathlib.Omega.{arith}
 use borrow.Author.Tests.{eq-eqb, ne-eqb, leb-false}
 use lib.Dec.{eqb, leb, ltb}
 use lib.ListN.{length}
 use Rattle.stream.specs.declared.Shape.{Shape}
-use Rattle.stream.specs.Layout.{flags, pairOf, tkeep, tstrb, aresetn, tvalid, laneTypes, typesOf, anyReserved, size}
+use Rattle.stream.specs.Layout.{flags, pairOf, tkeep, tstrb, laneTypes, typesOf, anyReserved, size}
 use Rattle.stream.specs.Checks.{fieldFault, cycleFlags}
 use Rattle.stream.specs.Handshake.{waited, differs}
 use Rattle.stream.proofs.Bools.{neither}
-use Rattle.stream.proofs.Records.{size-pos}
 use Rattle.record.specs.declared.Header.{Header}
-use Rattle.record.specs.Header.{headerOf}
 use Rattle.handshake.specs.Scan.{beforeOf, lowestRule, CycleAt}
 
 strb-low : (s : Shape) (r : List ℕ) → fieldFault cycleFlags s r ≡ false → tstrb r < 2 ^ s .width
@@ -80,5 +78,6 @@ module _ (s : Shape) (h : Header) (w : Bool) (prev rec : List ℕ) (k : ℕ) (c 
       (subst (λ (x : Header). (n : ℕ) → x .strb < 2 ^ n → r ≡ anyReserved (typesOf n (x .keep) (x .strb))) (c .header) f (s .width)
       (strb-low s rec (c .sound)))
 
-  pub moved-needs : w ≡ true → (length prev ≡ length rec) × (0 < length rec)
-  moved-needs e = (c .before e, rw (c .whole) (size-pos s))
+  pub moved-needs : w ≡ true → (length prev ≡ length rec) × (8 ≤ length rec) × (length rec ≤ 23)
+  unfolding size
+  moved-needs e = (c .before e, rw (c .whole) (omega (arith, c .low)), rw (c .whole) (omega (arith, c .high)))

@@ -1,143 +1,222 @@
--- The pass over the cycles: what is known at its start, what one cycle more leaves known, and what is told at its end.
--- The verdict of the pass is judging's, since the first finding and the first bad field are kept apart. Assumes nothing.
+-- The pass over the cycles: what is known at its start, what one cycle more leaves known, and what is told at its end; and
+-- the pass behind a finding, which looks for a bad field only. The verdict of the pass is judging's, since the first finding
+-- and the first bad field are kept apart. Assumes nothing.
 use mathlib.Core.Path.{_≡_, refl, sym, ap, ap₂, _∙_, subst}
-use mathlib.Core.Bool.{Bool, true, false, not, _&&_, _||_, cond}
+use mathlib.Core.Bool.{Bool, true, false, not, _&&_, cond}
 use mathlib.Core.List.{List, [], _∷_, _++_}
 use mathlib.Core.Option.{Option, none, some}
-use Prim.Native.Nat.{ℕ, zero, suc, _+_, _-_, _*_, _/_, _%_, _≤_, _<_}
-use native.Mathlib.Nat.{zero-div, add-suc, suc-add, add-zero, zero-add}
+use Prim.Native.Nat.{ℕ, suc, _+_, _-_, _%_, _≤_, _<_}
+use native.Mathlib.Nat.{zero-div, add-zero, zero-add}
 use native.Mathlib.Numerals.{add-one}
 use native.Mathlib.Omega.{arith}
-use borrow.Author.Tests.{eq-eqb, ne-eqb, eqb-true, eqb-false}
+use borrow.Author.Tests.{ne-eqb}
 use lib.Dec.{eqb}
-use lib.ListN.{length, take, drop, length-take, length-drop, drop-of-length-le}
+use lib.ListN.{length, take, drop, length-drop, drop-of-length-le}
 use lib.Seq.{drop-drop, length-take-le}
-use Rattle.refusal.specs.declared.Refusal.{Refusal}
 use Rattle.refusal.specs.declared.Refusal.the-variants.{Width, Length, Field}
 use Rattle.stream.specs.declared.Shape.{Shape}
 use Rattle.stream.specs.declared.Verdict.{Verdict}
 use Rattle.stream.specs.declared.Verdict.the-variants.{Clean, Broken, Refused}
-use Rattle.stream.specs.Layout.{bitOf, size, records}
-use Rattle.stream.specs.Checks.{Check, check, first, fieldFault, cycleFlags, cycleChecks, widthCheck, lengthCheck}
-use Rattle.stream.specs.Handshake.{waited, waits, r1, r2, r3, r4, transferred, handshakes, Finding, finding, ruleChecks, findings, firstFinding, transferCount}
-use Rattle.stream.specs.Answers.{verdict, verdictValues, judgeAnswer, judgeChecks, Judged}
-use Rattle.stream.proofs.Records.{size-pos, FirstRecord, first-record}
+use Rattle.stream.specs.Layout.{bit, bitOf, size, records}
+use Rattle.stream.specs.Checks.{Check, first, fieldFault, cycleFlags, cycleChecks, widthCheck, lengthCheck}
+use Rattle.stream.specs.Handshake.{waited, waits, r1, r2, r3, r4, transferred, handshakes, Finding, finding, ruleChecks, findings}
+use Rattle.stream.specs.Answers.{verdict, verdictValues, judgeAnswer, Judged}
+use Rattle.stream.proofs.Records.{FirstRecord, first-record}
 use Rattle.stream.proofs.Repack.{width-fits, length-fits}
-use Rattle.handshake.specs.declared.Scan.{Scan}
-use Rattle.handshake.specs.declared.Step.{Step}
-use Rattle.handshake.specs.declared.Step.the-variants.{Bad, Next}
-use Rattle.handshake.specs.Scan.{beforeOf, lowestRule, scanStep, stepOf, verdictOf, scanned, start, Passed, Standing, StepAt}
+use Rattle.record.specs.declared.Header.{Header}
+use Rattle.record.specs.declared.Zeros.{Zeros}
+use Rattle.record.specs.Header.{headerOf, headerFault}
+use Rattle.record.specs.Zeros.{zerosOf}
+use Rattle.handshake.specs.Scan.{Scan, found, beforeOf, lowestRule, scanStep, verdictOf, scanned, start, orField, CycleAt, Passed, Standing, Looking}
 
--- ---- the loop
+-- ---- the record at `at`, where one is left; the code has a record's size in z
 
-pub standing-start : (s : Shape) (xs : List ℕ) → Passed s xs → Standing s xs 0 0 0 start
+size-seven : (s : Shape) → 7 ≤ size s
+unfolding size
+size-seven s = omega arith
+
+module _ (s : Shape) (xs : List ℕ) (at : ℕ) (whole : length (drop at xs) % size s ≡ 0) (l : at < length xs) (z : ℕ) (q : z ≡ size s) where
+  here : FirstRecord s (drop at xs)
+  here = first-record s (drop at xs) whole (omega (arith, length-drop at xs))
+
+  part-is : take (at + z - at) (drop at xs) ≡ take (size s) (drop at xs)
+  part-is = let long : at + z - at ≡ size s = omega arith in ap (λ (n : ℕ). take n (drop at xs)) long
+
+  gone : drop (at + z) xs ≡ drop (size s) (drop at xs)
+  gone = rw q (sym (drop-drop (size s) at xs))
+
+  pub room : at + z ≤ length xs
+  room = rw q (omega (arith, here .fits, length-drop at xs))
+
+  pub part-whole : length (take (at + z - at) (drop at xs)) ≡ size s
+  part-whole = rw part-is (length-take-le (size s) (drop at xs) (here .fits))
+
+  pub part-long : 7 ≤ length (take (at + z - at) (drop at xs))
+  part-long = rw part-whole (size-seven s)
+
+  pub rest-whole : length (drop (at + z) xs) % size s ≡ 0
+  rest-whole = subst (λ (ys : List ℕ). length ys % size s ≡ 0) (sym gone) (here .whole)
+
+  pub more : (k : ℕ) → k ≤ at → k + 1 ≤ at + z
+  more k h = omega (arith, size-seven s)
+
+  cycles-are : records s (drop at xs) ≡ take (at + z - at) (drop at xs) ∷ records s (drop (at + z) xs)
+  cycles-are = here .is ∙ ap₂ (λ (c ys : List ℕ). c ∷ records s ys) (sym part-is) (sym gone)
+
+none-left : (s : Shape) (xs : List ℕ) (at : ℕ) → length xs ≤ at → records s (drop at xs) ≡ []
+none-left s xs at l = ap (records s) (drop-of-length-le xs l) ∙ rw (zero-div (size s)) refl
+
+-- what the test of the bits that must be zero found, of a record
+pub fault-is : (s : Shape) (c : List ℕ) (z : Zeros) (r t : Bool) → s .width ≤ 16 → z ≡ zerosOf cycleFlags s
+    → ((used : ℕ) (x : Shape) → used ≤ 8 → x .width ≤ 16 → z ≡ zerosOf used x → r ≡ headerFault used x (headerOf c)) → r ≡ t
+    → fieldFault cycleFlags s c ≡ t
+fault-is s c z r t w e f g = sym (f cycleFlags s (omega arith) w e) ∙ g
+
+-- ---- behind a finding
+
+-- a finding stays, whatever follows
+found-on : (s : Shape) (b : Option (List ℕ)) (k : ℕ) (cs : List (List ℕ)) (n cycle rule : ℕ) (w : Bool) → 0 < rule
+    → scanned s b k cs (found n cycle rule w) ≡ orField s k cs (Broken cycle rule)
+found-on s b k [] n cycle rule w h = rw (ne-eqb rule 0 (λ e. omega arith)) refl
+found-on s b k (c ∷ cs) n cycle rule w h =
+    let no : eqb rule 0 ≡ false = ne-eqb rule 0 (λ e. omega arith) in
+    let kept : scanStep s b k c (found n cycle rule w) ≡ found (n + bitOf (transferred c)) cycle rule (waits c) =
+    λ i. found (n + bitOf (transferred c)) (cond (no i) k cycle) (cond (no i) (lowestRule s b c) rule) (waits c) in
+    ap (cond (fieldFault cycleFlags s c) (Refused (Field k)))
+    (ap (scanned s (some c) (suc k) cs) kept ∙ found-on s (some c) (suc k) cs (n + bitOf (transferred c)) cycle rule (waits c) h)
+
+pub looking-start : (s : Shape) (xs : List ℕ) (from j : ℕ) (v : Verdict) → from ≤ length xs → length (drop from xs) % size s ≡ 0 → j ≤ from
+    → Looking s xs from j from j v
+looking-start s xs from j v a b c = record { within = a; whole = b; few = c; same = refl }
+
+module _ (s : Shape) (xs : List ℕ) (from j at k cycle rule : ℕ) (h : Looking s xs from j at k (Broken cycle rule)) (n : 0 < rule) where
+  pub looks-bad : at < length xs → (z : ℕ) → z ≡ size s → fieldFault cycleFlags s (take (at + z - at) (drop at xs)) ≡ true
+      → (b : Option (List ℕ)) (count : ℕ) (w : Bool) → Refused (Field k) ≡ scanned s b j (records s (drop from xs)) (found count cycle rule w)
+  looks-bad l z q f b count w =
+      sym (ap (λ (cs : List (List ℕ)). orField s k cs (Broken cycle rule)) (cycles-are s xs at (h .whole) l z q) ∙ rw f refl)
+      ∙ h .same
+      ∙ sym (found-on s b j (records s (drop from xs)) count cycle rule w n)
+
+  pub looks-on : at < length xs → (z : ℕ) → z ≡ size s → fieldFault cycleFlags s (take (at + z - at) (drop at xs)) ≡ false
+      → Looking s xs from j (at + z) (k + 1) (Broken cycle rule)
+  looks-on l z q f =
+      record {
+        within = room s xs at (h .whole) l z q;
+        whole = rest-whole s xs at (h .whole) l z q;
+        few = more s xs at (h .whole) l z q k (h .few);
+        same =
+            ap (λ (i : ℕ). orField s i (records s (drop (at + z) xs)) (Broken cycle rule)) (add-one k)
+            ∙ sym (ap (λ (cs : List (List ℕ)). orField s k cs (Broken cycle rule)) (cycles-are s xs at (h .whole) l z q) ∙ rw f refl)
+            ∙ h .same;
+      }
+
+  pub looks-end : length xs ≤ at → (b : Option (List ℕ)) (count : ℕ) (w : Bool)
+      → Broken cycle rule ≡ scanned s b j (records s (drop from xs)) (found count cycle rule w)
+  looks-end l b count w =
+      sym (ap (λ (cs : List (List ℕ)). orField s k cs (Broken cycle rule)) (none-left s xs at l))
+      ∙ h .same
+      ∙ sym (found-on s b j (records s (drop from xs)) count cycle rule w n)
+
+-- ---- before a finding
+
+bit-low : (t : Bool) → bitOf t ≤ 1
+bit-low true = omega arith
+bit-low false = omega arith
+
+pub at-most-one : (n f : ℕ) → n ≡ bitOf (bit 3 f && bit 1 f && bit 2 f) → n ≤ 1
+at-most-one n f e = rw e (bit-low (bit 3 f && bit 1 f && bit 2 f))
+
+pub standing-start : (s : Shape) (xs : List ℕ) → Passed s xs → Standing s xs 0 0 0 0 false
 standing-start s xs p =
     record {
       within = omega arith;
       whole = p .whole;
       behind = omega arith;
-      count = omega arith;
+      counted = omega arith;
       few = omega arith;
       waits = refl;
       before = λ e. let z : _≡_ {A = ℕ} 0 1 = cc in absurd (omega arith);
       same = refl;
     }
 
--- the record of the cycle, where one is left
-pub turn-record : (s : Shape) (xs : List ℕ) (from at k : ℕ) (st : Scan) → Standing s xs from at k st → at < length xs → FirstRecord s (drop at xs)
-turn-record s xs from at k st h l = first-record s (drop at xs) (h .whole) (omega (arith, length-drop at xs))
+module _ (s : Shape) (xs : List ℕ) (from at k count : ℕ) (wait : Bool) (h : Standing s xs from at k count wait) where
+  -- no cycle is left
+  pub turns-end : length xs ≤ at → Clean count ≡ scanned s none 0 (records s xs) start
+  turns-end l =
+      sym (ap (λ (cs : List (List ℕ)). scanned s (beforeOf k (take (at - from) (drop from xs))) k cs (found count (k - 1) 0 wait)) (none-left s xs at l))
+      ∙ h .same
 
-step-is-bad : (s : Shape) (b : Option (List ℕ)) (k : ℕ) (c : List ℕ) (st : Scan) (f : Bool) → fieldFault cycleFlags s c ≡ f → Bad ≡ cond f Bad (Next (scanStep s b k c st)) → f ≡ true
-step-is-bad s b k c st true e h = refl
-step-is-bad s b k c st false e h = let z : _≡_ {A = ℕ} 0 1 = cc in absurd (omega arith)
+  module _ (l : at < length xs) (z : ℕ) (q : z ≡ size s) where
+    -- the record before, and the record
+    abbrev prev : List ℕ
+    prev = take (at - from) (drop from xs)
 
-step-is-next : (s : Shape) (b : Option (List ℕ)) (k : ℕ) (c : List ℕ) (st more : Scan) (f : Bool) → fieldFault cycleFlags s c ≡ f
-    → Next more ≡ cond f Bad (Next (scanStep s b k c st)) → (f ≡ false) × (more ≡ scanStep s b k c st)
-step-is-next s b k c st more true e h = let z : _≡_ {A = ℕ} 0 1 = cc in absurd (omega arith)
-step-is-next s b k c st more false e h = (refl, cc)
+    abbrev rec : List ℕ
+    rec = take (at + z - at) (drop at xs)
 
-bit-low : (t : Bool) → bitOf t ≤ 1
-bit-low true = omega arith
-bit-low false = omega arith
+    -- a cycle with a bad field ends the pass
+    pub turn-bad : fieldFault cycleFlags s rec ≡ true → Refused (Field k) ≡ scanned s none 0 (records s xs) start
+    turn-bad f =
+        sym (ap (λ (cs : List (List ℕ)). scanned s (beforeOf k prev) k cs (found count (k - 1) 0 wait)) (cycles-are s xs at (h .whole) l z q) ∙ rw f refl)
+        ∙ h .same
 
-module _ (s : Shape) (xs : List ℕ) (from at k : ℕ) (st : Scan) (h : Standing s xs from at k st) (l : at < length xs) where
-  -- the record before, the record, and what the step says of them
-  abbrev prev : List ℕ
-  prev = take (at - from) (drop from xs)
+    -- what a call of `rule_of` asks
+    pub asks : Passed s xs → (d : Header) → d ≡ headerOf rec → fieldFault cycleFlags s rec ≡ false → CycleAt s d wait prev rec k
+    asks p d e f =
+        record {
+          low = p .low;
+          high = p .width;
+          header = e;
+          sound = f;
+          waits = h .waits;
+          whole = part-whole s xs at (h .whole) l z q;
+          before = λ w. length-take-le (at - from) (drop from xs) (omega (arith, length-drop from xs, h .behind, h .within)) ∙ h .before w ∙ sym (part-whole s xs at (h .whole) l z q);
+        }
 
-  abbrev rec : List ℕ
-  rec = take (size s) (drop at xs)
+    -- the verdict is the one on the cycles behind this one
+    stepped : fieldFault cycleFlags s rec ≡ false
+        → scanned s (some rec) (k + 1) (records s (drop (at + z) xs)) (found (count + bitOf (transferred rec)) k (lowestRule s (beforeOf k prev) rec) (waits rec))
+        ≡ scanned s none 0 (records s xs) start
+    stepped f =
+        ap (λ (i : ℕ). scanned s (some rec) i (records s (drop (at + z) xs)) (found (count + bitOf (transferred rec)) k (lowestRule s (beforeOf k prev) rec) (waits rec))) (add-one k)
+        ∙ sym (ap (λ (cs : List (List ℕ)). scanned s (beforeOf k prev) k cs (found count (k - 1) 0 wait)) (cycles-are s xs at (h .whole) l z q) ∙ rw f refl)
+        ∙ h .same
 
-  -- a cycle with a bad field ends the pass
-  pub turn-bad : (r : Step) → r ≡ Bad → r ≡ stepOf s (beforeOf k prev) k rec st → Refused (Field k) ≡ scanned s none 0 (records s xs) start
-  turn-bad r q e =
-      let bad = step-is-bad s (beforeOf k prev) k rec st (fieldFault cycleFlags s rec) refl (sym q ∙ e) in
-      sym (ap (λ (cs : List (List ℕ)). scanned s (beforeOf k prev) k cs st) (turn-record s xs from at k st h l .is) ∙ rw bad refl) ∙ h .same
+    -- a finding
+    pub finds : fieldFault cycleFlags s rec ≡ false → (rule : ℕ) → rule ≡ lowestRule s (beforeOf k prev) rec → (v : Verdict)
+        → ((b : Option (List ℕ)) (n : ℕ) (w : Bool) → v ≡ scanned s b (k + 1) (records s (drop (at + z) xs)) (found n k rule w))
+        → v ≡ scanned s none 0 (records s xs) start
+    finds f rule e v g =
+        g (some rec) (count + bitOf (transferred rec)) (waits rec)
+        ∙ ap (λ (i : ℕ). scanned s (some rec) (k + 1) (records s (drop (at + z) xs)) (found (count + bitOf (transferred rec)) k i (waits rec))) e
+        ∙ stepped f
 
-  -- a cycle more
-  pub turn-next : (r : Step) (more : Scan) → r ≡ Next more → r ≡ stepOf s (beforeOf k prev) k rec st → Standing s xs at (at + size s) (k + 1) more
-  turn-next r more q e =
-      let f = turn-record s xs from at k st h l in
-      let m = step-is-next s (beforeOf k prev) k rec st more (fieldFault cycleFlags s rec) refl (sym q ∙ e) in
-      let gone : drop (at + size s) xs ≡ drop (size s) (drop at xs) = sym (drop-drop (size s) at xs) in
-      let long : at + size s - at ≡ size s = omega arith in
-      let now : beforeOf (k + 1) (take (at + size s - at) (drop at xs)) ≡ some rec = rw (add-one k, long) refl in
-      record {
-        within = omega (arith, f .fits, length-drop at xs);
-        whole = subst (λ (ys : List ℕ). length ys % size s ≡ 0) (sym gone) (f .whole);
-        behind = omega arith;
-        count = omega (arith, ap (λ (x : Scan). x .count) (m .1), h .count, bit-low (transferred rec));
-        few = omega (arith, h .few, size-pos s);
-        waits = ap (λ (x : Scan). x .waited) (m .1) ∙ sym (ap waited now);
-        before = λ w. long;
-        same =
-            ap₂ (λ (b : Option (List ℕ)) (j : ℕ). scanned s b j (records s (drop (at + size s) xs)) more) now (add-one k)
-            ∙ ap₂ (λ (ys : List ℕ) (x : Scan). scanned s (some rec) (suc k) (records s ys) x) gone (m .1)
-            ∙ sym (ap (λ (cs : List (List ℕ)). scanned s (beforeOf k prev) k cs st) (f .is) ∙ rw (m .0) refl)
-            ∙ h .same;
-      }
-
--- what a call of `advance` asks
-pub turn-needs : (s : Shape) (xs : List ℕ) (from at k : ℕ) (st : Scan) → Passed s xs → Standing s xs from at k st → at < length xs
-    → StepAt s st (take (at - from) (drop from xs)) (take (size s) (drop at xs)) k
-turn-needs s xs from at k st p h l =
-    let f = turn-record s xs from at k st h l in
-    let whole = length-take-le (size s) (drop at xs) (f .fits) in
-    record {
-      width = p .width;
-      count = h .count;
-      few = omega (arith, p .short, h .few);
-      waits = h .waits;
-      whole = whole;
-      before = λ e. length-take-le (at - from) (drop from xs) (omega (arith, length-drop from xs, h .behind, h .within)) ∙ h .before e ∙ sym whole;
-    }
-
--- the same for the code, which has the record's size in z
-module _ (s : Shape) (xs : List ℕ) (from at k : ℕ) (st : Scan) (h : Standing s xs from at k st) (l : at < length xs) (z : ℕ) (q : z ≡ size s) where
-  part-is : take (at + z - at) (drop at xs) ≡ take (size s) (drop at xs)
-  part-is = let long : at + z - at ≡ size s = omega arith in ap (λ (n : ℕ). take n (drop at xs)) long
-
-  pub room : at + z ≤ length xs
-  room = rw q (omega (arith, turn-record s xs from at k st h l .fits, length-drop at xs))
-
-  pub asks : Passed s xs → StepAt s st (take (at - from) (drop from xs)) (take (at + z - at) (drop at xs)) k
-  asks p = rw part-is (turn-needs s xs from at k st p h l)
-
-  pub ends : (r : Step) → r ≡ Bad → r ≡ stepOf s (beforeOf k (take (at - from) (drop from xs))) k (take (at + z - at) (drop at xs)) st
-      → Refused (Field k) ≡ scanned s none 0 (records s xs) start
-  ends r e f = turn-bad s xs from at k st h l r e (rw part-is at f)
-
-  pub goes-on : (r : Step) (more : Scan) → r ≡ Next more
-      → r ≡ stepOf s (beforeOf k (take (at - from) (drop from xs))) k (take (at + z - at) (drop at xs)) st → Standing s xs at (at + z) (k + 1) more
-  goes-on r more e f = rw q (turn-next s xs from at k st h l r more e (rw part-is at f))
-
--- no cycle is left
-pub turns-end : (s : Shape) (xs : List ℕ) (from at k : ℕ) (st : Scan) → Standing s xs from at k st → length xs ≤ at
-    → verdictOf st ≡ scanned s none 0 (records s xs) start
-turns-end s xs from at k st h l =
-    let none-left : drop at xs ≡ [] = drop-of-length-le xs l in
-    sym (ap (λ (ys : List ℕ). scanned s (beforeOf k (take (at - from) (drop from xs))) k (records s ys) st) none-left ∙ rw (zero-div (size s)) refl)
-    ∙ h .same
+    -- none, and a cycle more
+    pub goes-on : fieldFault cycleFlags s rec ≡ false → (rule : ℕ) → rule ≡ lowestRule s (beforeOf k prev) rec → rule ≡ 0
+        → (d : Header) → d ≡ headerOf rec → (n : ℕ) → n ≡ bitOf (bit 3 (d .flags) && bit 1 (d .flags) && bit 2 (d .flags))
+        → (w : Bool) → w ≡ (bit 3 (d .flags) && bit 1 (d .flags) && not (bit 2 (d .flags))) → Standing s xs at (at + z) (k + 1) (count + n) w
+    goes-on f rule e none' d is n counted w waiting =
+        let long : at + z - at ≡ size s = omega arith in
+        let last : k + 1 - 1 ≡ k = omega arith in
+        let now : beforeOf (k + 1) rec ≡ some rec = rw (add-one k) refl in
+        let same-count : n ≡ bitOf (transferred rec) =
+        counted ∙ ap (λ (g : Header). bitOf (bit 3 (g .flags) && bit 1 (g .flags) && bit 2 (g .flags))) is in
+        let same-wait : w ≡ waits rec = waiting ∙ ap (λ (g : Header). bit 3 (g .flags) && bit 1 (g .flags) && not (bit 2 (g .flags))) is in
+        let none-broken : 0 ≡ lowestRule s (beforeOf k prev) rec = sym none' ∙ e in
+        let state : found (count + n) (k + 1 - 1) 0 w ≡ found (count + bitOf (transferred rec)) k (lowestRule s (beforeOf k prev) rec) (waits rec) =
+        λ i. found (count + same-count i) (last i) (none-broken i) (same-wait i) in
+        record {
+          within = room s xs at (h .whole) l z q;
+          whole = rest-whole s xs at (h .whole) l z q;
+          behind = omega arith;
+          counted = omega (arith, h .counted, at-most-one n (d .flags) counted);
+          few = more s xs at (h .whole) l z q k (h .few);
+          waits = same-wait ∙ sym (ap waited now);
+          before = λ t. long;
+          same =
+              ap₂ (λ (b : Option (List ℕ)) (st : Scan). scanned s b (k + 1) (records s (drop (at + z) xs)) st) now state
+              ∙ stepped f;
+        }
 
 -- ---- the pass against the definition of judging
 
@@ -200,7 +279,8 @@ module _ (s : Shape) (xs : List ℕ) where
   pub passed : widthCheck (s .width) .found ≡ false → lengthCheck s xs .found ≡ false → Passed s xs
   passed w l =
       let n = length-fits s xs l in
-      record { width = width-fits (s .width) w .high; whole = n .1; short = n .0 }
+      let f = width-fits (s .width) w in
+      record { low = f .low; width = f .high; whole = n .1; short = n .0 }
 
   judged : (v : Verdict) → v ≡ judgeAnswer s xs → Judged s xs v
   judged v e = record { is = e; says = ap verdictValues e }

@@ -1,65 +1,62 @@
 // Judging a take of cycle records against the handshake rules. A record's octets are read by the crate record; what the
 // rules say is in stream's Handshake.
 use record::Header;
+use record::Zeros;
 use refusal::Refusal;
 use stream::Shape;
 use stream::Verdict;
 ghost use mathlib.Core.Path.{_≡_};
 ghost use mathlib.Core.List.{List};
-ghost use Prim.Native.Nat.{ℕ, _+_, _≤_, _<_, _^_, _%_};
-ghost use lib.ListN.{length};
-ghost use Rattle.record.specs.Header.{headerOf};
-ghost use mathlib.Core.Bool.{_&&_, not, true};
-ghost use mathlib.Core.Option.{none, some};
+ghost use Prim.Native.Nat.{ℕ, _+_, _≤_, _<_, _%_};
+ghost use lib.ListN.{length, take, drop};
+ghost use mathlib.Core.Bool.{Bool, _&&_, not, true};
+ghost use mathlib.Core.Option.{Option, none, some};
 ghost use Rattle.stream.specs.Layout.{size, records, bit, bitOf};
-ghost use Rattle.stream.specs.Handshake.{waited, transferred, waits, differs};
+ghost use Rattle.stream.specs.Checks.{cycleFlags};
+ghost use Rattle.stream.specs.Handshake.{sameOctets, differs};
+ghost use Rattle.record.specs.Zeros.{zerosOf};
 ghost use Rattle.stream.specs.Answers.{Judged};
-ghost use Rattle.handshake.specs.Scan.{beforeOf, lowestRule, stepOf, verdictOf, scanned, start, Left, CycleAt, StepAt, Passed};
+ghost use Rattle.handshake.specs.Scan.{beforeOf, lowestRule, scanned, start, found, CycleAt, Passed};
 
-// What is known after some cycles: the transfers so far, the first finding (rule 0: none yet), whether the last waited.
-pub struct Scan {
-    pub count: usize,
-    pub cycle: usize,
-    pub rule: u32,
-    pub waited: bool,
-}
-
-// One cycle more, or a cycle with a bit that must be zero.
-pub enum Step {
-    Bad,
-    Next(Scan),
-}
-
-// The octet up to which two records of one size are alike from octet 1 on, as far as eight at a time tell: those after it
-// are still to be compared.
-fn same_words(prev: &[u8], rec: &[u8]) -> usize
-    requires { ⌜ (length (now prev) ≡ length (now rec)) × (0 < length (now rec)) ⌝ }
-    ensures { λ r. ⌜ (1 ≤ r) × (r ≤ length (now (rec .entry))) × Left (now (prev .entry)) (now (rec .entry)) r ⌝ }
+// Whether some of the four octets from octet i on differ between two records.
+fn differ4(prev: &[u8], rec: &[u8], i: usize) -> bool
+    requires { ⌜ (i + 4 ≤ length (now prev)) × (i + 4 ≤ length (now rec)) ⌝ }
+    ensures { λ r. ⌜ r ≡ not (sameOctets (take 4 (drop i (now (prev .entry)))) (take 4 (drop i (now (rec .entry))))) ⌝ }
 {
-    let mut i = 1;
-    while i + 8 <= rec.len() {
-        if words::load8(prev, i) != words::load8(rec, i) {
-            return i;
-        }
-        i += 8;
-    }
-    i
+    words::load4(prev, i) != words::load4(rec, i)
 }
 
-// Whether some octet from 1 on, or TLAST, differs between two records of one size.
+// The same for eight octets.
+fn differ8(prev: &[u8], rec: &[u8], i: usize) -> bool
+    requires { ⌜ (i + 8 ≤ length (now prev)) × (i + 8 ≤ length (now rec)) ⌝ }
+    ensures { λ r. ⌜ r ≡ not (sameOctets (take 8 (drop i (now (prev .entry)))) (take 8 (drop i (now (rec .entry))))) ⌝ }
+{
+    words::load8(prev, i) != words::load8(rec, i)
+}
+
+// Whether some octet from 1 on, or TLAST, differs between two records of one size: groups that may overlap are compared.
 fn changed(prev: &[u8], rec: &[u8]) -> bool
-    requires { ⌜ (length (now prev) ≡ length (now rec)) × (0 < length (now rec)) ⌝ }
+    requires { ⌜ (length (now prev) ≡ length (now rec)) × (8 ≤ length (now rec)) × (length (now rec) ≤ 23) ⌝ }
     ensures { λ r. ⌜ r ≡ differs (some (now (prev .entry))) (now (rec .entry)) ⌝ }
 {
     if prev[0] % 2 != rec[0] % 2 {
         return true;
     }
-    let mut i = same_words(prev, rec);
-    while i < rec.len() {
-        if prev[i] != rec[i] {
+    let n = rec.len();
+    if n == 8 {
+        if differ4(prev, rec, 1) {
             return true;
         }
-        i += 1;
+        return differ4(prev, rec, 4);
+    }
+    if differ8(prev, rec, 1) {
+        return true;
+    }
+    if differ8(prev, rec, n - 8) {
+        return true;
+    }
+    if 17 < n {
+        return differ8(prev, rec, 9);
     }
     false
 }
@@ -95,7 +92,7 @@ pub fn transfers(flags: u32) -> usize
 
 // Whether the record before waited and this one differs from it.
 fn moved(waited: bool, prev: &[u8], rec: &[u8]) -> bool
-    requires { ⌜ (waited ≡ true → (length (now prev) ≡ length (now rec)) × (0 < length (now rec))) ⌝ }
+    requires { ⌜ (waited ≡ true → (length (now prev) ≡ length (now rec)) × (8 ≤ length (now rec)) × (length (now rec) ≤ 23)) ⌝ }
     ensures { λ r. ⌜ r ≡ (waited && differs (some (now (prev .entry))) (now (rec .entry))) ⌝ }
 {
     if waited {
@@ -131,42 +128,32 @@ fn rule_of(s: Shape, h: Header, waited: bool, prev: &[u8], rec: &[u8], k: usize)
     0
 }
 
-// One cycle: `rec` is its record, and `prev` the record before it.
-fn advance(s: Shape, st: Scan, prev: &[u8], rec: &[u8], k: usize) -> Step
-    requires { ⌜ StepAt s st (now prev) (now rec) k ⌝ }
-    ensures { λ r. ⌜ r ≡ stepOf s (beforeOf k (now (prev .entry))) k (now (rec .entry)) st ⌝ }
+// A finding stands, of this cycle and rule. The cycles from cycle j on, whose records begin at octet `from`, are only looked
+// through for a bit that must be zero.
+fn broken(
+    s: Shape,
+    z: Zeros,
+    capture: &[u8],
+    from: usize,
+    j: usize,
+    cycle: usize,
+    rule: u32,
+) -> Verdict
+    requires { ⌜ Passed s (now capture) × (z ≡ zerosOf cycleFlags s) × (from ≤ length (now capture)) × (length (drop from (now capture)) % size s ≡ 0) × (j ≤ from) × (0 < rule) ⌝ }
+    ensures { λ r. ⌜ ((before : Option (List ℕ)) (count : ℕ) (wait : Bool) → r ≡ scanned s before j (records s (drop from (now (capture .entry)))) (found count cycle rule wait)) ⌝ }
 {
-    let h = record::read_header(rec);
-    if record::field_fault(h, 4, s) {
-        return Step::Bad;
+    let size = record::record_size(s);
+    let mut at = from;
+    let mut k = j;
+    while at < capture.len() {
+        let next = at + size;
+        if record::breaks(&capture[at..next], z) {
+            return Verdict::Refused(Refusal::Field(k));
+        }
+        at = next;
+        k += 1;
     }
-    let count = st.count + transfers(h.flags);
-    let waited = waiting(h.flags);
-    if st.rule != 0 {
-        return Step::Next(Scan {
-            count,
-            cycle: st.cycle,
-            rule: st.rule,
-            waited,
-        });
-    }
-    let rule = rule_of(s, h, st.waited, prev, rec, k);
-    Step::Next(Scan {
-        count,
-        cycle: k,
-        rule,
-        waited,
-    })
-}
-
-// The verdict on what is known after the last cycle.
-fn conclude(st: Scan) -> Verdict
-    ensures { λ r. ⌜ r ≡ verdictOf st ⌝ }
-{
-    if st.rule == 0 {
-        return Verdict::Clean(st.count);
-    }
-    Verdict::Broken(st.cycle, st.rule)
+    Verdict::Broken(cycle, rule)
 }
 
 // Judges the cycles of a take whose width and length have passed their tests.
@@ -175,26 +162,29 @@ fn judge_cycles(s: Shape, capture: &[u8]) -> Verdict
     ensures { λ r. ⌜ r ≡ scanned s none 0 (records s (now (capture .entry))) start ⌝ }
 {
     let size = record::record_size(s);
-    let mut st = Scan {
-        count: 0,
-        cycle: 0,
-        rule: 0,
-        waited: false,
-    };
+    let z = record::must_be_zero(4, s);
+    let mut count = 0;
+    let mut waited = false;
     let mut from = 0;
     let mut at = 0;
     let mut k = 0;
     while at < capture.len() {
         let next = at + size;
-        let Step::Next(more) = advance(s, st, &capture[from..at], &capture[at..next], k) else {
+        if record::breaks(&capture[at..next], z) {
             return Verdict::Refused(Refusal::Field(k));
-        };
-        st = more;
+        }
+        let h = record::read_header(&capture[at..next]);
+        let rule = rule_of(s, h, waited, &capture[from..at], &capture[at..next], k);
+        if rule != 0 {
+            return broken(s, z, capture, next, k + 1, k, rule);
+        }
+        count += transfers(h.flags);
+        waited = waiting(h.flags);
         from = at;
         at = next;
         k += 1;
     }
-    conclude(st)
+    Verdict::Clean(count)
 }
 
 // Judges a take of cycle records: clean with the count of its transfers, or broken with the earliest cycle that breaks a

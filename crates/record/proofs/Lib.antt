@@ -3,3 +3,4 @@ pub mod DataPart
 pub mod Fill
 pub mod Word
 pub mod TwoWords
+pub mod ZeroBits

@@ -2,12 +2,15 @@
 // Layout knowledge stands here and in stream's Layout only. Functions with a `requires` are for the crates above, which
 // make the test first; the calls of the library are there.
 mod lookup;
+mod masks;
 mod usual;
 pub mod write;
 
 pub use lookup::data_octets;
 pub use lookup::data_start;
 pub use lookup::find_data;
+pub use masks::breaks;
+pub use masks::must_be_zero;
 use stream::Shape;
 pub use usual::is_usual;
 ghost use mathlib.Core.Path.{_≡_};
@@ -24,6 +27,12 @@ pub struct Header {
     pub tdest: u8,
     pub keep: u32,
     pub strb: u32,
+}
+
+// The bits of a header that must be zero: in octets 0 to 3, and in octets 3 to 6.
+pub struct Zeros {
+    pub low: u32,
+    pub high: u32,
 }
 
 // What is wrong with a transfer record.

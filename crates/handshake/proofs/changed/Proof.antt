@@ -1,74 +1,73 @@
--- `handshake::changed` meets its contract. The loop's invariant: whether the records differ is whether they differ from
--- octet i on. Assumes nothing.
-use Prim.Native.Nat.{_≤_, _-_}
+-- `handshake::changed` meets its contract: a group that differs tells, and the groups cover all octets from 1 on. Assumes nothing.
 use native.Mathlib.Omega.{arith}
+use Prim.Native.Nat.{_-_}
 use lib.ListN.{length}
+use Rattle.handshake.proofs.Differ.{differs-last, differs-group, ends-8, ends-17, ends-23}
 use borrow.Author.Needs.{needs}
-use Rattle.handshake.specs.Scan.{Left}
-use Rattle.handshake.proofs.Differ.{left-more, differs-last, differs-at, differs-not}
 use Rattle.handshake.proofs.changed.Statement.{statement}
 use Rattle.handshake.proofs.changed.Tie as tie
-use Rattle.handshake.proofs.changed.Reads as reads
-use Rattle.handshake.proofs.changed.Lts as lts
-use Rattle.handshake.proofs.same_words.Reads as same-words-reads
 
-abbrev Inv-loop : tie.InvT-loop
-Inv-loop prev rec i₀ i = (1 ≤ i) × (i ≤ length rec) × Left prev rec i
+shared-slice-read-if1 : tie.Need-shared-slice-read-if1
+shared-slice-read-if1 c = search needs
 
-abbrev μ-loop : tie.MeasureT-loop
-μ-loop prev rec i₀ i = length rec - i
+shared-slice-read-if1-2 : tie.Need-shared-slice-read-if1-2
+shared-slice-read-if1-2 c = search needs
 
-shared-slice-read-if1 : tie.Need-shared-slice-read-if1 Inv-loop μ-loop
-shared-slice-read-if1 c = omega arith
-
-shared-slice-read-if1-2 : tie.Need-shared-slice-read-if1-2 Inv-loop μ-loop
-shared-slice-read-if1-2 c = omega arith
-
-returns : tie.Need-returns Inv-loop μ-loop
+returns : tie.Need-returns
 returns c = differs-last (c .before .before .before .before .before .args .prev .now) (c .before .before .before .before .before .args .rec .now) (c .if1 .taken)
 
-same-words-requires : tie.Need-same-words-requires Inv-loop μ-loop
-same-words-requires c κs = search needs
+differ4-requires : tie.Need-differ4-requires
+differ4-requires c κs = search needs
 
-loop-holds : tie.Need-loop-holds Inv-loop μ-loop
-loop-holds c = (c .same-words .ensures .0, c .same-words .ensures .1, c .same-words .ensures .2)
+returns-2 : tie.Need-returns-2
+returns-2 c = differs-group (c .before .before .before .before .before .before .before .before .args .prev .now) (c .before .before .before .before .before .before .before .before .args .rec .now) 4 1 (c .before .differ4 .result) (omega arith) (c .before .differ4 .ensures) (c .if3 .taken)
 
-shared-slice-read-if2 : tie.Need-shared-slice-read-if2 Inv-loop μ-loop
-shared-slice-read-if2 c = omega arith
+differ4-requires-2 : tie.Need-differ4-requires-2
+differ4-requires-2 c κs = search needs
 
-shared-slice-read-if2-2 : tie.Need-shared-slice-read-if2-2 Inv-loop μ-loop
-shared-slice-read-if2-2 c = omega arith
+returns-3 : tie.Need-returns-3
+returns-3 c = ends-8 (c .before .before .before .before .before .before .before .before .before .args .prev .now) (c .before .before .before .before .before .before .before .before .before .args .rec .now) (c .before .before .before .before .before .before .before .before .before .pre .0) (c .before .before .before .before .if1 .left) (c .before .before .before .if2 .taken) (c .before .before .differ4 .result) (c .before .before .differ4 .ensures) (c .before .if3 .left) (c .differ42 .result) (c .differ42 .ensures)
 
-returns-2 : tie.Need-returns-2 Inv-loop μ-loop
-returns-2 c = differs-at (c .before .before .before .before .before .before .before .before .before .before .before .args .prev .now) (c .before .before .before .before .before .before .before .before .before .before .before .args .rec .now) (c .before .before .before .before .loop .i) (omega (arith, c .before .before .before .before .before .before .before .before .before .before .before .pre .0, c .before .before .before .loop-test .taken)) (c .before .before .before .loop-test .taken) (c .if2 .taken) (c .before .before .before .before .loop .inv .2)
+differ8-requires : tie.Need-differ8-requires
+differ8-requires c κs = search needs
 
-add-i : tie.Need-add-i Inv-loop μ-loop
-add-i c = omega arith
+returns-4 : tie.Need-returns-4
+returns-4 c = differs-group (c .before .before .before .before .before .before .before .before .args .prev .now) (c .before .before .before .before .before .before .before .before .args .rec .now) 8 1 (c .before .differ8 .result) (omega arith) (c .before .differ8 .ensures) (c .if4 .taken)
 
-loop-less : tie.Need-loop-less Inv-loop μ-loop
-loop-less c = omega arith
+sub-differ8 : tie.Need-sub-differ8
+sub-differ8 c = search needs
 
-loop-again : tie.Need-loop-again Inv-loop μ-loop
-loop-again c = (omega arith, omega arith, left-more (c .before .before .before .before .before .before .before .before .before .before .before .args .prev .now) (c .before .before .before .before .before .before .before .before .before .before .before .args .rec .now) (c .before .before .before .before .loop .i) (omega (arith, c .before .before .before .before .before .before .before .before .before .before .before .pre .0, c .before .before .before .loop-test .taken)) (c .before .before .before .loop-test .taken) (c .if2 .left) (c .before .before .before .before .loop .inv .2))
+differ8-requires-2 : tie.Need-differ8-requires-2
+differ8-requires-2 c κs = search needs
 
-returns-3 : tie.Need-returns-3 Inv-loop μ-loop
-returns-3 c = differs-not (c .before .before .before .before .before .before .before .before .args .prev .now) (c .before .before .before .before .before .before .before .before .args .rec .now) (c .before .loop .i) (omega (arith, c .before .before .before .before .before .before .before .before .pre .0, c .loop-test .left)) (c .loop-test .left) (c .before .before .before .if1 .left) (c .before .loop .inv .2)
+returns-5 : tie.Need-returns-5
+returns-5 c = differs-group (c .before .before .before .before .before .before .before .before .before .before .args .prev .now) (c .before .before .before .before .before .before .before .before .before .before .args .rec .now) 8 (length (c .before .before .before .before .before .before .before .before .before .before .args .rec .now) - 8) (c .before .differ82 .result) (omega (arith, c .before .before .before .before .before .before .before .before .before .before .pre .1, c .before .before .before .before .if2 .left)) (c .before .differ82 .ensures) (c .if5 .taken)
+
+differ8-requires-3 : tie.Need-differ8-requires-3
+differ8-requires-3 c κs = search needs
+
+returns-6 : tie.Need-returns-6
+returns-6 c = ends-23 (c .before .before .before .before .before .before .before .before .before .before .before .before .args .prev .now) (c .before .before .before .before .before .before .before .before .before .before .before .before .args .rec .now) (c .before .before .before .before .before .before .before .before .before .before .before .before .pre .0) (c .before .before .before .before .before .before .before .if1 .left) (c .before .before .before .before .before .before .before .before .before .before .before .before .pre .1) (c .before .before .before .before .before .differ8 .result) (c .before .before .before .before .before .differ8 .ensures) (c .before .before .before .before .if4 .left) (c .before .before .before .differ82 .result) (c .before .before .before .differ82 .ensures) (c .before .before .if5 .left) (c .before .before .before .before .before .before .before .before .before .before .before .before .pre .2) (c .differ83 .result) (c .differ83 .ensures)
+
+returns-7 : tie.Need-returns-7
+returns-7 c = ends-17 (c .before .before .before .before .before .before .before .before .before .before .before .args .prev .now) (c .before .before .before .before .before .before .before .before .before .before .before .args .rec .now) (c .before .before .before .before .before .before .before .before .before .before .before .pre .0) (c .before .before .before .before .before .before .if1 .left) (c .before .before .before .before .before .before .before .before .before .before .before .pre .1) (c .before .before .before .before .differ8 .result) (c .before .before .before .before .differ8 .ensures) (c .before .before .before .if4 .left) (c .before .before .differ82 .result) (c .before .before .differ82 .ensures) (c .before .if5 .left) (c .if6 .left)
 
 pub changed-spec : {M : Type 1} → statement M
 changed-spec =
     tie.close
     (tie.spec
-    Inv-loop
-    μ-loop
     shared-slice-read-if1
     shared-slice-read-if1-2
     returns
-    same-words-requires
-    loop-holds
-    shared-slice-read-if2
-    shared-slice-read-if2-2
+    differ4-requires
     returns-2
-    add-i
-    loop-less
-    loop-again
-    returns-3)
+    differ4-requires-2
+    returns-3
+    differ8-requires
+    returns-4
+    sub-differ8
+    differ8-requires-2
+    returns-5
+    differ8-requires-3
+    returns-6
+    returns-7)
