@@ -9,8 +9,8 @@ use native.Mathlib.Numerals.{add-one}
 use native.Mathlib.Omega.{arith}
 use borrow.Author.Tests.{eqb-true, eqb-false}
 use lib.Pow.{pow-pos, mod-pow-add, shr-shr}
-use lib.ListN.{length, getD, take, drop, set, length-append, length-set}
-use lib.Seq.{take-suc-set, take-set-le, getD-drop, drop-drop, length-take-le, take-append-add, take-append-le}
+use lib.ListN.{length-drop, length, getD, take, drop, set, length-append, length-set}
+use lib.Seq.{take-all, take-suc-set, take-set-le, getD-drop, drop-drop, length-take-le, take-append-add, take-append-le}
 use Rattle.stream.specs.Layout.{odd}
 use Rattle.words.specs.Words.{front, placed}
 use Rattle.words.proofs.Words.{length-front, take-front, length-placed}
@@ -129,13 +129,23 @@ stored-kept c keep at n ds xs o after h l k e =
     collected c keep at (at + n) ds o after (ap length e ∙ length-placed o at xs h) (omega arith) (omega arith)
     (ap (take (at + n)) e ∙ front ∙ rw (take-append-le n xs (drop (at + length xs) o) l, k) refl)
 
--- all lanes in bulk
-pub all-kept : (w : ℕ) (lanes octets after : List ℕ) (at keep full : ℕ) → keep ≡ full → at + w ≤ length octets → full ≡ 2 ^ w - 1
-    → after ≡ placed at (front w w lanes) octets → Collected w keep lanes octets at after (at + w)
-all-kept w lanes octets after at keep full k h f e =
-    let long = length-front w w lanes in
-    stored-kept w keep at w lanes (front w w lanes) octets after (omega (arith, long)) (omega (arith, long))
-    (take-front w w w lanes (omega arith) ∙ rw (k, f) (sym (kept-full w lanes))) e
+-- a part of a take up to its end
+pub part-rest : (from : ℕ) (input : List ℕ) → take (length input - from) (drop from input) ≡ drop from input
+part-rest from input = take-all (length input - from) (drop from input) (omega (arith, length-drop from input))
+
+-- a row of which as many octets are wanted as there are, or more
+front-enough : (k n : ℕ) (xs : List ℕ) → k ≤ n → front k n xs ≡ front k k xs
+front-enough zero n xs h = refl
+front-enough (suc k) zero xs h = absurd (omega arith)
+front-enough (suc k) (suc n) xs h = ap {B = List ℕ} (λ l. getD xs 0 0 ∷ l) (front-enough k n (drop 1 xs) (omega arith))
+
+-- all w lanes in bulk, of m octets that were stored
+pub all-kept : (w m : ℕ) (lanes octets after : List ℕ) (at : ℕ) → w ≤ m → at + m ≤ length octets
+    → after ≡ placed at (front m m lanes) octets → Collected w (2 ^ w - 1) lanes octets at after (at + w)
+all-kept w m lanes octets after at l h e =
+    let long = length-front m m lanes in
+    stored-kept w (2 ^ w - 1) at w lanes (front m m lanes) octets after (omega (arith, long)) (omega (arith, long))
+    (take-front w m m lanes l ∙ front-enough w m lanes l ∙ sym (kept-full w lanes)) e
 
 -- one lane of a take
 pub one-kept : (w from keep at r : ℕ) (input o after : List ℕ) → w ≡ 1 → at + 1 ≤ length o → Collected 1 keep (getD input from 0 ∷ []) o at after r

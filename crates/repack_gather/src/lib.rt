@@ -50,6 +50,20 @@ pub fn gather_lanes(octets: &mut [u8], at: usize, lanes: &[u8], keep: u32, full:
     sift_lanes(octets, at, lanes, keep)
 }
 
+// All of the w lanes at place `from` of a take. Sixteen octets are moved where the take has them: what stands behind the
+// lanes is written over by the next record's.
+fn gather_all(octets: &mut [u8], at: usize, input: &[u8], from: usize, w: usize) -> usize
+    requires { ⌜ (1 ≤ w) × (w ≤ 16) × (from + w ≤ length (now input)) × (at + 16 ≤ length (now octets)) ⌝ }
+    ensures { λ r. ⌜ Collected w (2 ^ w - 1) (drop from (now (input .entry))) (now (octets .entry)) at (now (octets .exit)) r ⌝ }
+{
+    if from + 16 <= input.len() {
+        words::place(octets, at, &input[from..], 16, 16);
+        return at + w;
+    }
+    words::place(octets, at, &input[from..], w, w);
+    at + w
+}
+
 // The same for the w lanes at place `from` of a take, fast: null lanes are closed up by the sieve, four or eight at a time.
 pub fn gather(
     octets: &mut [u8],
@@ -68,8 +82,7 @@ pub fn gather(
         return keep_lane(octets, at, input[from], keep);
     }
     if keep == full {
-        words::place(octets, at, &input[from..], w, w);
-        return at + w;
+        return gather_all(octets, at, input, from, w);
     }
     sieve::sift(octets, at, input, from, w, keep, sieve)
 }

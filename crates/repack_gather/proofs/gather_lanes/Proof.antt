@@ -1,4 +1,6 @@
 -- `repack_gather::gather_lanes` meets its contract: the bulk copy keeps what the lane loop would. Assumes nothing.
+use mathlib.Core.Path.{_∙_}
+use native.Mathlib.Omega.{arith}
 use lib.ListN.{length}
 use Rattle.repack_gather.proofs.Lanes.{all-kept}
 use borrow.Author.Needs.{needs}
@@ -18,7 +20,9 @@ returns : tie.Need-returns
 returns c =
     let a = c .before .before .before .before .before .before .before .args in
     let p = c .before .before .before .before .before .before .before .pre in
-    all-kept (length (a .lanes .now)) (a .lanes .now) (a .octets .now) (c .before .before .place .last .0) (a .at) (a .keep) (a .full) (c .before .before .before .before .if1 .taken) (p .2) (p .3) (c .before .before .place .ensures)
+    rw (c .before .before .before .before .if1 .taken ∙ p .3)
+    (all-kept (length (a .lanes .now)) (length (a .lanes .now)) (a .lanes .now) (a .octets .now) (c .before .before .place .last .0) (a .at) (omega arith) (p .2)
+    (c .before .before .place .ensures))
 
 sift-lanes-requires : tie.Need-sift-lanes-requires
 sift-lanes-requires c κs = search needs
