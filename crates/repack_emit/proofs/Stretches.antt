@@ -1,4 +1,6 @@
 -- A stretch, record by record, and a table, stretch by stretch. Assumes nothing.
+use lib.Dec.{eqb}
+use borrow.Author.Tests.{eqb-true, eqb-false}
 use mathlib.Core.Path.{_≡_, refl, sym, ap, _∙_, subst}
 use mathlib.Core.Bool.{Bool, true, false}
 use mathlib.Core.List.{List, [], _∷_, _++_, map, append-assoc, append-nil}
@@ -7,8 +9,8 @@ use Prim.Native.Nat.{ℕ, zero, suc, _+_, _-_, _*_, _/_, _%_, _≤_, _<_}
 use native.Mathlib.Nat.{add-div-right, div-eq-of-lt, div-le-self}
 use native.Mathlib.Numerals.{add-one}
 use native.Mathlib.Omega.{arith}
-use lib.ListN.{length, getD, take, drop, length-append, length-drop, length-take, length-map, take-append-drop, drop-of-length-le}
-use lib.Seq.{take-all, take-take, take-nil, drop-drop, drop-cons, length-take-le}
+use lib.ListN.{length, getD, take, drop, length-append, length-drop, length-take, length-map, take-append-drop, drop-of-length-le, set}
+use lib.Seq.{take-all, take-take, take-nil, drop-drop, drop-cons, length-take-le, getD-set-same, getD-set-other}
 use Rattle.stream.specs.declared.Shape.{Shape}
 use Rattle.stream.specs.Items.{Pair, Transfer}
 use Rattle.stream.specs.Packed.{Stretch, fitted, spread, packStretch, packStretches}
@@ -16,7 +18,7 @@ use Rattle.stream.specs.Layout.{size, odd, Kept, octetsOf, octets}
 use Rattle.stream.proofs.Pack.{Wide, wide-append, wide-spread, length-fitted, length-spread}
 use Rattle.stream.proofs.Records.{octets-sized, length-octets, octets-append}
 use Rattle.scratch.specs.Codes.{keptOf, pairFrom, entryCount, stretchOf, stretchesOf, total}
-use Rattle.repack_emit.specs.Write.{recordOf, stretchOctets, countOf, Writing, Writes}
+use Rattle.repack_emit.specs.Write.{recordOf, stretchOctets, countOf, Writing, Writes, Counts}
 
 -- ---- lists
 
@@ -180,6 +182,16 @@ count-step v table n k r whole h e f =
 
 pub records-few : (n v : ℕ) → 0 < v → n < 65536 → (n - 1) / v + 1 ≤ 65536
 records-few n v h k = omega (arith, div-le-self (n - 1) v)
+
+-- one entry more of a list of counts
+pub counts-more : (v n x : ℕ) (few : List ℕ) → n < length few → Counts v n few → x ≡ (n - 1) / v + 1 → Counts v (n + 1) (set few n x)
+counts-more v n x few h c e i l = go (eqb i n) refl
+  where
+    go : (b : Bool) → eqb i n ≡ b → getD (set few n x) i 0 ≡ (i - 1) / v + 1
+    go true q = let here : i ≡ n = eqb-true i n q in rw (here, getD-set-same few n x 0 h) e
+    go false q =
+        let other : i ≡ n → ⊥ = eqb-false i n q in
+        getD-set-other few n i x 0 other ∙ c i (omega arith)
 
 -- ---- what is lent from a place on, and the flag of an entry
 

@@ -3,8 +3,8 @@ use mathlib.Core.Path.{_≡_}
 use mathlib.Core.Bool.{Bool, true}
 use mathlib.Core.List.{List, [], _∷_, _++_, map}
 use mathlib.Core.Option.{Option, some}
-use Prim.Native.Nat.{ℕ, _+_, _-_, _/_, _≤_}
-use lib.ListN.{length, take, drop}
+use Prim.Native.Nat.{ℕ, _+_, _-_, _/_, _≤_, _<_}
+use lib.ListN.{length, getD, take, drop}
 use Rattle.stream.specs.declared.Shape.{Shape}
 use Rattle.stream.specs.declared.Written.{Written}
 use Rattle.stream.specs.Items.{Pair, Transfer}
@@ -38,6 +38,10 @@ stretchOctets v pair codes last = octets (spread ((length codes - 1) / v) v pair
 -- the octets of the packed form of a table's stretches
 abbrev pub packedFrom : ℕ → List ℕ → List ℕ → List ℕ
 packedFrom v table codes = octets (packStretches v (stretchesOf table codes))
+
+-- a list that has, for each number of items below n, how many records they give
+abbrev pub Counts : ℕ → ℕ → List ℕ → Type 0
+Counts v n few = (i : ℕ) → i < n → getD few i 0 ≡ (i - 1) / v + 1
 
 -- how many records the stretches of a table give
 abbrev pub countOf : ℕ → List ℕ → ℕ

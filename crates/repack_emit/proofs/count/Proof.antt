@@ -1,6 +1,6 @@
 -- `repack_emit::count` meets its contract: entry by entry, what is left to count gets less. Assumes nothing.
-use mathlib.Core.Path.{_≡_, refl, sym, ap, _∙_}
-use Prim.Native.Nat.{ℕ, _+_, _-_, _*_, _≤_}
+use mathlib.Core.Path.{_≡_, refl}
+use Prim.Native.Nat.{_+_, _-_, _*_, _≤_}
 use native.Mathlib.Omega.{arith}
 use borrow.Author.Needs.{needs}
 use lib.ListN.{length, drop, drop-of-length-le}
@@ -8,30 +8,43 @@ use Rattle.repack_emit.specs.Write.{countOf}
 use Rattle.repack_emit.proofs.Stretches.{count-step}
 use Rattle.repack_emit.proofs.count.Statement.{statement}
 use Rattle.repack_emit.proofs.count.Tie as tie
+use Rattle.repack_emit.proofs.count.Reads as reads
+use Rattle.repack_emit.proofs.count.Lts as lts
+use Rattle.repack_emit.proofs.counted.Reads as counted-reads
+use Rattle.repack_emit.proofs.list_counts.Reads as list-counts-reads
 
 abbrev Inv-loop : tie.InvT-loop
-Inv-loop table v n₀ k₀ n k = (k ≤ length table) × (n ≤ 65536 * k) × (n + countOf v (drop k table) ≡ countOf v table)
+Inv-loop table v few n₀ k₀ n k = (k ≤ length table) × (n ≤ 65536 * k) × (n + countOf v (drop k table) ≡ countOf v table)
 
 abbrev μ-loop : tie.MeasureT-loop
-μ-loop table v n₀ k₀ n k = length table - k
+μ-loop table v few n₀ k₀ n k = length table - k
+
+slice-aggregate-list-counts : tie.Need-slice-aggregate-list-counts Inv-loop μ-loop
+slice-aggregate-list-counts c = refl
+
+list-counts-requires : tie.Need-list-counts-requires Inv-loop μ-loop
+list-counts-requires c κs = (c .before .before .pre .0, refl)
 
 loop-holds : tie.Need-loop-holds Inv-loop μ-loop
 loop-holds c = (search needs, search needs, omega arith)
 
-mul-records-of : tie.Need-mul-records-of Inv-loop μ-loop
-mul-records-of c = search needs
+mul-counted : tie.Need-mul-counted Inv-loop μ-loop
+mul-counted c = search needs
 
-shared-slice-read-records-of : tie.Need-shared-slice-read-records-of Inv-loop μ-loop
-shared-slice-read-records-of c = search needs
+shared-slice-read-counted : tie.Need-shared-slice-read-counted Inv-loop μ-loop
+shared-slice-read-counted c = search needs
 
-records-of-requires : tie.Need-records-of-requires Inv-loop μ-loop
-records-of-requires c κs = (search needs, search needs)
+slice-aggregate-counted : tie.Need-slice-aggregate-counted Inv-loop μ-loop
+slice-aggregate-counted c = search needs
+
+counted-requires : tie.Need-counted-requires Inv-loop μ-loop
+counted-requires c κs = (c .before .before .before .before .before .before .before .before .pre .0, search needs, c .before .before .before .before .before .list-counts .kept .0, c .before .before .before .before .before .list-counts .ensures)
 
 cast-n : tie.Need-cast-n Inv-loop μ-loop
 cast-n c = search needs
 
 add-n : tie.Need-add-n Inv-loop μ-loop
-add-n c = omega (arith, c .records-of .ensures .1)
+add-n c = omega (arith, c .counted .ensures .1)
 
 add-k : tie.Need-add-k Inv-loop μ-loop
 add-k c = search needs
@@ -41,16 +54,16 @@ loop-less c = search needs
 
 loop-again : tie.Need-loop-again Inv-loop μ-loop
 loop-again c =
-    let a = c .before .before .before .before .before .args in
-    let l = c .before .before .before .loop in (
+    let a = c .before .before .before .before .before .before .before .before .before .args in
+    let l = c .before .before .before .before .loop in (
       omega arith,
-      omega (arith, c .records-of .ensures .1),
-      count-step (a .v) (a .table .now) (l .n) (l .k) (c .records-of .result) (countOf (a .v) (a .table .now)) (c .before .before .loop-test .taken) (c .records-of .ensures .0) (l .inv .2),
+      omega (arith, c .counted .ensures .1),
+      count-step (a .v) (a .table .now) (l .n) (l .k) (c .counted .result) (countOf (a .v) (a .table .now)) (c .before .before .before .loop-test .taken) (c .counted .ensures .0) (l .inv .2),
     )
 
 returns : tie.Need-returns Inv-loop μ-loop
 returns c =
-    let a = c .before .before .before .args in
+    let a = c .before .before .before .before .before .before .args in
     let l = c .before .loop in
     let sum : l .n + 0 ≡ countOf (a .v) (a .table .now) = rw (drop-of-length-le (a .table .now) {i = l .k} (c .loop-test .left)) at (l .inv .2) in
     (omega arith, omega arith)
@@ -61,10 +74,13 @@ count-spec =
     (tie.spec
     Inv-loop
     μ-loop
+    slice-aggregate-list-counts
+    list-counts-requires
     loop-holds
-    mul-records-of
-    shared-slice-read-records-of
-    records-of-requires
+    mul-counted
+    shared-slice-read-counted
+    slice-aggregate-counted
+    counted-requires
     cast-n
     add-n
     add-k
