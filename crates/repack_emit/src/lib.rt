@@ -13,7 +13,7 @@ ghost use Prim.Native.Nat.{_+_, _*_, _-_, _/_, _≤_, _<_};
 ghost use lib.ListN.{length, take, drop};
 ghost use Rattle.stream.specs.Layout.{odd};
 ghost use Rattle.scratch.specs.Codes.{heldCodes, markBits, pairFrom, entryCount, total};
-ghost use Rattle.repack_emit.specs.Write.{Held, stretchOctets, packedFrom, countOf, Writes, Emitted};
+ghost use Rattle.repack_emit.specs.Write.{Held, stretchOctets, packedFrom, Counts, countOf, Writes, Emitted};
 
 // The records of a stretch of n items.
 fn records_of(n: u32, v: u32) -> u32
@@ -26,15 +26,41 @@ fn records_of(n: u32, v: u32) -> u32
     (n - 1) / v + 1
 }
 
+// The records of stretches of 0 to 16 items, into a table of 17 entries.
+fn list_counts(few: &mut [u32], v: u32)
+    requires { ⌜ (0 < v) × (length (now few) ≡ 17) ⌝ }
+    ensures { λ _. ⌜ Counts v 17 (now (few .exit)) ⌝ }
+{
+    let mut i = 0;
+    while i < few.len() {
+        few[i] = records_of(i as u32, v);
+        i += 1;
+    }
+}
+
+// The records of a stretch of n items, by that table where they are few: packets shorter than a record or two are counted
+// without a branch that looks at their length.
+fn counted(n: u32, v: u32, few: &[u32]) -> u32
+    requires { ⌜ (0 < v) × (n < 65536) × (length (now few) ≡ 17) × Counts v 17 (now few) ⌝ }
+    ensures { λ r. ⌜ (r ≡ (n - 1) / v + 1) × (r ≤ 65536) ⌝ }
+{
+    if n <= 16 {
+        return few[n as usize];
+    }
+    records_of(n, v)
+}
+
 // The records of all stretches of a table.
 fn count(table: &[u32], v: u32) -> usize
     requires { ⌜ (0 < v) × (length (now table) ≤ 8193) ⌝ }
     ensures { λ r. ⌜ (r ≡ countOf v (now (table .entry))) × (r ≤ 65536 * 8193) ⌝ }
 {
+    let mut few = [0u32; 17];
+    list_counts(&mut few, v);
     let mut n = 0;
     let mut k = 0;
     while k < table.len() {
-        n += records_of(table[k] % 65536, v) as usize;
+        n += counted(table[k] % 65536, v, &few) as usize;
         k += 1;
     }
     n
