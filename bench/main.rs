@@ -107,7 +107,7 @@ fn take_of(w: usize, lanes: &str, every: usize) -> Vec<u8> {
     take
 }
 
-const ROUNDS: usize = 101;
+const ROUNDS: usize = 201;
 
 /// The median time of each converter in microseconds. They take turns in each round, another one first each time.
 fn measure(all: &[(&str, Converter)], w: usize, v: usize, take: &[u8], out: &mut [u8]) -> Vec<f64> {
