@@ -7,7 +7,7 @@ use native.Mathlib.Omega.{arith}
 use lib.ListN.{length, getD, take, drop, length-drop, drop-of-length-le}
 use lib.Seq.{getD-take, getD-drop, drop-drop}
 use Rattle.stream.specs.declared.Shape.{Shape}
-use Rattle.stream.specs.Layout.{bit, bitOf, tlast, size}
+use Rattle.stream.specs.Layout.{bitOf, tlast, size}
 use Rattle.stream.proofs.Records.{size-pos, FirstRecord, first-record}
 use Rattle.harvest.proofs.Copied.{low-bit}
 use Rattle.acceptance.specs.Report.{lasts, packetCount}

@@ -1,6 +1,6 @@
 -- The 4KB rule: what the code tests of INCR is exactly the paper's rule, no other kind can break it, and an accepted burst
 -- stays in the block it starts in. Assumes nothing.
-use mathlib.Core.Bool.{Bool, true, false, not}
+use mathlib.Core.Bool.{Bool, true, false}
 use mathlib.Core.Logic.{_↔_}
 use mathlib.Core.Path.{_≡_, refl, sym, _∙_}
 use Prim.Native.Nat.{ℕ, zero, suc, _+_, _-_, _*_, _/_, _%_, _^_, _≤_, _<_}

@@ -2,7 +2,6 @@
 use mathlib.Core.Path.{_≡_, refl, sym, ap, _∙_, subst}
 use Prim.Native.Nat.{ℕ}
 use lib.IntN.{ℤ, pos}
-use mathlib.Core.Logic.{⊎-elim}
 use lib.IntN.{negsuc}
 use lib.Signed.{_≤ℤ_}
 use lib.Dec.{leb→le}
@@ -10,8 +9,7 @@ use mir.Syntax.{w32}
 use mir.Val.{SFits}
 use native.Mathlib.Decide.{decLe}
 use native.Mathlib.Omega.{arith}
-use Prim.Native.Nat.{_+_, _≤_, _<_}
-use Rattle.refusal.specs.declared.Refusal.{Refusal}
+use Prim.Native.Nat.{_+_, _≤_}
 use Rattle.burst_spec.specs.declared.Judgement.{Judgement}
 use Rattle.burst_spec.specs.declared.Judgement.the-variants as judged
 use Rattle.burst_spec.specs.declared.StepAnswer.the-variants as step

@@ -15,7 +15,6 @@ pub use stream_calls::urd_fill_in;
 pub use stream_calls::urd_harvest;
 pub use stream_calls::urd_judge;
 pub use stream_calls::urd_repack;
-ghost use mathlib.Core.Path.{_≡_};
 ghost use Rattle.burst_spec.specs.Answers.{burstOf, judgement, beatAnswer, stepAnswer, judgementShows, beatShows, stepShows, refusalRow};
 ghost use Rattle.capi.specs.Shows.{ShowsRow};
 

@@ -1,11 +1,11 @@
 -- A header written as one word: octet by octet it is the header of a record with data on its first lanes. Assumes nothing.
-use mathlib.Core.Path.{_≡_, refl, sym, ap, _∙_}
+use mathlib.Core.Path.{_≡_, refl, ap, _∙_}
 use mathlib.Core.List.{List, [], _∷_, _++_}
-use Prim.Native.Nat.{ℕ, zero, suc, _+_, _-_, _*_, _/_, _%_, _^_, _≤_, _<_}
+use Prim.Native.Nat.{ℕ, _+_, _-_, _*_, _/_, _%_, _^_, _≤_, _<_}
 use native.Mathlib.Nat.{one-mul, mod-eq-of-lt}
 use native.Mathlib.Omega.{arith}
-use lib.ListN.{length, take, drop}
-use lib.Pow.{pow-pos, pow-lt, pow-mono}
+use lib.ListN.{drop}
+use lib.Pow.{pow-pos, pow-mono}
 use Rattle.words.specs.Words.{octetsOfWord, placed}
 use Rattle.record.specs.Write.{headerOctets}
 

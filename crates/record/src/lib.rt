@@ -18,7 +18,7 @@ ghost use Prim.Native.Nat.{ℕ, _≤_, _<_, _^_};
 ghost use lib.ListN.{length};
 ghost use Rattle.stream.specs.Layout.{size, typesOf, anyReserved};
 ghost use Rattle.stream.specs.Checks.{widthCheck, lengthCheck};
-ghost use Rattle.record.specs.Header.{headerOf, headerFault, faultOf};
+ghost use Rattle.record.specs.Header.{headerOf, headerFault};
 
 // The fields of a record before its data.
 pub struct Header {

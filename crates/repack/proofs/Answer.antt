@@ -1,25 +1,24 @@
 -- The ladder of repack's refusals, a law for each way the code returns. Assumes nothing.
-use mathlib.Core.Path.{_≡_, refl, sym, ap, _∙_, subst}
+use mathlib.Core.Path.{_≡_, refl, sym, _∙_}
 use mathlib.Core.Bool.{Bool, true, false, not}
 use mathlib.Core.List.{List, [], _∷_, _++_}
 use mathlib.Core.Option.{Option, none, some}
-use Prim.Native.Nat.{ℕ, _≤_, _<_, _%_}
+use Prim.Native.Nat.{ℕ, _≤_, _%_}
 use borrow.Author.Tests.{ltb-false, eqb-true, not-false}
 use lib.Dec.{ltb, eqb}
-use lib.ListN.{length, take, drop, replicate, length-replicate}
+use lib.ListN.{length, take}
 use lib.Seq.{length-take-le}
 use Rattle.refusal.specs.declared.Refusal.{Refusal}
 use Rattle.refusal.specs.declared.Refusal.the-variants.{Width, Length}
 use Rattle.stream.specs.declared.Shape.{Shape}
 use Rattle.stream.specs.declared.Written.{Written}
 use Rattle.stream.specs.declared.Written.the-variants.{Refused}
-use Rattle.stream.specs.Packed.{Stretch, cut, packStretches}
+use Rattle.stream.specs.Packed.{cut}
 use Rattle.stream.specs.Layout.{size, records, streamItems, octets, packedTransfers, packed}
 use Rattle.stream.specs.Checks.{first, widthCheck, captureMost, lengthCheck, transferChecks, roomCheck}
-use Rattle.stream.specs.Answers.{Repacked, written, lentAfter, repackRefusal, repackAnswer, repackAfter, writtenValues}
+use Rattle.stream.specs.Answers.{Repacked, written, lentAfter, repackRefusal, repackAnswer, repackAfter}
 use Rattle.stream.proofs.Bools.{neither}
 use Rattle.stream.proofs.First.{append-found, append-passed}
-use Rattle.stream.proofs.Repack.{WidthFits, width-fits}
 use Rattle.scratch.specs.Codes.{stretchesOf}
 use Rattle.repack_parse.specs.Read.{Taken}
 use Rattle.repack_emit.specs.Write.{Held, Emitted}

@@ -6,7 +6,6 @@ use stream::Shape;
 use stream::Written;
 ghost use mathlib.Core.Path.{_≡_};
 ghost use mathlib.Core.Bool.{false};
-ghost use lib.ListN.{length};
 ghost use Rattle.stream.specs.Checks.{widthCheck, lengthCheck};
 ghost use Rattle.stream.specs.Answers.{Repacked};
 

@@ -1,27 +1,23 @@
 -- One record's octets: what the items' codes say of its lanes and masks. Assumes nothing.
 use mathlib.Core.Path.{_≡_, refl, sym, ap, _∙_}
 use mathlib.Core.Bool.{Bool, true, false, cond}
-use mathlib.Core.List.{List, [], _∷_, _++_, map, append-assoc}
-use mathlib.Core.Option.{Option, none, some}
+use mathlib.Core.List.{List, [], _∷_, _++_, map}
+use mathlib.Core.Option.{some}
 use Prim.Native.Nat.{ℕ, zero, suc, _+_, _-_, _*_, _/_, _%_, _^_, _≤_, _<_}
 use native.Mathlib.Nat.{pow-suc, mul-one}
-use native.Mathlib.Numerals.{add-one}
 use native.Mathlib.Omega.{arith}
 use borrow.Author.Tests.{eqb-true, eqb-false}
 use lib.Dec.{eqb}
 use lib.Pow.{pow-pos, pow-mono}
-use lib.ListN.{length, getD, take, drop, replicate, length-map, length-append, length-take}
-use lib.Seq.{slice, slice-cons, slice-empty, length-slice}
-use Rattle.stream.specs.declared.Shape.{Shape}
-use Rattle.stream.specs.Items.{Pair}
+use lib.ListN.{length, getD, take, drop, replicate, length-map}
+use lib.Seq.{slice, slice-cons, length-slice}
 use Rattle.stream.specs.Packed.{fitted}
-use Rattle.stream.specs.Layout.{odd, bitOf, maskOf, Kept, octet, position, keepBit, strbBit, laneOctet, octetsOf}
+use Rattle.stream.specs.Layout.{bitOf, maskOf, Kept, octet, position, keepBit, strbBit, laneOctet}
 use Rattle.stream.proofs.Legal.{mask-fits}
-use Rattle.record.specs.Write.{headerOctets}
 use Rattle.words.specs.Words.{front}
 use Rattle.scratch.specs.Codes.{dataCode, heldCode, heldCodes, keptOf}
 use Rattle.scratch.proofs.Held.{length-held}
-use Rattle.repack_emit.specs.Write.{itemOctet, itemStrobe, recordOf}
+use Rattle.repack_emit.specs.Write.{itemOctet, itemStrobe}
 
 -- ---- an item
 

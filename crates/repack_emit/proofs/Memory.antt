@@ -1,21 +1,17 @@
 -- Lent memory while it is written: one record at its place, and the octets of one record. Assumes nothing.
 use mathlib.Core.Path.{_≡_, refl, sym, ap, _∙_, subst}
-use mathlib.Core.Bool.{Bool, true, false}
-use mathlib.Core.List.{List, [], _∷_, _++_, map, append-assoc, append-nil}
-use mathlib.Core.Option.{Option, none, some}
-use Prim.Native.Nat.{ℕ, zero, suc, _+_, _-_, _*_, _/_, _%_, _^_, _≤_, _<_}
+use mathlib.Core.List.{List, _∷_, _++_, map, append-assoc, append-nil}
+use Prim.Native.Nat.{ℕ, zero, suc, _+_, _-_, _/_, _%_, _^_, _≤_, _<_}
 use native.Mathlib.Omega.{arith}
-use lib.ListN.{length, getD, take, drop, replicate, length-append, length-drop, length-take, length-map, length-replicate, drop-of-length-le}
-use lib.Seq.{take-all, take-at, drop-at, drop-drop, drop-append-add, length-take-le, take-append-seam}
+use lib.ListN.{length, getD, take, drop, replicate, length-append, length-drop, length-map, drop-of-length-le}
+use lib.Seq.{take-all, take-at, drop-at, drop-drop, drop-append-add, length-take-le}
 use Rattle.words.specs.Words.{front, placed as placedAt}
 use Rattle.words.proofs.Words.{length-front}
 use Rattle.stream.specs.declared.Shape.{Shape}
-use Rattle.stream.specs.Items.{Pair}
-use Rattle.stream.specs.Packed.{fitted}
-use Rattle.stream.specs.Layout.{size, odd, bitOf, maskOf, Kept, keepBit, strbBit, laneOctet, octetsOf}
+use Rattle.stream.specs.Layout.{size, odd, bitOf, maskOf, octetsOf}
 use Rattle.record.specs.Write.{headerOctets}
-use Rattle.scratch.specs.Codes.{dataCode, keptOf, pairFrom}
-use Rattle.repack_emit.specs.Write.{itemOctet, itemStrobe, recordOf, Writing, Writes}
+use Rattle.scratch.specs.Codes.{dataCode, pairFrom}
+use Rattle.repack_emit.specs.Write.{itemOctet, itemStrobe, recordOf, Writes}
 use Rattle.repack_emit.proofs.Lanes.{lanes-octets, lanes-strb, lanes-keep, data-octets, data-strb}
 
 -- ---- a record at its place

@@ -4,19 +4,19 @@ use borrow.Author.Tests.{eqb-true, eqb-false}
 use mathlib.Core.Path.{_≡_, refl, sym, ap, _∙_, subst}
 use mathlib.Core.Bool.{Bool, true, false}
 use mathlib.Core.List.{List, [], _∷_, _++_, map, append-assoc, append-nil}
-use mathlib.Core.Option.{Option, none, some}
-use Prim.Native.Nat.{ℕ, zero, suc, _+_, _-_, _*_, _/_, _%_, _≤_, _<_}
+use mathlib.Core.Option.{none, some}
+use Prim.Native.Nat.{ℕ, zero, suc, _+_, _-_, _/_, _%_, _≤_, _<_}
 use native.Mathlib.Nat.{add-div-right, div-eq-of-lt, div-le-self}
 use native.Mathlib.Numerals.{add-one}
 use native.Mathlib.Omega.{arith}
-use lib.ListN.{length, getD, take, drop, length-append, length-drop, length-take, length-map, take-append-drop, drop-of-length-le, set}
+use lib.ListN.{length, getD, take, drop, length-append, length-drop, length-map, take-append-drop, drop-of-length-le, set}
 use lib.Seq.{take-all, take-take, take-nil, drop-drop, drop-cons, length-take-le, getD-set-same, getD-set-other}
 use Rattle.stream.specs.declared.Shape.{Shape}
-use Rattle.stream.specs.Items.{Pair, Transfer}
-use Rattle.stream.specs.Packed.{Stretch, fitted, spread, packStretch, packStretches}
+use Rattle.stream.specs.Items.{Pair}
+use Rattle.stream.specs.Packed.{Stretch, fitted, packStretch, packStretches}
 use Rattle.stream.specs.Layout.{size, odd, Kept, octetsOf, octets}
 use Rattle.stream.proofs.Pack.{Wide, wide-append, wide-spread, length-fitted, length-spread}
-use Rattle.stream.proofs.Records.{octets-sized, length-octets, octets-append}
+use Rattle.stream.proofs.Records.{octets-sized, octets-append}
 use Rattle.scratch.specs.Codes.{keptOf, pairFrom, entryCount, stretchOf, stretchesOf, total}
 use Rattle.repack_emit.specs.Write.{recordOf, stretchOctets, countOf, Writing, Writes, Counts}
 

@@ -2,14 +2,13 @@
 use mathlib.Core.Path.{_≡_}
 use mathlib.Core.Bool.{Bool, true}
 use mathlib.Core.List.{List, [], _∷_, _++_, map}
-use mathlib.Core.Option.{Option, some}
+use mathlib.Core.Option.{some}
 use Prim.Native.Nat.{ℕ, _+_, _-_, _/_, _≤_, _<_}
 use lib.ListN.{length, getD, take, drop}
-use Rattle.stream.specs.declared.Shape.{Shape}
 use Rattle.stream.specs.declared.Written.{Written}
 use Rattle.stream.specs.Items.{Pair, Transfer}
 use Rattle.stream.specs.Packed.{fitted, spread, packStretches}
-use Rattle.stream.specs.Layout.{Kept, strbBit, laneOctet, octetsOf, octets}
+use Rattle.stream.specs.Layout.{Kept, strbBit, laneOctet, octets}
 use Rattle.stream.specs.Checks.{first, roomCheck}
 use Rattle.stream.specs.Answers.{written, lentAfter}
 use Rattle.scratch.specs.Codes.{Unmarked, dataCode, keptOf, pairFrom, entryCount, stretchesOf}

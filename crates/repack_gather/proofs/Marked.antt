@@ -4,7 +4,7 @@ use mathlib.Core.Path.{_≡_, refl, sym, ap, _∙_}
 use mathlib.Core.Bool.{Bool, true, false}
 use mathlib.Core.List.{List, [], _∷_, _++_, append-assoc, append-nil}
 use Prim.Native.Nat.{ℕ, zero, suc, _+_, _-_, _*_, _/_, _%_, _^_, _≤_, _<_}
-use native.Mathlib.Nat.{add-zero, mul-one, mul-zero, one-mul, mod-eq-of-lt}
+use native.Mathlib.Nat.{add-zero, mul-one, mul-zero, one-mul}
 use native.Mathlib.Numerals.{add-one}
 use native.Mathlib.Omega.{arith}
 use borrow.Author.Tests.{eq-eqb, ne-eqb, eqb-true, eqb-false}
@@ -15,7 +15,7 @@ use lib.Seq.{take-suc-set, take-set-le, getD-drop, drop-drop, getD-set-same, get
 use Rattle.stream.specs.Layout.{odd}
 use Rattle.scratch.specs.Codes.{itemCode, heldCode, heldCodes, sifted}
 use Rattle.scratch.proofs.Held.{length-held, held-set}
-use Rattle.repack_gather.specs.Gather.{Gathered, Clear, Marks}
+use Rattle.repack_gather.specs.Gather.{Clear, Marks}
 
 -- ---- a lane's mark
 

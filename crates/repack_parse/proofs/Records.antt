@@ -1,18 +1,18 @@
 -- One record more is read: how turning, gathering and ending follow each other. Assumes nothing.
 use mathlib.Core.Path.{_≡_, refl, sym, ap, _∙_, subst}
 use mathlib.Core.Bool.{Bool, true, false, cond}
-use mathlib.Core.List.{List, [], _∷_, _++_, map, append-assoc, append-nil}
+use mathlib.Core.List.{List, [], _∷_, _++_, map, append-assoc}
 use Prim.Native.Nat.{ℕ, zero, suc, _+_, _-_, _*_, _/_, _%_, _^_, _≤_, _<_}
 use native.Mathlib.Nat.{pow-suc}
 use native.Mathlib.Omega.{arith}
-use borrow.Author.Tests.{eqb-true, eqb-false, eq-eqb, ne-eqb}
+use borrow.Author.Tests.{eqb-false}
 use lib.Dec.{eqb}
-use lib.ListN.{length, getD, take, drop, length-append, length-take, length-drop, length-map}
+use lib.ListN.{length, getD, take, drop, length-append, length-drop, length-map}
 use lib.Seq.{length-take-le}
 use Rattle.stream.specs.declared.Shape.{Shape}
-use Rattle.stream.specs.Items.{Pair, Transfer, Item, byte, end, itemPair, itemsOf, kept, transferItems}
+use Rattle.stream.specs.Items.{Pair, Item, byte, end, itemPair, itemsOf, kept, transferItems}
 use Rattle.stream.specs.Packed.{Stretch}
-use Rattle.stream.specs.Layout.{size, bit, odd, flags, pairOf, tkeep, tstrb, tlast, dataOctets, laneTypes, lanesOf, typesOf, Kept, transferOf}
+use Rattle.stream.specs.Layout.{size, flags, pairOf, tkeep, tstrb, tlast, dataOctets, laneTypes, lanesOf, Kept, transferOf}
 use Rattle.stream.specs.Legal.{Octets}
 use Rattle.stream.proofs.Legal.{octets-take, octets-drop, octet-at}
 use Rattle.stream.specs.Checks.{transferFlags}

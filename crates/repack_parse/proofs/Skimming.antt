@@ -3,19 +3,18 @@
 use mathlib.Core.Path.{_≡_, refl, sym, ap, _∙_}
 use mathlib.Core.List.{List, [], _∷_, _++_}
 use mathlib.Core.Option.{none}
-use Prim.Native.Nat.{ℕ, zero, suc, _+_, _-_, _*_, _/_, _%_, _^_, _≤_, _<_}
+use Prim.Native.Nat.{ℕ, zero, suc, _+_, _-_, _/_, _%_, _^_, _≤_, _<_}
 use native.Mathlib.Omega.{arith}
 use native.Mathlib.Nat.{add-zero}
 use lib.Pow.{pow-pos}
 use lib.ListN.{length, getD, take, drop, replicate, length-drop, length-replicate}
 use lib.Seq.{getD-drop, getD-take, drop-drop, drop-at, take-add, take-take, length-take-le}
 use Rattle.stream.specs.declared.Shape.{Shape}
-use Rattle.stream.specs.Layout.{size, dataOctets, tkeep, tstrb, flags, pairOf}
+use Rattle.stream.specs.Layout.{size, dataOctets, flags}
 use Rattle.stream.specs.Legal.{Octets}
 use Rattle.stream.proofs.Legal.{octets-take, octets-drop}
 use Rattle.stream.specs.Checks.{first, transferChecks}
 use Rattle.words.specs.Words.{wordAt}
-use Rattle.record.specs.declared.Header.{Header}
 use Rattle.record.specs.Header.{headerOf}
 use Rattle.record.specs.Usual.{Usual, UsualWords}
 use Rattle.scratch.specs.declared.Open.{Open}
@@ -24,9 +23,9 @@ use Rattle.scratch.proofs.Held.{unmarked-at}
 use Rattle.scratch.specs.Stands.{keptAt}
 use Rattle.repack_gather.specs.Gather.{keptOctet, keptOctets, Collected, Clear}
 use Rattle.repack_parse.specs.Read.{Ready, Ended, AddedData}
-use Rattle.repack_parse.specs.Reading.{UsualAt, Reading, Holding, Skimmed}
+use Rattle.repack_parse.specs.Reading.{UsualAt, Reading, Skimmed}
 use Rattle.repack_parse.proofs.Faults.{Fields, data-faultless}
-use Rattle.repack_parse.proofs.Records.{size-low, octets-of, codeOf, lanes-long, paired-same, add-collected}
+use Rattle.repack_parse.proofs.Records.{size-low, octets-of, lanes-long, paired-same, add-collected}
 use Rattle.repack_parse.proofs.Take.{reading-next, holding-next}
 
 -- ---- the words of a record that starts at octet `a`

@@ -1,21 +1,20 @@
 -- What each step of reading does to the state: laws of Read's records, a law for each way a function returns. Assumes nothing.
 use mathlib.Core.Path.{_≡_, refl, sym, ap, _∙_}
-use mathlib.Core.Bool.{Bool, true, false, cond}
-use mathlib.Core.List.{List, [], _∷_, _++_, map, append-assoc, append-nil}
-use Prim.Native.Nat.{ℕ, zero, suc, _+_, _-_, _*_, _/_, _%_, _^_, _≤_, _<_}
+use mathlib.Core.List.{List, [], _∷_, _++_, map}
+use Prim.Native.Nat.{ℕ, _+_, _-_, _≤_, _<_}
 use native.Mathlib.Numerals.{add-one}
 use native.Mathlib.Omega.{arith}
-use lib.ListN.{length, take, drop, set, length-append, length-set, length-drop, length-take, length-map, take-append-drop}
-use lib.Seq.{take-suc-set, length-take-le}
-use Rattle.stream.specs.Items.{Pair, samePair, Item, byte, end, itemPair, itemsOf}
+use lib.ListN.{length, take, drop, set, length-set, length-drop, length-take, length-map, take-append-drop}
+use lib.Seq.{take-suc-set}
+use Rattle.stream.specs.Items.{Item, byte, end}
 use Rattle.stream.specs.Packed.{Stretch, cut}
-use Rattle.stream.specs.Layout.{bit, odd, Kept}
+use Rattle.stream.specs.Layout.{odd, Kept}
 use Rattle.stream.proofs.Cut.{cut-ended}
 use Rattle.scratch.specs.declared.Open.{Open}
 use Rattle.scratch.specs.Codes.{keptOf, pairFrom, entryOf, stretchesOf, total}
 use Rattle.scratch.specs.Stands.{closedAt, pairedAt, Stands}
 use Rattle.scratch.proofs.Codes.{stretches-more}
-use Rattle.scratch.proofs.Stands.{opened, made, close-stands, turn-stands, gather-stands, all-closed, pairs-differ, cut-apart, cut-last}
+use Rattle.scratch.proofs.Stands.{opened, made, close-stands, turn-stands, all-closed, pairs-differ, cut-apart, cut-last}
 use Rattle.repack_parse.specs.Read.{Turned, Ended, Finished}
 
 -- ---- closing

@@ -1,9 +1,9 @@
 -- A take, record by record: the first record and what is left of it, and the invariant of reading. Assumes nothing.
 use mathlib.Core.Path.{_≡_, refl, sym, ap, _∙_, subst}
 use mathlib.Core.Bool.{Bool, true, false, cond}
-use mathlib.Core.List.{List, [], _∷_, _++_, map, append-nil}
-use mathlib.Core.Option.{Option, none, some}
-use Prim.Native.Nat.{ℕ, zero, suc, _+_, _-_, _*_, _/_, _%_, _≤_, _<_}
+use mathlib.Core.List.{List, [], _∷_, _++_}
+use mathlib.Core.Option.{none, some}
+use Prim.Native.Nat.{ℕ, suc, _+_, _-_, _/_, _%_, _≤_, _<_}
 use native.Mathlib.Nat.{mod-eq-of-lt, add-mod-right, add-div-right, zero-div}
 use native.Mathlib.Numerals.{add-one}
 use native.Mathlib.Omega.{arith}
@@ -13,21 +13,20 @@ use lib.ListN.{length, take, drop, length-drop, drop-of-length-le}
 use lib.Seq.{drop-drop, length-take-le}
 use Rattle.refusal.specs.declared.Refusal.{Refusal}
 use Rattle.stream.specs.declared.Shape.{Shape}
-use Rattle.stream.specs.Items.{Item, items, transferItems}
-use Rattle.stream.specs.Packed.{Stretch, cut}
-use Rattle.stream.specs.Layout.{size, Kept, transferOf, pieces, recordCount, records, streamItems}
+use Rattle.stream.specs.Items.{items, transferItems}
+use Rattle.stream.specs.Packed.{cut}
+use Rattle.stream.specs.Layout.{size, transferOf, recordCount, records, streamItems}
 use Rattle.refusal.specs.declared.Refusal.the-variants.{Field, Reserved}
-use Rattle.stream.specs.Checks.{Check, first, transferFlags, fieldFault, reservedFault, transferChecks}
+use Rattle.stream.specs.Checks.{first, transferFlags, fieldFault, reservedFault, transferChecks}
 use Rattle.stream.proofs.Records.{size-pos}
 use Rattle.stream.proofs.Bools.{no-such}
-use Rattle.stream.proofs.First.{first-none}
 use Rattle.scratch.specs.declared.Open.{Open}
 use Rattle.scratch.specs.Codes.{heldCodes, Unmarked, markBits, total}
 use Rattle.scratch.specs.Stands.{Stands}
 use Rattle.scratch.proofs.Held.{unmarked-at}
 use Rattle.scratch.proofs.Marks.{length-marks}
 use Rattle.repack_gather.specs.Gather.{Clear}
-use Rattle.repack_parse.specs.Read.{Few, Added, Ready, Sounds, Finished, Taken}
+use Rattle.repack_parse.specs.Read.{Added, Ready, Sounds, Finished, Taken}
 use Rattle.repack_parse.specs.Reading.{Reading, Holding}
 use Rattle.repack_parse.proofs.Records.{size-low}
 

@@ -1,6 +1,5 @@
 -- What holds while a take is read, stated by what remains of it: up to octet `at` it is read without fault.
 use mathlib.Core.Path.{_≡_}
-use mathlib.Core.Bool.{Bool, true}
 use mathlib.Core.List.{List}
 use Prim.Native.Nat.{ℕ, _+_, _*_, _/_, _%_, _≤_, _<_}
 use lib.ListN.{length, take, drop}
@@ -12,7 +11,7 @@ use Rattle.words.specs.Words.{wordAt}
 use Rattle.record.specs.Header.{headerOf}
 use Rattle.record.specs.Usual.{Usual}
 use Rattle.scratch.specs.declared.Open.{Open}
-use Rattle.scratch.specs.Codes.{heldCodes, Unmarked}
+use Rattle.scratch.specs.Codes.{heldCodes}
 use Rattle.scratch.specs.Stands.{Stands}
 use Rattle.repack_gather.specs.Gather.{Clear}
 use Rattle.repack_parse.specs.Read.{Few}

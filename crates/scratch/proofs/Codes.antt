@@ -1,16 +1,14 @@
 -- Laws of the codes: what is packed into a code comes out of it again; the codes of a record's kept lanes stand for what
 -- those lanes carry; a table grows by one stretch with each entry. Assumes nothing.
-use mathlib.Core.Path.{_≡_, refl, sym, ap, _∙_}
-use mathlib.Core.Bool.{Bool, true, false, cond}
+use mathlib.Core.Path.{_≡_, refl, ap, _∙_}
+use mathlib.Core.Bool.{Bool, true, false}
 use mathlib.Core.List.{List, [], _∷_, _++_, map}
-use mathlib.Core.Option.{Option, none, some}
 use Prim.Native.Nat.{ℕ, zero, suc, _+_, _-_, _*_, _/_, _%_, _≤_, _<_}
 use native.Mathlib.Omega.{arith}
-use borrow.Author.Tests.{eq-eqb, ne-eqb, eqb-true, eqb-false}
-use lib.Dec.{eqb}
-use lib.ListN.{length, getD, take, drop, length-append, length-drop, length-take}
-use lib.Seq.{take-append-le, drop-append-le, take-all, drop-drop, drop-nil}
-use Rattle.stream.specs.Items.{Pair, kept}
+use borrow.Author.Tests.{eqb-true, eqb-false}
+use lib.ListN.{length, take, drop, length-drop}
+use lib.Seq.{take-append-le, drop-append-le, take-all, drop-drop}
+use Rattle.stream.specs.Items.{kept}
 use Rattle.stream.specs.Packed.{Stretch}
 use Rattle.stream.specs.Layout.{odd, laneType, laneOf, lanesOf, typesOf, Kept, octet, position}
 use Rattle.stream.specs.Legal.{Octets}

@@ -2,10 +2,10 @@
 -- like two lists side by side, and where no item is marked they are data. Assumes nothing.
 use mathlib.Core.Path.{_≡_, refl, sym, ap, _∙_}
 use mathlib.Core.List.{List, [], _∷_, _++_, map}
-use Prim.Native.Nat.{ℕ, zero, suc, _+_, _-_, _≤_, _<_}
+use Prim.Native.Nat.{ℕ, zero, suc, _+_, _-_, _≤_}
 use native.Mathlib.Omega.{arith}
 use lib.ListN.{length, getD, take, drop, set, replicate, length-append, length-drop}
-use lib.Seq.{length-take-le, take-add, take-length, getD-drop}
+use lib.Seq.{length-take-le, take-add, getD-drop}
 use Rattle.scratch.specs.Codes.{dataCode, heldCode, heldCodes, Unmarked}
 
 -- ---- two lists side by side

@@ -1,21 +1,21 @@
 -- How a reader's state stands after each thing it does: closing the open stretch, turning to another pair, keeping a
 -- record's bytes. Assumes nothing.
 use mathlib.Core.Path.{_≡_, refl, sym, ap, _∙_}
-use mathlib.Core.Bool.{Bool, true, false, cond, not}
+use mathlib.Core.Bool.{Bool, true, false}
 use mathlib.Core.List.{List, [], _∷_, _++_, map, append-assoc, append-nil}
-use Prim.Native.Nat.{ℕ, zero, suc, _+_, _-_, _*_, _/_, _%_, _≤_, _<_}
+use Prim.Native.Nat.{ℕ, _+_, _-_, _/_, _%_, _≤_, _<_}
 use native.Mathlib.Omega.{arith}
 use borrow.Author.Tests.{eqb-true}
 use lib.Dec.{eqb}
-use lib.ListN.{length, take, drop, length-append, length-drop, drop-of-length-le}
+use lib.ListN.{length, drop, length-append, drop-of-length-le}
 use lib.Seq.{drop-append-le}
-use Rattle.stream.specs.Items.{Pair, samePair, Item, byte, end, itemPair, itemsOf}
+use Rattle.stream.specs.Items.{Pair, samePair, Item, byte, itemPair}
 use Rattle.stream.specs.Packed.{Stretch, cut}
 use Rattle.stream.specs.Layout.{odd, Kept}
-use Rattle.stream.proofs.Cut.{Begins, cut-begins, cut-ended, cut-open, stops}
+use Rattle.stream.proofs.Cut.{Begins, cut-begins, cut-open}
 use Rattle.stream.proofs.Pack.{map-append}
 use Rattle.scratch.specs.declared.Open.{Open}
-use Rattle.scratch.specs.Codes.{keptOf, pairFrom, entryOf, entryCount, stretchOf, stretchesOf, total}
+use Rattle.scratch.specs.Codes.{keptOf, pairFrom, entryOf, entryCount, stretchesOf, total}
 use Rattle.scratch.specs.Stands.{closedAt, pairedAt, keptAt, Stands}
 use Rattle.scratch.proofs.Codes.{entry-count, entry-stretch, total-more, stretches-more, stretches-one}
 

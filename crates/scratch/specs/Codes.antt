@@ -1,7 +1,7 @@
 -- The codes of items and of stretches, as repack's scratch arrays hold them: an item's octet in one array, its mark in
 -- another, a stretch's entry in a third.
 use mathlib.Core.Path.{_≡_}
-use mathlib.Core.Bool.{Bool, true, false, cond}
+use mathlib.Core.Bool.{cond}
 use mathlib.Core.List.{List, [], _∷_, _++_, map}
 use Prim.Native.Nat.{ℕ, zero, suc, _+_, _-_, _*_, _/_, _%_}
 use lib.ListN.{length, getD, take, drop, replicate}

@@ -9,10 +9,10 @@ use native.Mathlib.Nat.{le-of-suc-le-suc, zero-add, suc-add}
 use native.Mathlib.Numerals.{add-one}
 use native.Mathlib.Omega.{arith}
 use lib.Dec.{eqb, leb}
-use lib.ListN.{length, getD, take, drop, length-drop, length-take, drop-of-length-le}
+use lib.ListN.{length, getD, take, drop, length-drop, drop-of-length-le}
 use lib.Seq.{drop-cons, drop-drop, take-nil, take-all, length-take-le}
 use borrow.Author.Tests.{eq-eqb, ne-eqb, le-leb, lt-leb, leb-true, eqb-true, eqb-false}
-use Rattle.setup.specs.Grammar.{Line, text, line, firstLine, after, entry, lineOf, nothingLeft, Word, isWord, oneOf, modes, tlasts, isDigit, number, sheetOf}
+use Rattle.setup.specs.Grammar.{text, line, firstLine, after, entry, lineOf, nothingLeft, Word, isWord, oneOf, modes, tlasts, isDigit, number, sheetOf}
 use Rattle.setup.specs.Reading.{LineEnd, Begins, yes, no, Ended, EndSays, ends, no-end, NumberSays, numeral, no-numeral, Reads, NumberLineSays, number-read, number-refused, ModeLineSays, mode-read, mode-refused, TlastLineSays, tlast-read, tlast-refused}
 use Rattle.setup.specs.declared.End.{End}
 use Rattle.setup.specs.declared.End.the-variants.{At, Missing}
@@ -26,8 +26,6 @@ use Rattle.setup.specs.declared.TlastLine.{TlastLine}
 use Rattle.setup.specs.declared.TlastLine.the-variants.{Read as TlastLine·Read, Refused as TlastLine·Refused}
 use Rattle.setup.specs.declared.Mode.{Mode}
 use Rattle.setup.specs.declared.Tlast.{Tlast}
-use Rattle.setup.specs.declared.Setup.{Setup}
-use Rattle.setup.specs.declared.Sheet.{Sheet}
 use Rattle.setup.specs.declared.Sheet.the-variants.{Read, Refused}
 
 -- ---- the first line

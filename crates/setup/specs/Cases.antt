@@ -7,7 +7,6 @@ use Rattle.setup.specs.declared.Mode.{Mode}
 use Rattle.setup.specs.declared.Mode.the-variants.{Pack, Lanes}
 use Rattle.setup.specs.declared.Tlast.{Tlast}
 use Rattle.setup.specs.declared.Tlast.the-variants.{Wired, Absent}
-use Rattle.setup.specs.declared.Setup.{Setup}
 use Rattle.setup.specs.declared.Sheet.{Sheet}
 use Rattle.setup.specs.declared.Sheet.the-variants.{Read, Refused}
 

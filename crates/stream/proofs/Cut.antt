@@ -1,13 +1,11 @@
 -- Cutting items into stretches: the stretches hold the items, in order; they are as long as can be; and they are the only
 -- such division. Where demand 3's condition holds, two lists of items are cut apart. Assumes nothing.
-use mathlib.Core.Path.{_≡_, refl, sym, ap, _∙_, subst}
-use mathlib.Core.Bool.{Bool, true, false, not, _&&_, _||_, cond, or-true}
-use mathlib.Core.List.{List, [], _∷_, _++_, map, head?, getLast?, append-assoc, append-nil}
-use mathlib.Core.Option.{Option, none, some}
-use Prim.Native.Nat.{ℕ}
-use lib.Dec.{eqb, eqb-refl}
+use mathlib.Core.Path.{_≡_, refl, ap, _∙_}
+use mathlib.Core.Bool.{Bool, true, false, not, _||_, cond, or-true}
+use mathlib.Core.List.{List, [], _∷_, _++_, map, head?, append-assoc, append-nil}
+use mathlib.Core.Option.{some}
+use lib.Dec.{eqb}
 use borrow.Author.Tests.{eqb-true, eq-eqb, not-true}
-use native.Mathlib.Omega.{arith}
 use Rattle.stream.proofs.Bools.{no-such, and-left, and-right}
 use Rattle.stream.specs.Items.{Pair, samePair, Item, byte, end, itemPair, itemsOf}
 use Rattle.stream.specs.Packed.{Stretch, attach, cut, apart, parted}

@@ -1,24 +1,23 @@
 -- Demand 3, as its two statements in specs/Demand3: `calls` over every list of repacking calls, by induction on the list,
 -- and `parts` over every list of parts, by induction on that. Assumes nothing.
 use mathlib.Core.Path.{_≡_, refl, sym, ap, ap₂, _∙_, subst}
-use mathlib.Core.Bool.{Bool, true, false}
-use mathlib.Core.List.{List, [], _∷_, _++_, head?, getLast?, append-nil}
+use mathlib.Core.Bool.{true}
+use mathlib.Core.List.{List, [], _∷_, _++_, getLast?, append-nil}
 use mathlib.Core.Option.{Option, none, some}
-use Prim.Native.Nat.{ℕ, zero, suc, _+_, _*_, _%_, _≤_, _<_}
-use native.Mathlib.Nat.{zero-mod, zero-div}
+use Prim.Native.Nat.{ℕ, _+_, _%_, _≤_, _<_}
+use native.Mathlib.Nat.{zero-div}
 use native.Mathlib.Omega.{arith}
 use lib.ListN.{length, length-append}
 use Rattle.stream.specs.declared.Shape.{Shape}
-use Rattle.stream.specs.declared.Written.{Written}
 use Rattle.stream.specs.Items.{Item}
 use Rattle.stream.specs.Packed.{pack, parted}
-use Rattle.stream.specs.Layout.{Kept, size, atWidth, records, streamItems, octets, packedTransfers, packed}
+use Rattle.stream.specs.Layout.{Kept, size, atWidth, streamItems, octets, packedTransfers, packed}
 use Rattle.stream.specs.Legal.{Legal}
-use Rattle.stream.specs.Demand3.{Call, answerTo, accepted, resultOf, Standing, standsNext, acceptedAt, next, afterCalls, later, lastAccepted, packedAt, CallsKeep, Demand3·calls, Part, whole, partCall, AllAccepted, resultsJoined, sum, Divides, PartsJoin, Demand3·parts}
+use Rattle.stream.specs.Demand3.{Call, Standing, acceptedAt, next, afterCalls, later, lastAccepted, packedAt, Demand3·calls, Part, whole, partCall, AllAccepted, Divides, PartsJoin, Demand3·parts}
 use Rattle.stream.proofs.Pack.{pack-parted}
 use Rattle.stream.proofs.Records.{packed-items, streamItems-append, octets-append}
 use Rattle.stream.proofs.Legal.{packed-legal}
-use Rattle.stream.proofs.Repack.{WidthFits, Takes, Repacks, Accepted, takes-whole, accepted-of, of-accepted, result-packed}
+use Rattle.stream.proofs.Repack.{WidthFits, Takes, takes-whole, accepted-of, of-accepted, result-packed}
 
 -- ---- lists of calls
 

@@ -1,7 +1,7 @@
 -- What holds of every pair and of every kept byte of a stream's transfers holds of its items, of their packed form and of
 -- lane-keeping slices. P is what holds of a pair, Q of what a kept byte carries. Assumes nothing.
-use mathlib.Core.Path.{_≡_, refl, sym, subst}
-use mathlib.Core.Bool.{Bool, true, false, cond}
+use mathlib.Core.Path.{_≡_, refl}
+use mathlib.Core.Bool.{Bool, true, false}
 use mathlib.Core.List.{List, [], _∷_, _++_, map}
 use mathlib.Core.Option.{Option, none, some}
 use Prim.Native.Nat.{ℕ, zero, suc, _-_, _/_}

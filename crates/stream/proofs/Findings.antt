@@ -3,7 +3,7 @@
 use mathlib.Core.Path.{_≡_, refl, sym, ap, _∙_, subst}
 use mathlib.Core.Logic.{_⊎_, inl, inr, ⊎-elim}
 use mathlib.Core.Bool.{Bool, true, false}
-use mathlib.Core.List.{List, [], _∷_, _++_}
+use mathlib.Core.List.{List, [], _∷_}
 use mathlib.Core.Option.{Option, none, some}
 use Prim.Native.Nat.{ℕ, zero, suc, _+_, _≤_, _<_}
 use native.Mathlib.Nat.{add-zero, add-suc, suc-add, zero-add}
@@ -12,9 +12,9 @@ use native.Mathlib.Omega.{arith}
 use lib.ListN.{length, getD}
 use Rattle.stream.specs.declared.Shape.{Shape}
 use Rattle.stream.specs.Layout.{records}
-use Rattle.stream.specs.Checks.{Check, check, first}
-use Rattle.stream.specs.Handshake.{r1, r2, r3, r4, Finding, finding, ruleChecks, findings, firstFinding}
-use Rattle.stream.specs.Promises.{rule, cycleBefore, breaks, IsEarliest, Judges, Findings}
+use Rattle.stream.specs.Checks.{check, first}
+use Rattle.stream.specs.Handshake.{r1, r2, r3, r4, Finding, finding, findings}
+use Rattle.stream.specs.Promises.{rule, breaks, IsEarliest, Findings}
 use Rattle.stream.proofs.Bools.{no-such}
 use Rattle.stream.proofs.First.{first-none}
 

@@ -1,17 +1,17 @@
 -- The records of a packed form are filled from lane 0, and full but for the last of a stretch. Assumes nothing.
 use mathlib.Core.Path.{_≡_, refl, sym, ap, _∙_}
 use mathlib.Core.Bool.{Bool, true, false, not, _&&_, _||_, or-true}
-use mathlib.Core.List.{List, [], _∷_, _++_, map, append-nil, append-assoc}
-use mathlib.Core.Option.{Option, none, some}
-use Prim.Native.Nat.{ℕ, zero, suc, _+_, _-_, _*_, _/_, _%_, _≤_, _<_}
+use mathlib.Core.List.{List, [], _∷_, _++_, map}
+use mathlib.Core.Option.{Option, some}
+use Prim.Native.Nat.{ℕ, zero, suc, _+_, _-_, _*_, _/_, _≤_, _<_}
 use native.Mathlib.Nat.{suc-mul, zero-mul, div-mul-le-self}
 use native.Mathlib.Omega.{arith}
 use borrow.Author.Tests.{eq-eqb, ne-eqb}
 use lib.Dec.{eqb}
 use lib.ListN.{length, take, drop, length-map, length-drop}
 use lib.Seq.{length-take-le, take-all}
-use Rattle.stream.specs.Items.{Pair, samePair, Transfer, Item, kept}
-use Rattle.stream.specs.Packed.{Stretch, cut, fitted, spread, packStretch, packStretches, pack}
+use Rattle.stream.specs.Items.{Pair, samePair, Transfer, kept}
+use Rattle.stream.specs.Packed.{Stretch, cut, fitted, spread, packStretches}
 use Rattle.stream.specs.Layout.{Kept}
 use Rattle.stream.specs.Promises.{full, allNull, closes, Packs, PackedFull}
 use Rattle.stream.proofs.Bools.{or-more}

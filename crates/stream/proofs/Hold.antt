@@ -1,19 +1,19 @@
 -- What is certain once more items follow: all packed records but the last, and the last too where it has TLAST. What is
 -- held is packed again with what follows. Assumes nothing.
 use mathlib.Core.Path.{_≡_, refl, sym, ap, ap₂, _∙_, subst}
-use mathlib.Core.Bool.{Bool, true, false, not, _||_, cond}
-use mathlib.Core.List.{List, [], _∷_, _++_, map, head?, getLast?, append-assoc, append-nil}
-use mathlib.Core.Option.{Option, none, some}
-use Prim.Native.Nat.{ℕ, zero, suc, _+_, _-_, _*_, _/_, _%_, _≤_, _<_, min}
-use native.Mathlib.Nat.{suc-mul, zero-mul, div-add-mod', mod-lt, add-div-left}
+use mathlib.Core.Bool.{Bool, true, false}
+use mathlib.Core.List.{List, [], _∷_, _++_, map, append-assoc, append-nil}
+use mathlib.Core.Option.{Option, some}
+use Prim.Native.Nat.{ℕ, zero, suc, _+_, _-_, _*_, _/_, _≤_, _<_, min}
+use native.Mathlib.Nat.{suc-mul, zero-mul, div-add-mod', add-div-left}
 use native.Mathlib.Numerals.{add-one}
 use native.Mathlib.Omega.{arith}
 use lib.ListN.{length, take, drop, length-map, length-append, length-take, length-drop, take-append-drop}
 use lib.Seq.{drop-at}
-use Rattle.stream.specs.Items.{Pair, samePair, Transfer, Item, byte, end, kept, itemsOf, items}
-use Rattle.stream.specs.Packed.{Stretch, attach, cut, fitted, spread, packStretch, packStretches, pack, settled, held, apart, parted}
-use Rattle.stream.proofs.Cut.{samePair-refl, stretchItems, stretchesItems, Longest, proper, stops, ended-stops, stops-before, cut-stretch, cut-items, cut-longest, cut-run, cut-only}
-use Rattle.stream.proofs.Pack.{room-for, kept-some, kept-fitted, map-append, pack-parted}
+use Rattle.stream.specs.Items.{Pair, samePair, Transfer, Item, byte, itemsOf, items}
+use Rattle.stream.specs.Packed.{Stretch, attach, cut, fitted, spread, packStretch, packStretches, pack, settled, held}
+use Rattle.stream.proofs.Cut.{stretchItems, stretchesItems, Longest, proper, stops, ended-stops, stops-before, cut-stretch, cut-items, cut-longest, cut-run}
+use Rattle.stream.proofs.Pack.{room-for, kept-some, kept-fitted, map-append}
 
 -- v items more are one record more
 count-full : (v n m : ℕ) → 0 < v → n ≡ v → (n + suc m - 1) / v ≡ suc ((suc m - 1) / v)

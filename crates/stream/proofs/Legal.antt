@@ -1,26 +1,26 @@
 -- Legal streams: what is known of their transfers, and that transfers with those facts make legal streams. So the packed
 -- form, lane-keeping slices and harvested takes are legal. Assumes nothing.
-use mathlib.Core.Path.{_≡_, refl, sym, ap, _∙_, subst}
-use mathlib.Core.Bool.{Bool, true, false, _||_, or-false}
+use mathlib.Core.Path.{_≡_, refl, ap, _∙_}
+use mathlib.Core.Bool.{Bool, true, false, _||_}
 use mathlib.Core.List.{List, [], _∷_, _++_, map}
 use mathlib.Core.Option.{Option, none, some}
-use Prim.Native.Nat.{ℕ, zero, suc, _+_, _*_, _/_, _%_, _^_, _≤_, _<_}
+use Prim.Native.Nat.{ℕ, zero, suc, _+_, _/_, _^_, _≤_, _<_}
 use native.Mathlib.Nat.{mul-mod-left, pow-suc}
 use native.Mathlib.Omega.{arith}
-use borrow.Author.Tests.{leb-false, ltb-false, lt-leb, le-ltb}
+use borrow.Author.Tests.{ltb-false, lt-leb, le-ltb}
 use lib.Dec.{leb, ltb}
 use lib.Pow.{pow-mono}
 use lib.ListN.{length, getD, take, drop, length-map}
 use Rattle.stream.specs.declared.Shape.{Shape}
 use Rattle.stream.specs.Items.{Pair, Transfer}
-use Rattle.stream.specs.Layout.{bitOf, maskOf, flags, pairOf, tkeep, tstrb, dataOctets, laneTypes, size, atWidth, typesOf, LaneType, dataLane, positionLane, nullLane, reservedLane, laneType, laneOf, lanesOf, isReserved, anyReserved, Kept, octet, position, keepBit, strbBit, laneOctet, maskOctets, transferOf, octetsOf, pieces, records, recordCount, joined, transfers, octets, streamItems, packedTransfers, packed, slicedTransfers, sliced}
+use Rattle.stream.specs.Layout.{bitOf, maskOf, flags, pairOf, tkeep, tstrb, dataOctets, laneTypes, size, atWidth, typesOf, LaneType, dataLane, positionLane, nullLane, reservedLane, laneType, laneOf, lanesOf, isReserved, anyReserved, Kept, octet, position, keepBit, strbBit, laneOctet, maskOctets, transferOf, octetsOf, pieces, records, recordCount, transfers, octets, streamItems, packedTransfers, packed, slicedTransfers, sliced}
 use Rattle.refusal.specs.declared.Refusal.the-variants.{Field, Reserved}
-use Rattle.stream.specs.Checks.{Check, check, first, fieldFault, reservedFault, transferFlags, transferChecks}
+use Rattle.stream.specs.Checks.{check, first, fieldFault, reservedFault, transferFlags, transferChecks}
 use Rattle.stream.specs.Legal.{Octets, Legal}
 use Rattle.stream.proofs.Bools.{neither}
 use Rattle.stream.proofs.Pack.{Wide, wide-pack, wide-slices}
-use Rattle.stream.proofs.Each.{EachByte, EachLane, EachTransfer, each-items, each-pack, each-slices}
-use Rattle.stream.proofs.First.{first-none, none-first}
+use Rattle.stream.proofs.Each.{EachLane, EachTransfer, each-items, each-pack, each-slices}
+use Rattle.stream.proofs.First.{first-none}
 use Rattle.stream.proofs.Records.{odd-mask, half-mask, two-octets, length-octets, records-joined, octets-sized}
 
 -- ---- what a legal record's pair and kept bytes are

@@ -1,22 +1,21 @@
 -- Transfers that are filled from lane 0, full where another one follows, and all-null only for an end that stands alone,
 -- are the packed form of their items: the properties of a packed form leave no choice. Assumes nothing.
-use mathlib.Core.Path.{_≡_, refl, sym, ap, _∙_, subst}
+use mathlib.Core.Path.{_≡_, refl, sym, ap, _∙_}
 use mathlib.Core.Bool.{Bool, true, false, not, _&&_, _||_, cond}
 use mathlib.Core.List.{List, [], _∷_, _++_, map, append-nil, append-assoc}
 use mathlib.Core.Option.{Option, none, some}
-use Prim.Native.Nat.{ℕ, zero, suc, _+_, _-_, _*_, _/_, _≤_, _<_}
+use Prim.Native.Nat.{ℕ, _+_, _-_, _/_, _≤_, _<_}
 use native.Mathlib.Nat.{div-eq-of-lt}
 use native.Mathlib.Omega.{arith}
-use borrow.Author.Tests.{eqb-true, eqb-false, eq-eqb, not-true}
+use borrow.Author.Tests.{eqb-true, eqb-false}
 use lib.Dec.{eqb}
 use lib.ListN.{length, length-map}
-use lib.Seq.{take-all}
 use Rattle.stream.specs.Items.{Pair, samePair, Transfer, Item, byte, end, kept, itemsOf, items}
-use Rattle.stream.specs.Packed.{Stretch, cut, fitted, spread, packStretch, pack}
+use Rattle.stream.specs.Packed.{Stretch, cut, fitted, packStretch, pack}
 use Rattle.stream.specs.Layout.{Kept}
-use Rattle.stream.specs.Promises.{full, allNull, closes, Packs, PackedOnly}
+use Rattle.stream.specs.Promises.{full, allNull, Packs, PackedOnly}
 use Rattle.stream.proofs.Bools.{no-such}
-use Rattle.stream.proofs.Cut.{samePair-eq, nonEmpty, stretchItems, proper, stops, ended-stops, stops-before}
+use Rattle.stream.proofs.Cut.{samePair-eq, nonEmpty, stops, stops-before}
 use Rattle.stream.proofs.Pack.{length-fitted, map-append}
 use Rattle.stream.proofs.Hold.{fitted-full, pack-stretch, pack-full}
 

@@ -1,16 +1,15 @@
 -- The packed form and lane-keeping slices carry the items they were made of, have the asked width, and their records are
 -- full but the last of a stretch. Packed forms join where demand 3's condition holds. Assumes nothing.
-use mathlib.Core.Path.{_≡_, refl, sym, ap, _∙_, subst}
-use mathlib.Core.Bool.{Bool, true, false, not, _&&_, _||_, cond}
+use mathlib.Core.Path.{_≡_, refl, sym, ap, _∙_}
+use mathlib.Core.Bool.{Bool, true, false}
 use mathlib.Core.List.{List, [], _∷_, _++_, map, append-assoc, append-nil}
 use mathlib.Core.Option.{Option, none, some}
 use Prim.Native.Nat.{ℕ, zero, suc, _+_, _-_, _*_, _/_, _%_, _≤_, _<_}
-use native.Mathlib.Nat.{suc-mul, zero-mul, div-add-mod', mod-lt, add-div-left, zero-div, div-eq-of-lt}
-use native.Mathlib.Numerals.{add-one, sub-one}
+use native.Mathlib.Nat.{suc-mul, zero-mul, div-add-mod', mod-lt, add-div-left}
+use native.Mathlib.Numerals.{add-one}
 use native.Mathlib.Omega.{arith}
-use lib.ListN.{length, take, drop, length-map, length-append, length-drop, drop-of-length-le}
-use lib.Seq.{drop-nil}
-use Rattle.stream.specs.Items.{Pair, Transfer, Item, byte, end, kept, itemsOf, transferItems, items}
+use lib.ListN.{length, drop, length-map, length-drop, drop-of-length-le}
+use Rattle.stream.specs.Items.{Pair, Transfer, Item, byte, kept, itemsOf, transferItems, items}
 use Rattle.stream.specs.Packed.{Stretch, cut, fitted, spread, packStretch, packStretches, pack, sliceTransfer, slices, parted}
 use Rattle.stream.proofs.Cut.{stretchItems, stretchesItems, cut-items, cut-parted}
 

@@ -1,28 +1,28 @@
 -- Every statement of specs/Promises, proved: mostly by citing the law that carries it. Assumes nothing.
-use mathlib.Core.Path.{_≡_, refl, sym, ap, ap₂, _∙_}
+use mathlib.Core.Path.{_≡_, refl, sym, ap, _∙_}
 use mathlib.Core.Logic.{_⊎_, inl, inr, ⊎-elim}
-use mathlib.Core.Bool.{Bool, true, false, not, _||_, or-true}
-use mathlib.Core.List.{List, [], _∷_, map}
+use mathlib.Core.Bool.{Bool, true, false, not, or-true}
+use mathlib.Core.List.{List, [], _∷_}
 use borrow.Author.Tests.{eqb-true, eqb-false, eq-eqb, ne-eqb, ltb-true, lt-ltb, leb-false, not-true}
 use lib.Dec.{eqb, ltb}
 use Prim.Native.Nat.{ℕ, zero, suc, _+_, _-_, _*_, _/_, _%_, _^_, _≤_, _<_}
 use lib.Pow.{pow-pos, pow-mono, shr-shr}
 use native.Mathlib.Nat.{le-trans, one-mul, mod-le, le-div-iff-mul-le, div-one, div-div-eq-div-mul, pow-suc, mul-comm, suc-mul, zero-mul, div-add-mod', mul-le-mul-right, div-mul-le-self}
 use native.Mathlib.Omega.{arith}
-use lib.ListN.{length, getD, take, drop, length-map, length-append, length-drop}
+use lib.ListN.{length, getD, drop, length-map, length-append, length-drop}
 use lib.Seq.{length-take-le}
 use mathlib.Core.Option.{none, some}
 use Rattle.stream.specs.declared.Shape.{Shape}
 use Rattle.stream.specs.Items.{Item, Transfer, items}
-use Rattle.stream.specs.Packed.{pack, spread, sliceTransfer, slices}
-use Rattle.stream.specs.Layout.{bit, odd, size, tkeep, tstrb, atWidth, nullLane, laneType, typesOf, Kept, dataOctets, recordCount, records, transferOf, transfers, octets, streamItems, packed, slicedTransfers, sliced}
+use Rattle.stream.specs.Packed.{pack, sliceTransfer, slices}
+use Rattle.stream.specs.Layout.{bit, odd, size, tkeep, tstrb, atWidth, nullLane, laneType, typesOf, Kept, dataOctets, recordCount, records, transferOf, transfers, octets, streamItems, slicedTransfers}
 use Rattle.stream.specs.Checks.{widthCheck, lengthCheck, indexCheck}
 use Rattle.stream.specs.Answers.{dataRefusal, dataPart}
-use Rattle.stream.specs.Promises.{SetAbove, FieldBits, DataOctets, FirstInOrder, WidthExactly, LengthExactly, ByteTypes, RepackingKeeps, PackedLegal, PackedLength, PackedFull, PackedOnly, Hold, Joins, Canonical, Keeps, LaneKeeping, Findings, HarvestLegal, HarvestRepacks}
+use Rattle.stream.specs.Promises.{SetAbove, FieldBits, DataOctets, FirstInOrder, WidthExactly, LengthExactly, ByteTypes, RepackingKeeps, PackedLegal, PackedLength, PackedFull, PackedOnly, Hold, Joins, Canonical, LaneKeeping, Findings, HarvestLegal, HarvestRepacks}
 use Rattle.stream.proofs.Bools.{or-split}
 use Rattle.stream.proofs.First.{first-some, some-first, first-none}
 use Rattle.stream.proofs.Repack.{WidthFits, width-fits}
-use Rattle.stream.proofs.Pack.{Wide, pack-parted, length-spread, items-slices, wide-slices}
+use Rattle.stream.proofs.Pack.{pack-parted, length-spread, items-slices, wide-slices}
 use Rattle.stream.proofs.Hold.{hold}
 use Rattle.stream.proofs.Records.{packed-items, length-packed, transfers-back}
 use Rattle.stream.proofs.Legal.{packed-legal, sliced-legal, wide-transfers}

@@ -1,21 +1,20 @@
 -- Records and transfers: a stream of whole records divides into them and is joined from them, and a transfer's octets
 -- stand for that transfer. Assumes nothing.
-use mathlib.Core.Path.{_≡_, refl, sym, ap, ap₂, _∙_, subst}
+use mathlib.Core.Path.{_≡_, refl, sym, ap, ap₂, _∙_}
 use mathlib.Core.Bool.{Bool, true, false}
-use mathlib.Core.List.{List, [], _∷_, _++_, map, append-assoc, append-nil}
+use mathlib.Core.List.{List, [], _∷_, _++_, map, append-assoc}
 use mathlib.Core.Option.{Option, none, some}
 use Prim.Native.Nat.{ℕ, zero, suc, _+_, _-_, _*_, _/_, _%_, _≤_, _<_}
 use native.Mathlib.Numerals.{add-one}
-use native.Mathlib.Nat.{div-eq-sub-div, mod-eq-sub-mod, mod-eq-of-lt, zero-add, suc-add, div-mul-le-self, suc-mul, zero-mul, div-add-mod', div-add-mod, mul-div-cancel, zero-div, mul-add-div-right, mul-mod-left}
+use native.Mathlib.Nat.{div-eq-sub-div, mod-eq-sub-mod, mod-eq-of-lt, zero-add, suc-add, div-mul-le-self, suc-mul, zero-mul, div-add-mod', div-add-mod, mul-div-cancel, mul-add-div-right}
 use native.Mathlib.Decide.{decLe}
 use native.Mathlib.Omega.{arith}
 use lib.ListN.{length, take, drop, length-map, length-append, length-drop, take-append-drop}
 use borrow.Author.Tests.{eq-eqb, ne-eqb}
 use lib.Seq.{length-take-le, take-all, take-at, drop-at, take-append-le, drop-append-le}
 use Rattle.stream.specs.declared.Shape.{Shape}
-use Rattle.stream.specs.Items.{Transfer, Item, items}
-use Rattle.stream.specs.Packed.{pack, slices}
-use Rattle.stream.specs.Layout.{bit, odd, bitOf, maskOf, size, atWidth, typesOf, laneType, laneOf, lanesOf, Kept, octet, position, keepBit, strbBit, laneOctet, maskOctets, transferOf, octetsOf, pieces, recordCount, records, joined, transfers, octets, streamItems, packedTransfers, packed, slicedTransfers, sliced}
+use Rattle.stream.specs.Items.{Transfer, items}
+use Rattle.stream.specs.Layout.{bit, odd, bitOf, maskOf, size, atWidth, typesOf, laneType, laneOf, lanesOf, Kept, octet, position, keepBit, strbBit, laneOctet, transferOf, octetsOf, pieces, recordCount, records, joined, transfers, octets, streamItems, packedTransfers, packed}
 use Rattle.stream.proofs.Pack.{map-append, items-append, items-pack, wide-pack, Wide}
 
 pub size-pos : (s : Shape) → 0 < size s

@@ -1,22 +1,20 @@
 -- What an accepted repacking call means: its widths are from 1 to 16, its input is a take of whole records without fault,
 -- and its result is the packed form. Assumes nothing.
-use mathlib.Core.Path.{_≡_, refl, sym, ap, _∙_, subst}
-use mathlib.Core.Bool.{Bool, true, false, not, _||_}
+use mathlib.Core.Path.{_≡_, refl}
+use mathlib.Core.Bool.{false, not}
 use mathlib.Core.List.{List, [], _∷_, _++_}
 use mathlib.Core.Option.{Option, none, some}
-use Prim.Native.Nat.{ℕ, zero, suc, _+_, _*_, _%_, _≤_, _<_}
+use Prim.Native.Nat.{ℕ, _+_, _*_, _%_, _≤_}
 use native.Mathlib.Omega.{arith}
-use borrow.Author.Tests.{eqb-false, eqb-true, ltb-false, le-ltb, ne-eqb, eq-eqb, not-false}
+use borrow.Author.Tests.{eqb-false, eqb-true, ltb-false, le-ltb, ne-eqb, not-false}
 use lib.Dec.{eqb, ltb}
-use lib.ListN.{length, take, drop}
+use lib.ListN.{length, drop}
 use lib.Seq.{take-at}
 use Rattle.refusal.specs.declared.Refusal.{Refusal}
 use Rattle.stream.specs.declared.Shape.{Shape}
-use Rattle.stream.specs.declared.Written.{Written}
-use Rattle.stream.specs.declared.Written.the-variants.{Records, Refused as NotWritten}
 use Rattle.stream.specs.Layout.{size, atWidth, records, packedTransfers, packed}
-use Rattle.stream.specs.Checks.{Check, check, first, widthCheck, shapeChecks, captureMost, lengthCheck, transferChecks, roomCheck}
-use Rattle.stream.specs.Answers.{written, lentAfter, repackRefusal, repackAnswer, repackAfter}
+use Rattle.stream.specs.Checks.{first, widthCheck, captureMost, lengthCheck, transferChecks, roomCheck}
+use Rattle.stream.specs.Answers.{written, repackRefusal, repackAnswer, repackAfter}
 use Rattle.stream.specs.Demand3.{Call, answerTo, accepted, resultOf}
 use Rattle.stream.proofs.First.{first-none, none-first, append-none, none-append}
 use Rattle.stream.proofs.Bools.{neither}

@@ -1,6 +1,6 @@
 -- The faults that refuse a stream call (paper 01, 'Refusal numbers'), each as a check: whether the fault is there, and the
 -- refusal it gives. A call lists its checks in 01's order, and the first fault that is there is what it answers.
-use mathlib.Core.Bool.{Bool, true, false, not, _||_, cond}
+use mathlib.Core.Bool.{Bool, not, _||_, cond}
 use mathlib.Core.List.{List, [], _∷_, map}
 use mathlib.Core.Option.{Option, none, some}
 use Prim.Native.Nat.{ℕ, suc, _%_, _^_}

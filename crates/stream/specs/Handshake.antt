@@ -1,6 +1,6 @@
 -- Handshake findings (paper 01, 'Handshake findings'; Arm IHI 0051A 2.2.1, 2.4.3, 2.7.2): rules R1 to R4 on a cycle and
 -- the cycle before it, the first finding of a take, its transfers, and fill-in of TLAST.
-use mathlib.Core.Bool.{Bool, true, false, not, _&&_, _||_, cond, Bool·beq}
+use mathlib.Core.Bool.{Bool, true, false, not, _&&_, cond, Bool·beq}
 use mathlib.Core.List.{List, [], _∷_, _++_, map}
 use mathlib.Core.Option.{Option, none, some}
 use Prim.Native.Nat.{ℕ, suc, _+_, _*_, _/_}

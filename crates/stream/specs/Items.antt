@@ -1,7 +1,7 @@
 -- What a stream carries (paper 01, 'What a stream carries'; Arm IHI 0051A 2.3.1, 2.3.2, 2.5), over any type A of what a
 -- kept byte lane carries. No octet is known here: which octets make a record is in Layout.
-use mathlib.Core.Bool.{Bool, true, false, _&&_, cond}
-use mathlib.Core.List.{List, [], _∷_, _++_, map, flatMap}
+use mathlib.Core.Bool.{Bool, _&&_, cond}
+use mathlib.Core.List.{List, [], _∷_, _++_, map}
 use mathlib.Core.Option.{Option, none, some}
 use Prim.Native.Nat.{ℕ}
 use lib.Dec.{eqb}

@@ -1,7 +1,7 @@
 -- Legal streams (paper 01, "Demand 3's words").
 use mathlib.Core.Path.{_≡_}
 use mathlib.Core.List.{List, [], _∷_}
-use mathlib.Core.Option.{Option, none}
+use mathlib.Core.Option.{none}
 use Prim.Native.Nat.{ℕ, _≤_, _<_, _%_}
 use lib.ListN.{length}
 use Rattle.stream.specs.declared.Shape.{Shape}

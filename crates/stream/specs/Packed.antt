@@ -5,7 +5,7 @@ use mathlib.Core.List.{List, [], _∷_, _++_, map, head?, getLast?}
 use mathlib.Core.Option.{Option, none, some}
 use Prim.Native.Nat.{ℕ, zero, suc, _-_, _/_}
 use lib.ListN.{length, drop}
-use Rattle.stream.specs.Items.{Pair, samePair, Transfer, Item, byte, end, itemPair, itemsOf}
+use Rattle.stream.specs.Items.{Pair, samePair, Transfer, Item, byte, end, itemPair}
 
 -- A stretch: items of one pair with no end among them, but perhaps one behind them.
 pub record Stretch (A : Type 0) : Type 0 where

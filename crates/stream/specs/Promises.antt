@@ -4,7 +4,7 @@ use mathlib.Core.Path.{_≡_}
 use mathlib.Core.Bool.{Bool, true, false, not, _&&_, _||_, cond}
 use mathlib.Core.List.{List, [], _∷_, _++_, map}
 use mathlib.Core.Option.{Option, none, some}
-use Prim.Native.Nat.{ℕ, zero, suc, _+_, _-_, _*_, _/_, _%_, _^_, _≤_, _<_}
+use Prim.Native.Nat.{ℕ, zero, suc, _+_, _*_, _/_, _%_, _^_, _≤_, _<_}
 use mathlib.Core.Logic.{_⊎_, _↔_, _≢_}
 use lib.Dec.{eqb, ltb}
 use lib.ListN.{length, getD}
@@ -13,7 +13,7 @@ use Rattle.refusal.specs.declared.Refusal.the-variants.{Room}
 use Rattle.stream.specs.declared.Shape.{Shape}
 use Rattle.stream.specs.Items.{samePair, Transfer, Item, kept, items}
 use Rattle.stream.specs.Packed.{fitted, pack, settled, held, parted}
-use Rattle.stream.specs.Layout.{bit, tkeep, tstrb, size, atWidth, LaneType, nullLane, laneType, laneTypes, Kept, records, transfers, streamItems, packedTransfers, packed, slicedTransfers, sliced}
+use Rattle.stream.specs.Layout.{bit, tkeep, tstrb, size, atWidth, nullLane, laneType, laneTypes, Kept, records, streamItems, packedTransfers, packed, slicedTransfers, sliced}
 use Rattle.stream.specs.Checks.{Check, first, widthCheck, lengthCheck}
 use Rattle.stream.specs.Handshake.{r1, r2, r3, r4, Finding, firstFinding, harvested}
 use Rattle.stream.specs.Answers.{repackRefusal, harvestRefusal, dataRefusal, dataPart}

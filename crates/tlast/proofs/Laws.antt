@@ -4,16 +4,15 @@ use mathlib.Core.Path.{_≡_, refl, sym, ap, ap₂, _∙_, subst}
 use mathlib.Core.Bool.{Bool, true, false}
 use mathlib.Core.List.{List, [], _∷_, _++_, map, append-assoc, append-nil}
 use mathlib.Core.Option.{Option, none, some}
-use Prim.Native.Nat.{ℕ, zero, suc, _+_, _-_, _*_, _/_, _%_, _≤_, _<_, min}
+use Prim.Native.Nat.{ℕ, zero, suc, _+_, _-_, _*_, _/_, _%_, _≤_, _<_}
 use native.Mathlib.Nat.{zero-div, zero-add, add-zero}
 use native.Mathlib.Numerals.{add-one}
 use native.Mathlib.Omega.{arith}
-use lib.ListN.{length, getD, take, drop, set, length-take, length-drop, length-set, length-map, drop-of-length-le}
+use lib.ListN.{length, getD, take, drop, set, length-drop, length-map, drop-of-length-le}
 use lib.Seq.{length-take-le, take-all, set-split, take-append-add, drop-append-add, drop-drop, getD-drop, drop-length}
 use Rattle.refusal.specs.declared.Refusal.{Refusal}
 use Rattle.refusal.specs.declared.Refusal.the-variants.{Width, Length}
 use Rattle.stream.specs.declared.Shape.{Shape}
-use Rattle.stream.specs.declared.Written.{Written}
 use Rattle.stream.specs.declared.Written.the-variants.{Records, Refused}
 use Rattle.stream.specs.Layout.{bitOf, size, records, recordCount, joined}
 use Rattle.stream.specs.Checks.{widthCheck, lengthCheck}

@@ -4,10 +4,9 @@ use refusal::Refusal;
 use stream::Shape;
 use stream::Written;
 ghost use mathlib.Core.Path.{_≡_};
-ghost use Prim.Native.Nat.{_≤_, _%_};
-ghost use lib.ListN.{length};
-ghost use Rattle.stream.specs.Layout.{bitOf, size, recordCount};
-ghost use Rattle.stream.specs.Handshake.{filledIn, baseLevel};
+ghost use Prim.Native.Nat.{_≤_};
+ghost use Rattle.stream.specs.Layout.{bitOf};
+ghost use Rattle.stream.specs.Handshake.{baseLevel};
 ghost use Rattle.stream.specs.Answers.{FilledIn};
 ghost use Rattle.tlast.specs.Filling.{Fills, Filled};
 

@@ -6,8 +6,8 @@ use Prim.Native.Nat.{ℕ, zero, suc, _+_, _-_, _*_, _/_, _%_, _^_, _≤_, _<_}
 use native.Mathlib.Nat.{add-zero, one-mul, mod-eq-of-lt}
 use native.Mathlib.Omega.{arith}
 use lib.Pow.{mod-pow-add, pow-pos, pow-lt}
-use lib.ListN.{length, getD, take, drop, set, length-append, length-drop, length-take}
-use lib.Seq.{take-append-le, drop-append-le, take-take, drop-drop, getD-drop, length-take-le, drop-append-add, take-append-add, sets-eq, set-split}
+use lib.ListN.{length, getD, take, drop, set, length-append, length-drop}
+use lib.Seq.{take-append-le, drop-drop, getD-drop, length-take-le, drop-append-add, take-append-add, sets-eq, set-split}
 use Rattle.words.specs.Words.{wordAt, octetsOfWord, front, placed}
 
 -- ---- words and octets

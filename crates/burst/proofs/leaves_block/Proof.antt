@@ -1,8 +1,7 @@
 -- `burst::leaves_block` meets its contract: the test of INCR is the 4KB rule, and no other kind can break it.
 -- Assumes nothing.
 use borrow.Author.Needs.{needs}
-use mathlib.Core.Path.{_≡_}
-use Prim.Native.Nat.{ℕ, _+_}
+use Prim.Native.Nat.{_+_}
 use native.Mathlib.Omega.{arith}
 use Rattle.burst_spec.specs.declared.Kind.the-variants.{Fixed, Wrap}
 use Rattle.burst_spec.proofs.Known.{clash, known, size-small, span-small}

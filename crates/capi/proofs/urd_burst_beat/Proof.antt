@@ -1,6 +1,6 @@
 -- `capi::urd_burst_beat` meets its contract: it shows what the call answers. Assumes nothing.
-use mathlib.Core.Path.{refl, _∙_}
-use Rattle.burst_spec.specs.Answers.{burstOf, judgement, beatAnswer, stepAnswer, judgementShows, beatShows, stepShows}
+use mathlib.Core.Path.{refl}
+use Rattle.burst_spec.specs.Answers.{burstOf, beatAnswer, beatShows}
 use Rattle.capi.proofs.Told.{told}
 use borrow.Author.Needs.{needs}
 use Rattle.capi.proofs.urd_burst_beat.Statement.{statement}

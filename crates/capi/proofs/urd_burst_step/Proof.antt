@@ -2,7 +2,7 @@
 use mathlib.Core.Path.{refl, sym, _∙_}
 use mir.Facts.{toZ-ofZ}
 use mir.Syntax.{w32}
-use Rattle.burst_spec.specs.Answers.{burstOf, judgement, beatAnswer, stepAnswer, judgementShows, beatShows, stepShows}
+use Rattle.burst_spec.specs.Answers.{burstOf, stepAnswer, stepShows}
 use Rattle.capi.proofs.Told.{told, step-fits}
 use borrow.Author.Needs.{needs}
 use Rattle.capi.proofs.urd_burst_step.Statement.{statement}

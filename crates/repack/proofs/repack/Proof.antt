@@ -1,5 +1,5 @@
 -- `repack::repack` meets its contract: one test after the other, in the order of the checks. Assumes nothing.
-use mathlib.Core.Path.{_≡_, refl, sym, ap, _∙_}
+use mathlib.Core.Path.{sym, _∙_}
 use Rattle.stream.proofs.Repack.{width-fits}
 use Rattle.repack.proofs.Answer.{bad-width, bad-output, bad-length}
 use borrow.Author.Needs.{needs}

@@ -1,6 +1,6 @@
 -- `repack_gather::sift_marked` meets its contract: lane by lane, what is left to keep gets shorter. Assumes nothing.
 use native.Mathlib.Omega.{arith}
-use mathlib.Core.Path.{_∙_, sym}
+use mathlib.Core.Path.{_∙_}
 use Prim.Native.Nat.{_-_}
 use lib.ListN.{length}
 use Rattle.scratch.specs.Codes.{markBits}

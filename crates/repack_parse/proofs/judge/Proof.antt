@@ -1,5 +1,4 @@
 -- `repack_parse::judge` meets its contract: one fault after the other. Assumes nothing.
-use mathlib.Core.Path.{_≡_, refl, sym, _∙_}
 use Rattle.repack_parse.proofs.Faults.{judge-field, judge-reserved, judge-sound}
 use borrow.Author.Needs.{needs}
 use Rattle.repack_parse.proofs.judge.Statement.{statement}

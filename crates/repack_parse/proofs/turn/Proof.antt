@@ -1,6 +1,5 @@
 -- `repack_parse::turn` meets its contract, by a law for each way it returns. Assumes nothing.
 use Rattle.repack_parse.proofs.Steps.{turn-empty, turn-close}
-use lib.ListN.{set}
 use borrow.Author.Needs.{needs}
 use Rattle.repack_parse.proofs.turn.Statement.{statement}
 use Rattle.repack_parse.proofs.turn.Tie as tie

@@ -1,6 +1,6 @@
 -- `repack_parse::unusual` meets its contract: the fault that was found is the record's first check, and a sound record is added. Assumes nothing.
-use mathlib.Core.Path.{_≡_, refl, sym, _∙_}
-use Prim.Native.Nat.{_/_, _<_}
+use mathlib.Core.Path.{refl, sym, _∙_}
+use Prim.Native.Nat.{_/_}
 use native.Mathlib.Omega.{arith}
 use lib.Pow.{pow-mono}
 use Rattle.stream.specs.Layout.{size}

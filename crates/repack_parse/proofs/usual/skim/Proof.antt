@@ -1,10 +1,9 @@
 -- `repack_parse::usual::skim` meets its contract: a usual record at a time. Assumes nothing.
-use mathlib.Core.Path.{_≡_, refl, sym, _∙_, subst}
-use Prim.Native.Nat.{ℕ, _+_, _-_, _≤_, _<_}
+use mathlib.Core.Path.{sym, _∙_}
+use Prim.Native.Nat.{_-_}
 use native.Mathlib.Omega.{arith}
 use borrow.Author.Tests.{not-false}
 use lib.ListN.{length}
-use Rattle.stream.specs.Layout.{size}
 use Rattle.stream.proofs.Records.{size-pos}
 use Rattle.repack_parse.specs.Reading.{Skimmed}
 use Rattle.repack_parse.proofs.Records.{size-low}
