@@ -1,4 +1,4 @@
-/* A short tour in C: judge a capture, harvest it, repack it to another width, and walk through a burst.
+/* A short tour in C: judge a capture, harvest it, repack it to another width, walk through a burst, and make a report.
  * It prints bindings/example.out. `make lib` first, then: gcc -std=c99 -Iinclude bindings/c/example.c build/lib/liburdhvasolk.a -o build/example */
 #include "urdhvasolk.h"
 
@@ -47,9 +47,21 @@ static void burst(void)
     }
 }
 
+/* All of it in one call: a setup sheet and a take give the report's lines and the result. */
+static void report(void)
+{
+    static const char sheet[] = "width_in=4\nwidth_out=2\nmode=pack\ntlast=wired\n";
+    uint8_t out[64], text[128];
+
+    urd_report_answer answer = urd_report((const uint8_t *)sheet, sizeof sheet - 1, 1, capture, sizeof capture, 1,
+                                          out, sizeof out, text, sizeof text);
+    fwrite(text, 1, (size_t)answer.text, stdout);
+}
+
 int main(void)
 {
     stream();
     burst();
+    report();
     return 0;
 }

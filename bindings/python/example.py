@@ -29,5 +29,11 @@ def burst():
         print(line if following.refusal else f"{line}, next {following.step:+}")
 
 
+def report():
+    """All of it in one call: a setup sheet and a take give the report's lines and the result."""
+    print(urd.report(b"width_in=4\nwidth_out=2\nmode=pack\ntlast=wired\n", CAPTURE).text, end="")
+
+
 stream()
 burst()
+report()
