@@ -8,4 +8,6 @@ pub mod Lanes
 pub mod Transfer
 pub mod Step
 pub mod Answers
+pub mod Once
+pub mod Witnesses
 pub mod Cases

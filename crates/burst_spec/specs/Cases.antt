@@ -1,5 +1,5 @@
--- Paper 01's cases B1 to B4 and worked entries for each refusal, each bound and the top of memory: what is asked of which
--- burst, and the row that must be answered. One statement covers the whole list (proofs/Cases). B1 to B4 are typed from the
+-- Paper 01's cases B1 to B6 and worked entries for each refusal, each bound and the top of memory: what is asked of which
+-- burst, and the row that must be answered. One statement covers the whole list (proofs/Cases). B1 to B6 are typed from the
 -- paper, the other entries worked by hand; of the definitions only the kind of a kind's number is used here.
 use mathlib.Core.List.{List, [], _∷_, _++_, map}
 use Prim.Native.Nat.{ℕ}
@@ -83,6 +83,17 @@ b3 =
 abbrev pub b4 : List Case
 b4 = accepts (burstOf 0xFF2 3 2 1 4) ∷ refuses (burstOf 0xFF2 4 2 1 4) 12 ∷ []
 
+-- "B5 INCR 0x1001, 16 bytes, 256 beats, bus 16: accepted; 0x1010: FENCE."
+abbrev pub b5 : List Case
+b5 = accepts (burstOf 0x1001 255 4 1 16) ∷ refuses (burstOf 0x1010 255 4 1 16) 12 ∷ []
+
+-- "B6 FIXED 16 beats accepted, 17 COUNT; WRAP of 3 COUNT; WRAP 0x32 with 4 bytes ALIGN." The paper gives no address of the
+-- first three; here 0.
+abbrev pub b6 : List Case
+b6 =
+    accepts (burstOf 0 15 0 0 1) ∷ refuses (burstOf 0 16 0 0 1) 10 ∷ refuses (burstOf 0 2 2 2 4) 10
+    ∷ refuses (burstOf 0x32 3 2 2 4) 11 ∷ []
+
 -- Each refusal, some where a later one would be given too, and each bound from outside.
 abbrev pub refusals : List Case
 refusals =
@@ -90,8 +101,8 @@ refusals =
     ∷ refuses (burstOf 0xFF1 256 8 3 4) 8 ∷ refuses (burstOf 0xFF1 256 3 3 4) 8 ∷ refuses (burstOf 0 0 8 1 128) 8
     ∷ refuses (burstOf 0xFF1 256 2 3 4) 9 ∷ refuses (burstOf 0 0 0 3 1) 9 ∷ refuses (burstOf 0 0 0 7 1) 9
     ∷ refuses (burstOf 0 0 0 4 1) 9 ∷ refuses (burstOf 0 0 0 5 1) 9 ∷ refuses (burstOf 0 0 0 6 1) 9
-    ∷ refuses (burstOf 0 0 0 1 512) 7 ∷ refuses (burstOf 0 0 0 2 1) 10 ∷ refuses (burstOf 0xFF1 2 2 2 4) 10 ∷ refuses (burstOf 0 16 0 0 1) 10 ∷ refuses (burstOf 0xFF1 256 0 1 1) 10
-    ∷ refuses (burstOf 0xFF6 3 2 2 4) 11 ∷ refuses (burstOf 0x32 3 2 2 4) 11
+    ∷ refuses (burstOf 0 0 0 1 512) 7 ∷ refuses (burstOf 0 0 0 2 1) 10 ∷ refuses (burstOf 0xFF1 2 2 2 4) 10 ∷ refuses (burstOf 0xFF1 256 0 1 1) 10
+    ∷ refuses (burstOf 0xFF6 3 2 2 4) 11
     ∷ noBeat (burstOf 0xFF2 4 2 1 4) 5 12 ∷ noStep (burstOf 0xFF2 4 2 1 4) 4 12
     ∷ noBeat (burstOf 0x1002 2 2 1 4) 3 13 ∷ noStep (burstOf 0x1002 2 2 1 4) 2 13 ∷ noStep (burstOf 0 0 0 1 1) 0 13
     ∷ []
@@ -99,7 +110,7 @@ refusals =
 -- Each bus and each size is allowed somewhere, and so is each start that is aligned to its own beat.
 abbrev pub allowed : List Case
 allowed =
-    accepts (burstOf 0x1001 255 4 1 16) ∷ accepts (burstOf 0 1 5 1 32) ∷ accepts (burstOf 0 1 6 1 64) ∷ accepts (burstOf 0 1 7 1 128)
+    accepts (burstOf 0 1 4 1 16) ∷ accepts (burstOf 0 1 5 1 32) ∷ accepts (burstOf 0 1 6 1 64) ∷ accepts (burstOf 0 1 7 1 128)
     ∷ accepts (burstOf 0 1 0 1 1) ∷ accepts (burstOf 0 1 1 1 2) ∷ accepts (burstOf 0 1 3 1 8) ∷ accepts (burstOf 2 1 1 2 2)
     ∷ []
 
@@ -116,4 +127,4 @@ ends =
     ∷ []
 
 abbrev pub burstCases : List Case
-burstCases = b1 ++ (b2 ++ (b3 ++ (b4 ++ (refusals ++ (allowed ++ ends)))))
+burstCases = b1 ++ (b2 ++ (b3 ++ (b4 ++ (b5 ++ (b6 ++ (refusals ++ (allowed ++ ends)))))))
