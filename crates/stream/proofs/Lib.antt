@@ -1,5 +1,6 @@
 -- Laws about the definitions of specs/, from lists of items up to octets.
 pub mod Cases
+pub mod Once
 pub mod Bools
 pub mod Cut
 pub mod Pack

@@ -6,7 +6,7 @@ use mathlib.Core.List.{List, [], _∷_, _++_}
 use Prim.Native.Nat.{ℕ}
 use lib.ListN.{length}
 use Rattle.stream.specs.declared.Shape.{Shape}
-use Rattle.stream.specs.Answers.{Values, values, verdictValues, writtenValues, lookupValues, judgeAnswer, harvestAnswer, harvestAfter, fillAnswer, fillAfter, dataAnswer, dataPart, repackAnswer, repackAfter, downsizeAnswer, downsizeAfter}
+use Rattle.stream.specs.Answers.{Values, values, verdictValues, writtenValues, lookupValues, judgeAnswer, harvestAnswer, harvestAfter, fillAnswer, fillAfter, dataAnswer, dataPart, dataStart, repackAnswer, repackAfter, downsizeAnswer, downsizeAfter}
 
 -- A call with its arguments. The last list of `repack`, `downsize` and `harvest` is the lent output.
 pub data Asked : Type 0 where
@@ -14,10 +14,11 @@ pub data Asked : Type 0 where
   harvest : Shape → List ℕ → List ℕ → Asked
   fillIn : Bool → Shape → List ℕ → Asked
   dataOf : Shape → List ℕ → ℕ → Asked
+  startOf : Shape → List ℕ → ℕ → Asked
   repack : Shape → ℕ → List ℕ → List ℕ → Asked
   downsize : Shape → ℕ → List ℕ → List ℕ → Asked
 
--- The numbers told, and the octets: of lent memory afterwards, or of the part handed out.
+-- The numbers told, and the octets: of lent memory afterwards, or of the part handed out; or where that part starts.
 pub record Told : Type 0 where
   pub numbers : Values
   pub octets : List ℕ
@@ -31,11 +32,12 @@ tells numbers octets = record { numbers = numbers; octets = octets }
 
 -- what the definitions tell
 unfoldable pub answer : Asked → Told
-unfolding judgeAnswer harvestAnswer harvestAfter fillAnswer fillAfter dataAnswer dataPart repackAnswer repackAfter downsizeAnswer downsizeAfter
+unfolding judgeAnswer harvestAnswer harvestAfter fillAnswer fillAfter dataAnswer dataPart dataStart repackAnswer repackAfter downsizeAnswer downsizeAfter
 answer (judge s xs) = tells (verdictValues (judgeAnswer s xs)) []
 answer (harvest s xs out) = tells (writtenValues (harvestAnswer s xs (length out))) (harvestAfter s xs out)
 answer (fillIn level s xs) = tells (writtenValues (fillAnswer s xs)) (fillAfter level s xs)
 answer (dataOf s xs k) = tells (lookupValues (dataAnswer s xs k)) (dataPart s xs k)
+answer (startOf s xs k) = tells (lookupValues (dataAnswer s xs k)) (dataStart s xs k ∷ [])
 answer (repack s v xs out) = tells (writtenValues (repackAnswer s v xs (length out))) (repackAfter s v xs out)
 answer (downsize s v xs out) = tells (writtenValues (downsizeAnswer s v xs (length out))) (downsizeAfter s v xs out)
 
@@ -80,29 +82,67 @@ nulls tid = 0x00 ∷ tid ∷ 0x00 ∷ 0x00 ∷ 0x00 ∷ 0x00 ∷ 0x00 ∷ 0x00 �
 abbrev one : ℕ → ℕ → ℕ → ℕ → ℕ → ℕ → List ℕ
 one flags tid tdest tkeep tstrb octet = flags ∷ tid ∷ tdest ∷ tkeep ∷ 0x00 ∷ tstrb ∷ 0x00 ∷ octet ∷ []
 
--- ---- paper 01, 'Bench cases', the starred ones on streams
+-- ---- paper 01, 'Bench cases': the starred ones on streams, and S6 and S7
 
-unfoldable pub benchCases : List Case
-benchCases =
-    -- S1: P1's transfer at width 4
+-- S1: P1's transfer at width 4
+abbrev pub s1 : Case
+s1 =
     gives (repack (lanes 4) 4 p1 (eight ++ ee)) 1
     (0x01 ∷ 0x01 ∷ 0x02 ∷ 0x07 ∷ 0x00 ∷ 0x05 ∷ 0x00 ∷ 0x11 ∷ 0x00 ∷ 0x44 ∷ 0x00 ∷ 0xEE ∷ [])
-    -- S2: P1's transfer, lane-keeping to 2
-    ∷ gives (downsize (lanes 4) 2 p1 (eight ++ eight ++ ee)) 2
+
+-- S2: P1's transfer, lane-keeping to 2
+abbrev pub s2 : Case
+s2 =
+    gives (downsize (lanes 4) 2 p1 (eight ++ eight ++ ee)) 2
     (0x00 ∷ 0x01 ∷ 0x02 ∷ 0x01 ∷ 0x00 ∷ 0x01 ∷ 0x00 ∷ 0x11 ∷ 0x00
     ∷ 0x01 ∷ 0x01 ∷ 0x02 ∷ 0x03 ∷ 0x00 ∷ 0x02 ∷ 0x00 ∷ 0x00 ∷ 0x44 ∷ 0xEE ∷ 0xEE ∷ [])
-    -- S3: the end joins the full record before it
-    ∷ gives (repack (lanes 1) 1 (aa ++ lastAlone) (eight ++ ee)) 1
+
+-- S3: the end joins the full record before it
+abbrev pub s3 : Case
+s3 =
+    gives (repack (lanes 1) 1 (aa ++ lastAlone) (eight ++ ee)) 1
     (0x01 ∷ 0x00 ∷ 0x00 ∷ 0x01 ∷ 0x00 ∷ 0x01 ∷ 0x00 ∷ 0xAA ∷ ee)
-    -- S4: two packets with nothing in them
-    ∷ gives (repack (lanes 1) 1 (lastAlone ++ lastAlone) (eight ++ eight ++ ee)) 2
+
+-- S4: two packets with nothing in them
+abbrev pub s4 : Case
+s4 =
+    gives (repack (lanes 1) 1 (lastAlone ++ lastAlone) (eight ++ eight ++ ee)) 2
     (0x01 ∷ 0x00 ∷ 0x00 ∷ 0x00 ∷ 0x00 ∷ 0x00 ∷ 0x00 ∷ 0x00
     ∷ 0x01 ∷ 0x00 ∷ 0x00 ∷ 0x00 ∷ 0x00 ∷ 0x00 ∷ 0x00 ∷ 0x00 ∷ ee)
-    -- S5: a record with no item vanishes
-    ∷ gives (repack (lanes 1) 1 (nulls 0) ee) 0 ee
-    ∷ []
+
+-- S5: a record with no item vanishes
+abbrev pub s5 : Case
+s5 = gives (repack (lanes 1) 1 (nulls 0) ee) 0 ee
+
+-- S6: empty
+abbrev pub s6 : Case
+s6 = gives (repack (lanes 4) 4 [] ee) 0 ee
+
+-- S7: TIDs 1, 2, 1 are three stretches, here at a width that could hold them all
+abbrev pub s7 : Case
+s7 =
+    gives (repack (lanes 1) 4 (one 0 1 0 1 1 7 ++ one 0 2 0 1 1 8 ++ one 0 1 0 1 1 9) (eight ++ eight ++ eight ++ eight ++ (0xEE ∷ []))) 3
+    (0 ∷ 1 ∷ 0 ∷ 1 ∷ 0 ∷ 1 ∷ 0 ∷ 7 ∷ 0 ∷ 0 ∷ 0 ∷ 0 ∷ 2 ∷ 0 ∷ 1 ∷ 0 ∷ 1 ∷ 0 ∷ 8 ∷ 0 ∷ 0 ∷ 0
+    ∷ 0 ∷ 1 ∷ 0 ∷ 1 ∷ 0 ∷ 1 ∷ 0 ∷ 9 ∷ 0 ∷ 0 ∷ 0 ∷ [])
+
+unfoldable pub benchCases : List Case
+benchCases = s1 ∷ s2 ∷ s3 ∷ s4 ∷ s5 ∷ []
 
 -- ---- what no starred case pins
+
+-- a record of 16 lanes, all data, with this octet 0 and this data in lane 15
+abbrev sixteen : ℕ → ℕ → List ℕ
+sixteen flags octet =
+    flags ∷ 5 ∷ 2 ∷ 0xFF ∷ 0xFF ∷ 0xFF ∷ 0xFF ∷ 0 ∷ 1 ∷ 2 ∷ 3 ∷ 4 ∷ 5 ∷ 6 ∷ 7 ∷ 8 ∷ 9 ∷ 10 ∷ 11 ∷ 12 ∷ 13 ∷ 14 ∷ octet ∷ []
+
+-- two records of width 2; the second has a bad octet 0, which data octets do not read
+abbrev twoByTwo : List ℕ
+twoByTwo = 0 ∷ 0 ∷ 0 ∷ 0 ∷ 0 ∷ 0 ∷ 0 ∷ 1 ∷ 2 ∷ 0xFF ∷ 0 ∷ 0 ∷ 0 ∷ 0 ∷ 0 ∷ 0 ∷ 3 ∷ 4 ∷ []
+
+-- reset ends a wait: TVALID may fall with ARESETn, and what follows is a new transfer
+abbrev pub resetEndsWait : Case
+resetEndsWait =
+    gives (judge (lanes 1) (one 0x0A 5 0 1 1 7 ++ one 0x00 0 0 0 0 0 ++ one 0x08 0 0 0 0 0 ++ one 0x0E 6 0 1 1 8)) 1 []
 
 unfoldable pub workedCases : List Case
 workedCases =
@@ -120,8 +160,12 @@ workedCases =
     ∷ breaks (judge (lanes 1) (one 0x0A 5 2 1 1 7 ++ one 0x0E 5 2 1 0 7)) 1 3
     ∷ breaks (judge (lanes 2) (0x0A ∷ 5 ∷ 2 ∷ 3 ∷ 0 ∷ 3 ∷ 0 ∷ 7 ∷ 8 ∷ 0x0E ∷ 5 ∷ 2 ∷ 3 ∷ 0 ∷ 3 ∷ 0 ∷ 7 ∷ 9 ∷ [])) 1 3
     ∷ gives (judge (lanes 1) (one 0x0A 5 2 1 1 7 ++ one 0x0E 5 2 1 1 7 ++ one 0x0E 6 3 0 0 0)) 2 []
-    -- reset ends a wait: TVALID may fall with ARESETn, and what follows is a new transfer
-    ∷ gives (judge (lanes 1) (one 0x0A 5 0 1 1 7 ++ one 0x00 0 0 0 0 0 ++ one 0x08 0 0 0 0 0 ++ one 0x0E 6 0 1 1 8)) 1 []
+    -- in lane 15 of 16, and where TLAST falls; a wait with TLAST high is kept like any other
+    ∷ breaks (judge (lanes 16) (sixteen 0x0A 15 ++ sixteen 0x0E 16)) 1 3
+    ∷ gives (judge (lanes 16) (sixteen 0x0A 15 ++ sixteen 0x0E 15)) 1 []
+    ∷ breaks (judge (lanes 1) (one 0x0B 5 2 1 1 7 ++ one 0x0E 5 2 1 1 7)) 1 3
+    ∷ gives (judge (lanes 1) (one 0x0B 5 2 1 1 7 ++ one 0x0F 5 2 1 1 7)) 1 []
+    ∷ resetEndsWait
     -- the first record follows no waiting cycle; a cycle in reset or without TVALID carries nothing
     ∷ gives (judge (lanes 1) (one 0x0C 0 0 0 1 0 ++ one 0x04 0 0 0 1 0)) 0 []
     -- R1 at the first record
@@ -149,13 +193,22 @@ workedCases =
     ∷ refuses (fillIn false (lanes 1) (one 0xFF 0 0 0 0 0 ++ (1 ∷ []))) 2 0 (one 0xFF 0 0 0 0 0 ++ (1 ∷ []))
     -- 13: no such record
     ∷ refuses (dataOf (lanes 1) aa 1) 13 0 []
-    ∷ gives (dataOf (lanes 2) (0 ∷ 0 ∷ 0 ∷ 0 ∷ 0 ∷ 0 ∷ 0 ∷ 1 ∷ 2 ∷ 0xFF ∷ 0 ∷ 0 ∷ 0 ∷ 0 ∷ 0 ∷ 0 ∷ 3 ∷ 4 ∷ []) 1) 0 (3 ∷ 4 ∷ [])
+    ∷ gives (dataOf (lanes 2) twoByTwo 1) 0 (3 ∷ 4 ∷ [])
+    -- where the part starts; 0 where the call is refused
+    ∷ gives (startOf (lanes 2) twoByTwo 0) 0 (7 ∷ [])
+    ∷ gives (startOf (lanes 2) twoByTwo 1) 0 (16 ∷ [])
+    ∷ refuses (startOf (lanes 2) twoByTwo 2) 13 0 (0 ∷ [])
+    ∷ refuses (startOf (lanes 17) twoByTwo 1) 1 0 (0 ∷ [])
+    ∷ refuses (startOf (lanes 3) twoByTwo 1) 2 0 (0 ∷ [])
     -- 3 by each of its bits: octet 0, TDEST, TKEEP, TSTRB; a transfer record has no flag but TLAST
     ∷ refuses (repack (lanes 1) 1 (aa ++ one 0x02 0 0 0 0 0) ee) 3 1 ee
     ∷ refuses (repack (lanes 1) 1 (aa ++ one 0x00 0 16 0 0 0) ee) 3 1 ee
     ∷ refuses (repack (lanes 1) 1 (aa ++ one 0x00 0 15 2 0 0) ee) 3 1 ee
     ∷ refuses (repack (lanes 1) 1 (aa ++ one 0x00 0 15 0 2 0) ee) 3 1 ee
     ∷ refuses (repack (lanes 1) 1 (aa ++ (0 ∷ 0 ∷ 0 ∷ 0 ∷ 1 ∷ 0 ∷ 0 ∷ 0 ∷ [])) ee) 3 1 ee
+    ∷ refuses (repack (lanes 1) 1 (aa ++ (0 ∷ 0 ∷ 0 ∷ 0 ∷ 0 ∷ 0 ∷ 1 ∷ 0 ∷ [])) ee) 3 1 ee
+    ∷ refuses (repack (lanes 1) 1 (aa ++ one 0x80 0 0 0 0 0) ee) 3 1 ee
+    ∷ refuses (judge (lanes 1) (one 0x0F 255 15 1 1 255 ++ one 0x80 0 0 0 0 0)) 3 1 []
     ∷ refuses (judge (lanes 1) (one 0x0F 255 15 1 1 255 ++ one 0x1F 0 0 0 0 0)) 3 1 []
     -- records in order, 3 before 4 in each; a refused call leaves lent memory as it was
     ∷ refuses (repack (lanes 1) 1 (one 0x00 0 0 0 1 0 ++ one 0x02 0 0 0 0 0) ee) 4 0 ee
@@ -173,6 +226,8 @@ workedCases =
     ∷ refuses (repack (lanes 1) 1 aa (0 ∷ 0 ∷ 0 ∷ 0 ∷ 0 ∷ 0 ∷ 0 ∷ [])) 5 0 (0 ∷ 0 ∷ 0 ∷ 0 ∷ 0 ∷ 0 ∷ 0 ∷ [])
     ∷ gives (repack (lanes 1) 1 aa eight) 1 aa
     ∷ refuses (downsize (lanes 1) 1 aa (0 ∷ [])) 5 0 (0 ∷ [])
+    -- slices with no item need room too: a data lane and a null one
+    ∷ refuses (downsize (lanes 2) 1 (0 ∷ 3 ∷ 4 ∷ 1 ∷ 0 ∷ 1 ∷ 0 ∷ 5 ∷ 6 ∷ []) (eight ++ ee)) 5 0 (eight ++ ee)
     -- fill-in touches bit 0 of octet 0 of each record, and has no 3
     ∷ gives (fillIn false (lanes 1) (one 0xFF 255 255 255 255 255 ++ one 0x08 0 0 0 0 0)) 2
     (one 0xFE 255 255 255 255 255 ++ one 0x08 0 0 0 0 0)
@@ -181,8 +236,9 @@ workedCases =
     -- an all-null record of another pair between two of one stretch cuts nothing
     ∷ gives (repack (lanes 1) 2 (aa ++ nulls 1 ++ one 0x00 0 0 1 1 0xBB) (eight ++ ee)) 1
     (0x00 ∷ 0x00 ∷ 0x00 ∷ 0x03 ∷ 0x00 ∷ 0x03 ∷ 0x00 ∷ 0xAA ∷ 0xBB ∷ 0xEE ∷ 0xEE ∷ 0xEE ∷ [])
-    -- S6: empty
-    ∷ gives (repack (lanes 4) 4 [] ee) 0 ee
+    ∷ s6
+    -- every TID is kept
+    ∷ gives (repack (lanes 1) 1 (one 0 200 0 1 1 7) eight) 1 (one 0 200 0 1 1 7)
     -- P1's transfer at width 2: one stretch in two records
     ∷ gives (repack (lanes 4) 2 p1 (eight ++ eight ++ ee)) 2
     (0x00 ∷ 0x01 ∷ 0x02 ∷ 0x03 ∷ 0x00 ∷ 0x01 ∷ 0x00 ∷ 0x11 ∷ 0x00
@@ -197,10 +253,8 @@ workedCases =
     2 (one 0 1 2 1 1 8 ++ one 0 1 2 1 0 0)
     -- slices of an all-null record stay
     ∷ gives (downsize (lanes 2) 1 (1 ∷ 3 ∷ 4 ∷ 0 ∷ 0 ∷ 0 ∷ 0 ∷ 5 ∷ 6 ∷ []) (eight ++ eight)) 2 (one 0 3 4 0 0 0 ++ one 1 3 4 0 0 0)
-    -- S7: TIDs 1, 2, 1 are three stretches at a width that could hold them all; another TDEST cuts too
-    ∷ gives (repack (lanes 1) 4 (one 0 1 0 1 1 7 ++ one 0 2 0 1 1 8 ++ one 0 1 0 1 1 9) (eight ++ eight ++ eight ++ eight ++ (0xEE ∷ []))) 3
-    (0 ∷ 1 ∷ 0 ∷ 1 ∷ 0 ∷ 1 ∷ 0 ∷ 7 ∷ 0 ∷ 0 ∷ 0 ∷ 0 ∷ 2 ∷ 0 ∷ 1 ∷ 0 ∷ 1 ∷ 0 ∷ 8 ∷ 0 ∷ 0 ∷ 0
-    ∷ 0 ∷ 1 ∷ 0 ∷ 1 ∷ 0 ∷ 1 ∷ 0 ∷ 9 ∷ 0 ∷ 0 ∷ 0 ∷ [])
+    -- another TID cuts, and another TDEST too
+    ∷ s7
     ∷ gives (repack (lanes 1) 2 (one 0 1 0 1 1 7 ++ one 0 1 3 1 1 8) (eight ++ eight ++ ee)) 2
     (0 ∷ 1 ∷ 0 ∷ 1 ∷ 0 ∷ 1 ∷ 0 ∷ 7 ∷ 0 ∷ 0 ∷ 1 ∷ 3 ∷ 1 ∷ 0 ∷ 1 ∷ 0 ∷ 8 ∷ 0 ∷ 0xEE ∷ 0xEE ∷ [])
     -- an end of another pair than the item before it is a packet of its own
