@@ -1,6 +1,6 @@
 -- Paper 01, 'Refusal numbers': the number, place and rule that each refusal shows. All other numbers are 0.
 -- "A refusal carries its number and a place: the record for 3 and 4, the cycle and rule for 14, else 0."
--- A new refusal (paper 02: 16 to 20) is one constructor of `Refusal` and one line here.
+-- A new refusal (paper 02: 16 to 20) is one constructor of `Refusal`, one line here and one of Cases.
 use Rattle.refusal.specs.declared.Code.{Code}
 use Rattle.refusal.specs.declared.Refusal.{Refusal}
 use Rattle.refusal.specs.declared.Refusal.the-variants.{Width, Length, Field, Reserved, Room, Ratio, Bus, Size, Kind, Count, Align, Boundary, Index, Unclean, Setup}
