@@ -44,27 +44,10 @@ module _ (s : Shape) (xs : List ℕ) (k : ℕ) where
   unfolding dataAnswer
   found-there r e h = answered (dataRefusal s xs k) refl (sym e ∙ h .is)
 
-  refused-part : (f : Refusal) (r : Option Refusal) → dataRefusal s xs k ≡ r → Refused f ≡ lookup r → [] ≡ dataPart s xs k
-  unfolding dataPart
-  refused-part f none e h = let z : _≡_ {A = ℕ} 0 1 = cc in absurd (omega arith)
-  refused-part f (some g) e h = rw e refl
-
-  -- a refused call hands out an empty part
-  pub part-refused : (r : Lookup) (f : Refusal) → r ≡ Refused f → LookedUp s xs k r → [] ≡ dataPart s xs k
-  unfolding dataAnswer
-  part-refused r f e h = refused-part f (dataRefusal s xs k) refl (sym e ∙ h .is)
-
   -- an accepted call hands out the record's data, which lies in the take; z is the record's size
   pub part-within : (z : ℕ) → z ≡ size s → dataRefusal s xs k ≡ none → k * z + 7 + s .width ≤ length xs
   unfolding size
   part-within z q e = rw q (omega (arith, record-there s xs k (data-there s xs k e .1)))
-
-  pub part-present : (z : ℕ) → z ≡ size s → dataRefusal s xs k ≡ none
-      → take (k * z + 7 + s .width - (k * z + 7)) (drop (k * z + 7) xs) ≡ dataPart s xs k
-  unfolding dataPart
-  part-present z q e =
-      let width : k * z + 7 + s .width - (k * z + 7) ≡ s .width = omega arith in
-      rw e (rw (width, q, drop-drop 7 (k * size s) xs) refl)
 
   start-refused : (f : Refusal) (r : Option Refusal) → dataRefusal s xs k ≡ r → Refused f ≡ lookup r → 0 ≡ dataStart s xs k
   unfolding dataStart
@@ -79,3 +62,33 @@ module _ (s : Shape) (xs : List ℕ) (k : ℕ) where
   pub start-present : (z : ℕ) → z ≡ size s → dataRefusal s xs k ≡ none → k * z + 7 ≡ dataStart s xs k
   unfolding dataStart
   start-present z q e = rw (e, q) refl
+
+  -- ---- the part by where it starts, a
+
+  pub part-refused : (a : ℕ) → a ≡ dataStart s xs k → a ≡ 0 → [] ≡ dataPart s xs k
+  unfolding dataStart dataPart
+  part-refused a e h = go (dataRefusal s xs k) refl
+    where
+      go : (r : Option Refusal) → dataRefusal s xs k ≡ r → [] ≡ dataPart s xs k
+      go none q = absurd (omega (arith, h, start-present (size s) refl q, e))
+      go (some f) q = rw q refl
+
+  starts : (a : ℕ) → a ≡ dataStart s xs k → (a ≡ 0 → ⊥) → dataRefusal s xs k ≡ none
+  unfolding dataStart
+  starts a e h = go (dataRefusal s xs k) refl
+    where
+      go : (r : Option Refusal) → dataRefusal s xs k ≡ r → dataRefusal s xs k ≡ none
+      go none q = q
+      go (some f) q = absurd (h (e ∙ rw q refl))
+
+  pub part-inside : (a : ℕ) → a ≡ dataStart s xs k → (a ≡ 0 → ⊥) → a + s .width ≤ length xs
+  part-inside a e h =
+      let q = starts a e h in
+      omega (arith, e, start-present (size s) refl q, part-within (size s) refl q)
+
+  pub part-present : (a : ℕ) → a ≡ dataStart s xs k → (a ≡ 0 → ⊥) → take (a + s .width - a) (drop a xs) ≡ dataPart s xs k
+  unfolding dataPart
+  part-present a e h =
+      let q = starts a e h in
+      let width : a + s .width - a ≡ s .width = omega arith in
+      rw (q, width, e, ← start-present (size s) refl q, drop-drop 7 (k * size s) xs) refl

@@ -25,20 +25,8 @@ pub fn find_data(s: Shape, capture: &[u8], k: usize) -> Lookup
     Lookup::Present
 }
 
-// The data octets of record k: a part of the take, or an empty part where find_data refuses.
-pub fn data_octets(s: Shape, capture: &[u8], k: usize) -> &[u8]
-    ensures { λ r. ⌜ now r ≡ dataPart s (now (capture .entry)) k ⌝ }
-{
-    let Lookup::Present = find_data(s, capture, k) else {
-        return &capture[0..0];
-    };
-    let start = k * record_size(s) + 7;
-    let end = start + s.width;
-    &capture[start..end]
-}
-
-// Where the data octets of record k start in the take, or 0 where find_data refuses: for callers who cannot be handed a
-// part of a slice.
+// Where the data octets of record k start in the take, or 0 where find_data refuses: the place of the part that data_octets
+// hands out, also for callers who cannot be handed a part of a slice.
 pub fn data_start(s: Shape, capture: &[u8], k: usize) -> usize
     ensures { λ r. ⌜ r ≡ dataStart s (now (capture .entry)) k ⌝ }
 {
@@ -46,4 +34,17 @@ pub fn data_start(s: Shape, capture: &[u8], k: usize) -> usize
         return 0;
     };
     k * record_size(s) + 7
+}
+
+// The data octets of record k: the part of the take that starts at data_start, or an empty part where find_data refuses. No
+// data starts at 0, where the first record's header stands.
+pub fn data_octets(s: Shape, capture: &[u8], k: usize) -> &[u8]
+    ensures { λ r. ⌜ now r ≡ dataPart s (now (capture .entry)) k ⌝ }
+{
+    let start = data_start(s, capture, k);
+    if start == 0 {
+        return &capture[0..0];
+    }
+    let end = start + s.width;
+    &capture[start..end]
 }
