@@ -1,6 +1,6 @@
-// The code that knows a record's octets: its size, its header's fields, the faults of a width, a length and a record.
-// Layout knowledge stands here and in stream's Layout only. Functions with a `requires` are for the crates above, which
-// make the test first; the calls of the library are there.
+// A record's octets in code: its size, its header's fields, the faults of a width, a length and a record. The definitions
+// know them in stream's Layout alone. The loops of the crates above know places too (octet 0, data from octet 7 on), each
+// proved against Layout. Functions with a `requires` are for those crates, which make the test first.
 mod lookup;
 mod masks;
 mod usual;

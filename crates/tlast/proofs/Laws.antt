@@ -5,11 +5,10 @@ use mathlib.Core.Bool.{Bool, true, false}
 use mathlib.Core.List.{List, [], _∷_, _++_, map, append-assoc, append-nil}
 use mathlib.Core.Option.{Option, none, some}
 use Prim.Native.Nat.{ℕ, zero, suc, _+_, _-_, _*_, _/_, _%_, _≤_, _<_}
-use native.Mathlib.Nat.{zero-div, zero-add, add-zero}
-use native.Mathlib.Numerals.{add-one}
+use native.Mathlib.Nat.{zero-div, zero-add}
 use native.Mathlib.Omega.{arith}
-use lib.ListN.{length, getD, take, drop, set, length-drop, length-map, drop-of-length-le}
-use lib.Seq.{length-take-le, take-all, set-split, take-append-add, drop-append-add, drop-drop, getD-drop, drop-length}
+use lib.ListN.{length, getD, take, drop, set, length-drop, length-map, length-append, drop-of-length-le}
+use lib.Seq.{length-take-le, take-all, take-append-add, drop-append-add, drop-drop, drop-length}
 use Rattle.refusal.specs.declared.Refusal.{Refusal}
 use Rattle.refusal.specs.declared.Refusal.the-variants.{Width, Length}
 use Rattle.stream.specs.declared.Shape.{Shape}
@@ -26,21 +25,24 @@ pub filling-start : (level : Bool) (s : Shape) (xs : List ℕ) → Fills s xs �
 filling-start level s xs f =
     record { within = omega arith; whole = f .whole; done = refl; left = refl; count = zero-add (recordCount s xs); few = omega arith }
 
--- one octet set in front of the octets that are left
-set-front : (l : List ℕ) (i v : ℕ) → i < length l → set l i v ≡ take i l ++ v ∷ drop 1 (drop i l)
-set-front l i v h = set-split l i v h ∙ ap (λ (r : List ℕ). take i l ++ v ∷ r) (ap (λ (n : ℕ). drop n l) (sym (add-one i)) ∙ sym (drop-drop 1 i l))
+-- TLAST of the record in front is set, and nothing else
+pub last-set : (level : Bool) (r : List ℕ) (v : ℕ) → 0 < length r → v ≡ bitOf level → set r 0 (getD r 0 0 / 2 * 2 + v) ≡ withLast level r
+last-set level [] v h e = absurd (omega arith)
+last-set level (f ∷ r) v h e = ap (λ (x : ℕ). (f / 2 * 2 + x) ∷ r) e
 
--- the record in front with its TLAST set, and what follows it
-front-taken : (level : Bool) (z : ℕ) (r : List ℕ) → 0 < z → 0 < length r
-    → take z ((getD r 0 0 / 2 * 2 + bitOf level) ∷ drop 1 r) ≡ withLast level (take z r)
-front-taken level zero r h k = absurd (omega arith)
-front-taken level (suc z) [] h k = absurd (omega arith)
-front-taken level (suc z) (f ∷ r) h k = refl
+length-last : (level : Bool) (r : List ℕ) → length (withLast level r) ≡ length r
+length-last level [] = refl
+length-last level (f ∷ r) = refl
 
-front-dropped : (v z : ℕ) (r : List ℕ) → 0 < z → 0 < length r → drop z (v ∷ drop 1 r) ≡ drop z r
-front-dropped v zero r h k = absurd (omega arith)
-front-dropped v (suc z) [] h k = absurd (omega arith)
-front-dropped v (suc z) (f ∷ r) h k = refl
+take-last : (level : Bool) (z : ℕ) (r : List ℕ) → 0 < z → take z (withLast level r) ≡ withLast level (take z r)
+take-last level zero r h = absurd (omega arith)
+take-last level (suc z) [] h = refl
+take-last level (suc z) (f ∷ r) h = refl
+
+drop-last : (level : Bool) (z : ℕ) (r : List ℕ) → 0 < z → drop z (withLast level r) ≡ drop z r
+drop-last level zero r h = absurd (omega arith)
+drop-last level (suc z) [] h = refl
+drop-last level (suc z) (f ∷ r) h = refl
 
 module _ (level : Bool) (s : Shape) (xs now : List ℕ) (at k : ℕ) (h : Filling level s xs now at k) (l : at < length now) where
   -- what is left has a record
@@ -50,36 +52,50 @@ module _ (level : Bool) (s : Shape) (xs now : List ℕ) (at k : ℕ) (h : Fillin
   record-left : FirstRecord s (drop at xs)
   record-left = first-record s (drop at xs) (h .whole) left-long
 
-  -- the record's size, as the code has it
-  module _ (z : ℕ) (q : z ≡ size s) (v : ℕ) (e : v ≡ getD now at 0 / 2 * 2 + bitOf level) where
-    value : v ≡ getD (drop at xs) 0 0 / 2 * 2 + bitOf level
-    value =
-        e ∙ ap (λ (x : ℕ). x / 2 * 2 + bitOf level)
-        (ap (λ (n : ℕ). getD now n 0) (sym (add-zero at)) ∙ sym (getD-drop at now 0 0) ∙ ap (λ (r : List ℕ). getD r 0 0) (h .left))
+  -- the record's size, as the code has it; and what the helper leaves of the part lent to it
+  module _ (z : ℕ) (q : z ≡ size s) (part : List ℕ) (e : part ≡ withLast level (take (length now - at) (drop at now))) where
+    abbrev after : List ℕ
+    after = take at now ++ (part ++ drop (length now - at) (drop at now))
 
-    stored : set now at v ≡ take at now ++ (getD (drop at xs) 0 0 / 2 * 2 + bitOf level) ∷ drop 1 (drop at xs)
-    stored = set-front now at v l ∙ ap₂ (λ (x : ℕ) (r : List ℕ). take at now ++ x ∷ drop 1 r) value (h .left)
+    stored : after ≡ take at now ++ withLast level (drop at xs)
+    stored =
+        let all : length (drop at now) ≤ length now - at = omega (arith, length-drop at now) in
+        ap₂ (λ (a b : List ℕ). take at now ++ (a ++ b))
+        (e ∙ ap (withLast level) (take-all (length now - at) (drop at now) all ∙ h .left)) (drop-of-length-le (drop at now) all)
+        ∙ ap (λ (r : List ℕ). take at now ++ r) (append-nil (withLast level (drop at xs)))
 
     pub fits : at + z ≤ length xs
     fits = rw q (omega (arith, record-left .fits, length-drop at xs))
+
+    -- the part comes back as long as it was
+    pub same-long : length after ≡ length now
+    same-long =
+        ap length stored ∙ length-append (take at now) (withLast level (drop at xs))
+        ∙ omega (
+          arith,
+          length-take-le at now (omega arith),
+          length-last level (drop at xs),
+          ap length (h .left),
+          length-drop at now,
+        )
 
     -- what stands in front, and what is left, after the store
     seam : (n : ℕ) → length (take at now) + n ≡ at + n
     seam n = ap (λ (m : ℕ). m + n) (length-take-le at now (omega arith))
 
-    front : take (at + size s) (set now at v) ≡ take at now ++ withLast level (take (size s) (drop at xs))
+    front : take (at + size s) after ≡ take at now ++ withLast level (take (size s) (drop at xs))
     front =
         ap (take (at + size s)) stored
-        ∙ ap (λ (n : ℕ). take n (take at now ++ (getD (drop at xs) 0 0 / 2 * 2 + bitOf level) ∷ drop 1 (drop at xs))) (sym (seam (size s)))
-        ∙ take-append-add (take at now) ((getD (drop at xs) 0 0 / 2 * 2 + bitOf level) ∷ drop 1 (drop at xs)) (size s)
-        ∙ ap (λ (r : List ℕ). take at now ++ r) (front-taken level (size s) (drop at xs) (size-pos s) left-long)
+        ∙ ap (λ (n : ℕ). take n (take at now ++ withLast level (drop at xs))) (sym (seam (size s)))
+        ∙ take-append-add (take at now) (withLast level (drop at xs)) (size s)
+        ∙ ap (λ (r : List ℕ). take at now ++ r) (take-last level (size s) (drop at xs) (size-pos s))
 
-    rest : drop (at + size s) (set now at v) ≡ drop (size s) (drop at xs)
+    rest : drop (at + size s) after ≡ drop (size s) (drop at xs)
     rest =
         ap (drop (at + size s)) stored
-        ∙ ap (λ (n : ℕ). drop n (take at now ++ (getD (drop at xs) 0 0 / 2 * 2 + bitOf level) ∷ drop 1 (drop at xs))) (sym (seam (size s)))
-        ∙ drop-append-add (take at now) ((getD (drop at xs) 0 0 / 2 * 2 + bitOf level) ∷ drop 1 (drop at xs)) (size s)
-        ∙ front-dropped (getD (drop at xs) 0 0 / 2 * 2 + bitOf level) (size s) (drop at xs) (size-pos s) left-long
+        ∙ ap (λ (n : ℕ). drop n (take at now ++ withLast level (drop at xs))) (sym (seam (size s)))
+        ∙ drop-append-add (take at now) (withLast level (drop at xs)) (size s)
+        ∙ drop-last level (size s) (drop at xs) (size-pos s)
 
     gone : drop (at + size s) xs ≡ drop (size s) (drop at xs)
     gone = sym (drop-drop (size s) at xs)
@@ -89,7 +105,7 @@ module _ (level : Bool) (s : Shape) (xs now : List ℕ) (at k : ℕ) (h : Fillin
         sym (length-pieces (size s) (recordCount s (drop at xs)) (drop at xs)) ∙ ap length (record-left .is)
         ∙ ap suc (length-pieces (size s) (recordCount s (drop (size s) (drop at xs))) (drop (size s) (drop at xs)))
 
-    filling-sized : Filling level s xs (set now at v) (at + size s) (k + 1)
+    filling-sized : Filling level s xs after (at + size s) (k + 1)
     filling-sized =
         record {
           within = omega (arith, record-left .fits, length-drop at xs);
@@ -104,7 +120,7 @@ module _ (level : Bool) (s : Shape) (xs now : List ℕ) (at k : ℕ) (h : Fillin
           few = omega (arith, h .few, size-pos s);
         }
 
-    pub filling-more : Filling level s xs (set now at v) (at + z) (k + 1)
+    pub filling-more : Filling level s xs after (at + z) (k + 1)
     filling-more = rw q filling-sized
 
 -- no record is left
@@ -121,10 +137,6 @@ filling-end level s xs now at k h l =
     }
 
 -- ---- the call
-
-length-last : (level : Bool) (r : List ℕ) → length (withLast level r) ≡ length r
-length-last level [] = refl
-length-last level (f ∷ r) = refl
 
 sized-last : (level : Bool) (n : ℕ) (rs : List (List ℕ)) → Sized n rs → Sized n (map (withLast level) rs)
 sized-last level n [] h = tt

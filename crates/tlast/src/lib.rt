@@ -1,12 +1,13 @@
 // Fill-in of TLAST, for ports that have no such wire: bit 0 of octet 0 of every record of a lent take is set to a level, and
-// nothing else is touched. Judging and harvesting are in the crate handshake.
+// nothing else is touched. Judging is in the crate handshake, harvesting in harvest.
 use refusal::Refusal;
 use stream::Shape;
 use stream::Written;
 ghost use mathlib.Core.Path.{_≡_};
-ghost use Prim.Native.Nat.{_≤_};
+ghost use Prim.Native.Nat.{_≤_, _<_};
+ghost use lib.ListN.{length};
 ghost use Rattle.stream.specs.Layout.{bitOf};
-ghost use Rattle.stream.specs.Handshake.{baseLevel};
+ghost use Rattle.stream.specs.Handshake.{baseLevel, withLast};
 ghost use Rattle.stream.specs.Answers.{FilledIn};
 ghost use Rattle.tlast.specs.Filling.{Fills, Filled};
 
@@ -20,16 +21,24 @@ fn bit(level: bool) -> u8
     0
 }
 
-// Sets TLAST of each record, and answers how many there are. Width and length have passed their tests.
+// Sets TLAST of the record at the front of `rec`.
+fn put_last(rec: &mut [u8], level: bool)
+    requires { ⌜ 0 < length (now rec) ⌝ }
+    ensures { λ _. ⌜ now (rec .exit) ≡ withLast level (now (rec .entry)) ⌝ }
+{
+    rec[0] = rec[0] / 2 * 2 + bit(level);
+}
+
+// Sets TLAST of each record, and answers how many there are. Width and length have passed their tests. Each record is
+// written by a helper lent the take from its offset on.
 fn fill(s: Shape, capture: &mut [u8], level: bool) -> usize
     requires { ⌜ Fills s (now capture) ⌝ }
     ensures { λ r. ⌜ Filled level s (now (capture .entry)) (now (capture .exit)) r ⌝ }
 {
-    let last = bit(level);
     let mut at = 0;
     let mut k = 0;
     while at < capture.len() {
-        capture[at] = capture[at] / 2 * 2 + last;
+        put_last(&mut capture[at..], level);
         at += record::record_size(s);
         k += 1;
     }
