@@ -15,3 +15,4 @@ pub mod Only
 pub mod Findings
 pub mod Harvest
 pub mod Promises
+pub mod Tables

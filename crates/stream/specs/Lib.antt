@@ -9,4 +9,5 @@ pub mod Answers
 pub mod Legal
 pub mod Promises
 pub mod Demand3
+pub mod Tables
 pub mod Cases
