@@ -16,3 +16,4 @@ pub mod Findings
 pub mod Harvest
 pub mod Promises
 pub mod Tables
+pub mod Witnesses

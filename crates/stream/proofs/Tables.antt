@@ -1,5 +1,5 @@
 -- The tests of specs/Tables say what the premises say, both ways, and the tables hold by computation. Assumes nothing.
-use mathlib.Core.Path.{_≡_, refl, sym, ap, ap₂, _∙_}
+use mathlib.Core.Path.{_≡_, refl, ap, ap₂, _∙_}
 use mathlib.Core.Bool.{Bool, true, false, _&&_}
 use mathlib.Core.List.{List, [], _∷_, _++_, map, append-assoc, append-nil}
 use mathlib.Core.Option.{Option, none, some}
@@ -17,12 +17,12 @@ use Rattle.stream.specs.Layout.{Kept, size, records, streamItems, octets
 use Rattle.stream.specs.Checks.{first, transferChecks}
 use Rattle.stream.specs.Answers.{repackAnswer}
 use Rattle.stream.specs.Legal.{Octets, Legal}
-use Rattle.stream.specs.Demand3.{Part, whole, answerTo, accepted, partCall, Divides}
-use Rattle.stream.specs.Tables.{WidthTested, areOctets, isNone, isLegal, LegalTested, LegalTable, Long, LegalLong, ApartTable, dividesFrom, DividesTested, DividesTable, AcceptedTable, numbersAre, AllAcceptedTested, AllAcceptedTable, pair}
+use Rattle.stream.specs.Demand3.{Part, whole, answerTo, accepted, partCall}
+use Rattle.stream.specs.Tables.{WidthTested, areOctets, isNone, isLegal, LegalTested, LegalTable, LegalLong, ApartTable, dividesFrom, DividesTested, DividesTable, AcceptedTable, numbersAre, AllAcceptedTested, AllAcceptedTable, pair}
 use Rattle.stream.proofs.Bools.{and-left, and-right, no-such}
 use Rattle.stream.proofs.Pack.{Wide, length-fitted}
 use Rattle.stream.proofs.Records.{length-octets}
-use Rattle.stream.proofs.Repack.{WidthFits, width-fits, fits-width}
+use Rattle.stream.proofs.Repack.{width-fits, fits-width}
 use Rattle.stream.proofs.Each.{EachLane}
 use Rattle.stream.proofs.Legal.{PairFits, ByteFits, Sound, transfers-legal}
 
@@ -39,7 +39,7 @@ widthTested v = (
 both : (a b : Bool) → (a && b) ≡ true → (a ≡ true) × (b ≡ true)
 both a b e = (and-left a b e, and-right a b e)
 
-octets-tested : (xs : List ℕ) → Octets xs ↔ (areOctets xs ≡ true)
+pub octets-tested : (xs : List ℕ) → Octets xs ↔ (areOctets xs ≡ true)
 octets-tested [] = ((λ h. refl), (λ e. tt))
 octets-tested (x ∷ xs) = (
   (λ h. rw (lt-ltb x 256 (h .0), octets-tested xs .0 (h .1)) refl),

@@ -10,4 +10,5 @@ pub mod Legal
 pub mod Promises
 pub mod Demand3
 pub mod Tables
+pub mod Witnesses
 pub mod Cases
