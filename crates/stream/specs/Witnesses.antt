@@ -6,7 +6,7 @@ use mathlib.Core.List.{List, [], _∷_, _++_, map}
 use mathlib.Core.Option.{Option, none, some}
 use Prim.Native.Nat.{ℕ}
 use lib.ListN.{replicate}
-use Rattle.stream.specs.Items.{Pair, Transfer, Item, byte, end}
+use Rattle.stream.specs.Items.{Transfer, Item, byte, end}
 use Rattle.stream.specs.Layout.{Kept, octet, position}
 use Rattle.stream.specs.Demand3.{Call, Standing, Part}
 use Rattle.stream.specs.Tables.{one, stream, pair, part, seven, otherTid, otherTdest, ended, nulls}
@@ -16,8 +16,11 @@ use Rattle.stream.specs.Tables.{one, stream, pair, part, seven, otherTid
 abbrev pub first : Standing
 first = stream 2 (0 ∷ 1 ∷ 2 ∷ 3 ∷ 0 ∷ 3 ∷ 0 ∷ 17 ∷ 34 ∷ 1 ∷ 1 ∷ 2 ∷ 2 ∷ 0 ∷ 0 ∷ 0 ∷ 0 ∷ 51 ∷ [])
 
+abbrev pub endlessItems : List (Item Kept)
+endlessItems = byte (pair 1 2) (octet 17) ∷ byte (pair 1 2) (octet 34) ∷ byte (pair 1 2) position ∷ []
+
 abbrev pub firstItems : List (Item Kept)
-firstItems = byte (pair 1 2) (octet 17) ∷ byte (pair 1 2) (octet 34) ∷ byte (pair 1 2) position ∷ end (pair 1 2) ∷ []
+firstItems = endlessItems ++ end (pair 1 2) ∷ []
 
 -- its packed form at widths 1, 4 and 16
 abbrev pub atOne : List ℕ
@@ -74,8 +77,14 @@ transfer lanes last = record { pair = pair 1 2; lanes = lanes; last = last }
 abbrev pub packedOnes : List (Transfer Kept)
 packedOnes = transfer (some (octet 17) ∷ []) false ∷ transfer (some position ∷ []) true ∷ transfer (none ∷ []) true ∷ []
 
+abbrev pub onesBytes : List (Item Kept)
+onesBytes = byte (pair 1 2) (octet 17) ∷ byte (pair 1 2) position ∷ []
+
+abbrev pub onesEnds : List (Item Kept)
+onesEnds = end (pair 1 2) ∷ end (pair 1 2) ∷ []
+
 abbrev pub onesItems : List (Item Kept)
-onesItems = byte (pair 1 2) (octet 17) ∷ byte (pair 1 2) position ∷ end (pair 1 2) ∷ end (pair 1 2) ∷ []
+onesItems = onesBytes ++ onesEnds
 
 -- ---- lane-keeping: P1's transfer (paper 01) at width 4, its slices of width 2, and the packed form of both
 
