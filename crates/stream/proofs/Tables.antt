@@ -29,10 +29,7 @@ use Rattle.stream.proofs.Legal.{PairFits, ByteFits, Sound, transfers-le
 -- ---- widths
 
 pub widthTested : WidthTested
-widthTested v = (
-  (λ w. fits-width v (record { low = w .0; high = w .1 })),
-  (λ e. let w = width-fits v e in (w .low, w .high)),
-)
+widthTested v = ((λ w. fits-width v (record { low = omega arith; high = omega arith })), (λ e. let w = width-fits v e in (omega arith, omega arith)))
 
 -- ---- legal streams
 
