@@ -16,4 +16,5 @@ pub mod Findings
 pub mod Harvest
 pub mod Promises
 pub mod Tables
+pub mod Long
 pub mod Witnesses

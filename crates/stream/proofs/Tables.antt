@@ -1,30 +1,25 @@
 -- The tests of specs/Tables say what the premises say, both ways, and the tables hold by computation. Assumes nothing.
-use mathlib.Core.Path.{_≡_, refl, ap, ap₂, _∙_}
-use mathlib.Core.Bool.{Bool, true, false, _&&_}
+use mathlib.Core.Path.{_≡_, refl, ap, ap₂}
+use mathlib.Core.Bool.{Bool, true, _&&_}
 use mathlib.Core.List.{List, [], _∷_, _++_, map, append-assoc, append-nil}
 use mathlib.Core.Option.{Option, none, some}
 use mathlib.Core.Logic.{_↔_}
-use Prim.Native.Nat.{ℕ, zero, suc, _*_, _%_}
+use Prim.Native.Nat.{ℕ, _%_}
 use native.Mathlib.Omega.{arith}
 use borrow.Author.Tests.{eqb-true, eq-eqb, ltb-true, lt-ltb, leb-true, le-leb}
 use lib.Dec.{eqb, leb, ltb}
-use lib.ListN.{length, replicate, length-replicate}
+use lib.ListN.{length}
 use Rattle.refusal.specs.declared.Refusal.{Refusal}
 use Rattle.stream.specs.declared.Shape.{Shape}
-use Rattle.stream.specs.Items.{Transfer}
-use Rattle.stream.specs.Packed.{parted, fitted}
-use Rattle.stream.specs.Layout.{Kept, size, records, streamItems, octets}
+use Rattle.stream.specs.Packed.{parted}
+use Rattle.stream.specs.Layout.{size, records, streamItems}
 use Rattle.stream.specs.Checks.{first, transferChecks}
 use Rattle.stream.specs.Answers.{repackAnswer}
 use Rattle.stream.specs.Legal.{Octets, Legal}
 use Rattle.stream.specs.Demand3.{Part, whole, answerTo, accepted, partCall}
-use Rattle.stream.specs.Tables.{WidthTested, areOctets, isNone, isLegal, LegalTested, LegalTable, LegalLong, ApartTable, dividesFrom, DividesTested, DividesTable, AcceptedTable, numbersAre, AllAcceptedTested, AllAcceptedTable, pair}
+use Rattle.stream.specs.Tables.{WidthTested, areOctets, isNone, isLegal, LegalTested, LegalTable, ApartTable, dividesFrom, DividesTested, DividesTable, AcceptedTable, numbersAre, AllAcceptedTested, AllAcceptedTable}
 use Rattle.stream.proofs.Bools.{and-left, and-right, no-such}
-use Rattle.stream.proofs.Pack.{Wide, length-fitted}
-use Rattle.stream.proofs.Records.{length-octets}
 use Rattle.stream.proofs.Repack.{width-fits, fits-width}
-use Rattle.stream.proofs.Each.{EachLane}
-use Rattle.stream.proofs.Legal.{PairFits, ByteFits, Sound, transfers-legal}
 
 -- ---- widths
 
@@ -86,34 +81,6 @@ legalTested s xs = (tested, legal)
 pub legalTable : LegalTable
 unfolding size
 legalTable = (refl, refl)
-
--- n transfers with nothing in them
-abbrev nowhere : ℕ → Transfer Kept
-nowhere w = record { pair = pair 0 0; lanes = fitted w []; last = false }
-
-abbrev vacant : ℕ → ℕ → List (Transfer Kept)
-vacant w n = replicate n (nowhere w)
-
-vacant-wide : (w n : ℕ) → Wide w (vacant w n)
-vacant-wide w zero = tt
-vacant-wide w (suc n) = (length-fitted w [], vacant-wide w n)
-
-no-lane : (w : ℕ) → EachLane PairFits ByteFits (fitted w [])
-no-lane zero = tt
-no-lane (suc w) = no-lane w
-
-vacant-sound : (w n : ℕ) → Sound (vacant w n)
-vacant-sound w zero = tt
-vacant-sound w (suc n) = (record { tid = omega arith; tdest = omega arith }, no-lane w, vacant-sound w n)
-
-pub legalLong : LegalLong
-legalLong s n w =
-    let wide = vacant-wide (s .width) n in
-    record {
-      octets = octets (vacant (s .width) n);
-      legal = transfers-legal s (vacant (s .width) n) (w .0) (w .1) wide (vacant-sound (s .width) n);
-      count = length-octets s (vacant (s .width) n) wide ∙ ap (λ (k : ℕ). k * size s) (length-replicate n (nowhere (s .width)));
-    }
 
 -- ---- divisions
 

@@ -12,7 +12,7 @@ use lib.ListN.{length, getD}
 use Rattle.refusal.specs.declared.Refusal.the-variants.{Room, Index}
 use Rattle.stream.specs.Packed.{pack}
 use Rattle.stream.specs.Layout.{size, dataLane, nullLane, laneTypes, records, streamItems, packedTransfers, packed, slicedTransfers}
-use Rattle.stream.specs.Checks.{widthCheck, captureMost}
+use Rattle.stream.specs.Checks.{widthCheck}
 use Rattle.stream.specs.Answers.{repackRefusal, repackAnswer, repackAfter, dataPart}
 use Rattle.stream.specs.Legal.{Legal}
 use Rattle.stream.specs.Promises.{Width, SetAbove, Packs, breaks, IsEarliest}
@@ -21,7 +21,7 @@ use Rattle.stream.specs.Tables.{lanes, stream, isLegal}
 use Rattle.stream.specs.Witnesses.{first, firstItems, atOne, atFour, atSixteen, endless, endlessItems, lends, refusedCalls, mixedCalls, someParts, someNumbers, someJoined, packedOnes, onesBytes, onesEnds, onesItems, p1, p1Slices, p1Items, p1Packed, wide, brokenTake, cleanTake, harvest}
 use Rattle.stream.proofs.Promises.{fieldBits, byteTypes, handsOut, repackingKeeps, packedLegal, packedFull, packedOnly, holds, joins, canonical, laneKeeping, findings, harvestLegal, harvestRepacks}
 use Rattle.stream.proofs.Demand3.{calls, parts}
-use Rattle.stream.proofs.Tables.{widthTested, octets-tested, legalTested, legalLong, dividesTested}
+use Rattle.stream.proofs.Tables.{widthTested, octets-tested, legalTested, dividesTested}
 
 -- ---- legal streams and widths, by their tests
 
@@ -34,11 +34,6 @@ width v e = widthTested v .1 e
 legal-first : Legal (first .shape) (first .octets)
 unfolding size
 legal-first = legal 2 (first .octets) refl
-
--- "may be longer than a take"
-pub longer : (xs : List ℕ) × Legal (lanes 1) xs × (captureMost < length xs)
-unfolding size
-longer = let l = legalLong (lanes 1) 8193 (width 1 refl) in (l .octets, l .legal, omega (arith, l .count))
 
 -- ---- demand 3
 

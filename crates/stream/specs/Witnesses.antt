@@ -1,15 +1,16 @@
 -- Worked data for each promise that has a premise: examples that meet all its premises, and what it then says of them,
 -- typed by hand and never computed. proofs/Witnesses applies the proved promise to each, so a premise that lets in less
 -- is refused there. Which streams, divisions and numbers a premise lets in is in Tables.
+use mathlib.Core.Path.{_≡_}
 use mathlib.Core.Bool.{Bool, true, false}
 use mathlib.Core.List.{List, [], _∷_, _++_, map}
 use mathlib.Core.Option.{Option, none, some}
-use Prim.Native.Nat.{ℕ}
-use lib.ListN.{replicate}
+use Prim.Native.Nat.{ℕ, _*_}
+use lib.ListN.{length, replicate}
 use Rattle.stream.specs.Items.{Transfer, Item, byte, end}
 use Rattle.stream.specs.Layout.{Kept, octet, position}
-use Rattle.stream.specs.Demand3.{Call, Standing, Part}
-use Rattle.stream.specs.Tables.{one, stream, pair, part, seven, otherTid, otherTdest, ended, nulls}
+use Rattle.stream.specs.Demand3.{Call, Standing, Part, whole, PartsJoin}
+use Rattle.stream.specs.Tables.{lanes, one, stream, pair, part, seven, otherTid, otherTdest, ended, nulls}
 
 -- ---- a stream: two data bytes, a position byte and an end of the pair (1, 2)
 
@@ -67,6 +68,14 @@ someJoined =
     ∷ 0 ∷ 1 ∷ 2 ∷ 1 ∷ 0 ∷ 1 ∷ 0 ∷ 7 ∷ 0
     ∷ 0 ∷ 3 ∷ 2 ∷ 3 ∷ 0 ∷ 3 ∷ 0 ∷ 8 ∷ 8
     ∷ 0 ∷ 1 ∷ 3 ∷ 1 ∷ 0 ∷ 1 ∷ 0 ∷ 9 ∷ 0 ∷ []
+
+-- And any number of parts, so of a whole longer than a take: packets with nothing in them, a record and a part each.
+abbrev pub manyParts : ℕ → List Part
+manyParts n = replicate n (part ended)
+
+pub record ManyJoin (n : ℕ) : Type 0 where
+  pub joins : PartsJoin (lanes 1) 2 (manyParts n) (replicate {A = ℕ} n 1)
+  pub octets : length (whole (manyParts n)) ≡ n * 8
 
 -- ---- items and transfers of the pair (1, 2), for the laws of packing
 
