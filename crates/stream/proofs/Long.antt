@@ -23,6 +23,7 @@ use Rattle.stream.proofs.Records.{length-octets, transfers-back}
 use Rattle.stream.proofs.Each.{EachLane}
 use Rattle.stream.proofs.Legal.{PairFits, ByteFits, Sound, transfers-legal}
 use Rattle.stream.proofs.Demand3.{calls, parts}
+use Rattle.stream.proofs.Tables.{widthTested}
 
 -- ---- n transfers that are alike
 
@@ -60,7 +61,7 @@ legalLong s n w =
 
 pub longer : (xs : List ℕ) × Legal (lanes 1) xs × (captureMost < length xs)
 unfolding size
-longer = let l = legalLong (lanes 1) 8193 (lit≤ tt, lit≤ tt) in (l .octets, l .legal, omega (arith, l .count))
+longer = let l = legalLong (lanes 1) 8193 (widthTested 1 .1 refl) in (l .octets, l .legal, omega (arith, l .count))
 
 -- calls on a first stream that is longer than a take
 pub long-calls : CallsKeep (stream 1 (longer .0)) mixedCalls

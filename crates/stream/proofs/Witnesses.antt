@@ -56,9 +56,9 @@ unfolding size repackAnswer repackAfter
 left-legal = calls first legal-first mixedCalls .legal
 
 -- parts divided in every way that the condition has, and no part at all
-pub divided : (someJoined ≡ packed (lanes 1) 2 (whole someParts)) × (5 ≡ length (packedTransfers (lanes 1) 2 (whole someParts)))
+pub parts-joined : (someJoined ≡ packed (lanes 1) 2 (whole someParts)) × (6 ≡ length (packedTransfers (lanes 1) 2 (whole someParts)))
 unfolding size repackAnswer repackAfter
-divided =
+parts-joined =
     let j = parts (lanes 1) 2 someParts someNumbers (legal 1 (whole someParts) refl) refl (dividesTested (lanes 1) someParts .1 refl) in
     (j .same, j .count)
 

@@ -53,21 +53,19 @@ mixedCalls = lends 17 40 ∷ lends 1 23 ∷ lends 4 11 ∷ lends 1 23 ∷ lends 
 
 -- ---- a list of parts, repacked from width 1 to 2
 
--- Nothing before a division; an end before it; another pair after it, first by TID, then by TDEST too; nothing after it.
+-- Nothing before a division; an end before it; another TID after it, twice; another TDEST after it; nothing after it.
 abbrev pub someParts : List Part
 someParts =
     map part
-    ([] ∷ nulls ∷ (seven ++ (seven ++ (seven ++ ended))) ∷ seven ∷ (otherTid ++ otherTid) ∷ otherTdest ∷ nulls ∷ [] ∷ [])
+    ([] ∷ nulls ∷ (seven ++ (seven ++ (seven ++ ended))) ∷ seven ∷ (otherTid ++ otherTid) ∷ seven ∷ otherTdest ∷ nulls ∷ [] ∷ [])
 
 abbrev pub someNumbers : List ℕ
-someNumbers = 0 ∷ 0 ∷ 2 ∷ 1 ∷ 1 ∷ 1 ∷ 0 ∷ 0 ∷ []
+someNumbers = 0 ∷ 0 ∷ 2 ∷ 1 ∷ 1 ∷ 1 ∷ 1 ∷ 0 ∷ 0 ∷ []
 
 abbrev pub someJoined : List ℕ
 someJoined =
-    0 ∷ 1 ∷ 2 ∷ 3 ∷ 0 ∷ 3 ∷ 0 ∷ 7 ∷ 7 ∷ 1 ∷ 1 ∷ 2 ∷ 1 ∷ 0 ∷ 1 ∷ 0 ∷ 7 ∷ 0
-    ∷ 0 ∷ 1 ∷ 2 ∷ 1 ∷ 0 ∷ 1 ∷ 0 ∷ 7 ∷ 0
-    ∷ 0 ∷ 3 ∷ 2 ∷ 3 ∷ 0 ∷ 3 ∷ 0 ∷ 8 ∷ 8
-    ∷ 0 ∷ 1 ∷ 3 ∷ 1 ∷ 0 ∷ 1 ∷ 0 ∷ 9 ∷ 0 ∷ []
+    0 ∷ 1 ∷ 2 ∷ 3 ∷ 0 ∷ 3 ∷ 0 ∷ 7 ∷ 7 ∷ 1 ∷ 1 ∷ 2 ∷ 1 ∷ 0 ∷ 1 ∷ 0 ∷ 7 ∷ 0 ∷ 0 ∷ 1 ∷ 2 ∷ 1 ∷ 0 ∷ 1 ∷ 0 ∷ 7 ∷ 0
+    ∷ 0 ∷ 3 ∷ 2 ∷ 3 ∷ 0 ∷ 3 ∷ 0 ∷ 8 ∷ 8 ∷ 0 ∷ 1 ∷ 2 ∷ 1 ∷ 0 ∷ 1 ∷ 0 ∷ 7 ∷ 0 ∷ 0 ∷ 1 ∷ 3 ∷ 1 ∷ 0 ∷ 1 ∷ 0 ∷ 9 ∷ 0 ∷ []
 
 -- And any number of parts, so of a whole longer than a take: packets with nothing in them, a record and a part each.
 abbrev pub manyParts : ℕ → List Part
