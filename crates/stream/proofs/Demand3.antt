@@ -13,7 +13,7 @@ use Rattle.stream.specs.Items.{Item}
 use Rattle.stream.specs.Packed.{pack, parted}
 use Rattle.stream.specs.Layout.{Kept, size, atWidth, streamItems, octets, packedTransfers, packed}
 use Rattle.stream.specs.Legal.{Legal}
-use Rattle.stream.specs.Demand3.{Call, Standing, acceptedAt, next, afterCalls, later, lastAccepted, packedAt, Demand3·calls, Part, whole, partCall, AllAccepted, Divides, PartsJoin, Demand3·parts}
+use Rattle.stream.specs.Demand3.{Call, answerTo, accepted, Standing, acceptedAt, next, afterCalls, later, lastAccepted, packedAt, Demand3·calls, Part, whole, partCall, AllAccepted, Divides, PartsJoin, Demand3·parts}
 use Rattle.stream.proofs.Pack.{pack-parted}
 use Rattle.stream.proofs.Records.{packed-items, streamItems-append, octets-append}
 use Rattle.stream.proofs.Legal.{packed-legal}
@@ -138,12 +138,14 @@ packed-first s v p ps w d =
 
 join : (s : Shape) (v : ℕ) (ps : List Part) (ns : List ℕ) → AllAccepted s v ps ns → Divides s ps → PartsJoin s v ps ns
 join s v [] [] a d = record { same = rw (zero-div (size s)) refl; count = rw (zero-div (size s)) refl }
-join s v [] (n ∷ ns) a d = absurd a
-join s v (p ∷ ps) [] a d = absurd a
+join s v [] (n ∷ ns) a d = let z : _≡_ {A = ℕ} 0 1 = cc in absurd (omega arith)
+join s v (p ∷ ps) [] a d = let z : _≡_ {A = ℕ} 0 1 = cc in absurd (omega arith)
 join s v (p ∷ ps) (n ∷ ns) a d =
-    let h = accepted-of s (p .octets) (partCall v p) n (a .0) in
+    let first : accepted (answerTo s (p .octets) (partCall v p)) ≡ some n = cc in
+    let others : AllAccepted s v ps ns = cc in
+    let h = accepted-of s (p .octets) (partCall v p) n first in
     let w = takes-whole s (p .octets) (h .repacks .input) in
-    let rest = join s v ps ns (a .1) (divides-rest s p ps w d) in
+    let rest = join s v ps ns others (divides-rest s p ps w d) in
     let divided = packed-first s v p ps w d in
     record {
       same =

@@ -16,3 +16,6 @@ pub mod Only
 pub mod Findings
 pub mod Harvest
 pub mod Promises
+pub mod Tables
+pub mod Long
+pub mod Witnesses

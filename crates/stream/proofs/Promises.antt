@@ -1,6 +1,6 @@
 -- Every statement of specs/Promises, proved: mostly by citing the law that carries it. Assumes nothing.
 use mathlib.Core.Path.{_≡_, refl, sym, ap, _∙_}
-use mathlib.Core.Logic.{_⊎_, inl, inr, ⊎-elim}
+use mathlib.Core.Logic.{inl, inr, ⊎-elim}
 use mathlib.Core.Bool.{Bool, true, false, not, or-true}
 use mathlib.Core.List.{List, [], _∷_}
 use borrow.Author.Tests.{eqb-true, eqb-false, eq-eqb, ne-eqb, ltb-true, lt-ltb, leb-false, not-true}
@@ -11,7 +11,7 @@ use native.Mathlib.Nat.{le-trans, one-mul, mod-le, le-div-iff-mul-le, div-one, d
 use native.Mathlib.Omega.{arith}
 use lib.ListN.{length, getD, drop, length-map, length-append, length-drop}
 use lib.Seq.{length-take-le}
-use mathlib.Core.Option.{none, some}
+use mathlib.Core.Option.{none}
 use Rattle.stream.specs.declared.Shape.{Shape}
 use Rattle.stream.specs.Items.{Item, Transfer, items}
 use Rattle.stream.specs.Packed.{pack, sliceTransfer, slices}

@@ -2,7 +2,7 @@
 -- Their proofs are `calls` and `parts` of proofs/Demand3.
 use mathlib.Core.Path.{_≡_}
 use mathlib.Core.Bool.{true}
-use mathlib.Core.List.{List, [], _∷_, _++_}
+use mathlib.Core.List.{List, [], _∷_, _++_, map}
 use mathlib.Core.Option.{Option, none, some}
 use Prim.Native.Nat.{ℕ, _+_, _*_, _≤_}
 use lib.ListN.{length, take}
@@ -102,10 +102,7 @@ partCall v p = record { width = v; lent = p .lent }
 
 -- the call on each part is accepted, with these numbers
 abbrev pub AllAccepted : Shape → ℕ → List Part → List ℕ → Type 0
-AllAccepted s v [] [] = Unit {0}
-AllAccepted s v [] (n ∷ ns) = ⊥
-AllAccepted s v (p ∷ ps) [] = ⊥
-AllAccepted s v (p ∷ ps) (n ∷ ns) = (accepted (answerTo s (p .octets) (partCall v p)) ≡ some n) × AllAccepted s v ps ns
+AllAccepted s v ps ns = map (λ (p : Part). accepted (answerTo s (p .octets) (partCall v p))) ps ≡ map some ns
 
 -- "their results joined in order"
 abbrev pub resultsJoined : Shape → ℕ → List Part → List ℕ → List ℕ

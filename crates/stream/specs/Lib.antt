@@ -9,4 +9,6 @@ pub mod Answers
 pub mod Legal
 pub mod Promises
 pub mod Demand3
+pub mod Tables
+pub mod Witnesses
 pub mod Cases
