@@ -18,7 +18,8 @@ use Rattle.stream.specs.Legal.{Legal}
 use Rattle.stream.specs.Promises.{Width, SetAbove, Packs, breaks, IsEarliest}
 use Rattle.stream.specs.Demand3.{acceptedAt, next, afterCalls, whole}
 use Rattle.stream.specs.Tables.{lanes, stream, isLegal}
-use Rattle.stream.specs.Witnesses.{first, firstItems, atOne, atFour, atSixteen, endless, endlessItems, lends, refusedCalls, mixedCalls, someParts, someNumbers, someJoined, packedOnes, onesBytes, onesEnds, onesItems, p1, p1Slices, p1Items, p1Packed, wide, brokenTake, cleanTake, harvest}
+use Rattle.stream.specs.Cases.{p1}
+use Rattle.stream.specs.Witnesses.{first, firstItems, atOne, atFour, atSixteen, endless, endlessItems, lends, refusedCalls, mixedCalls, someParts, someNumbers, someJoined, packedOnes, onesBytes, onesEnds, onesItems, p1Slices, p1Items, p1Packed, wide, brokenTake, cleanTake, harvest}
 use Rattle.stream.proofs.Promises.{fieldBits, byteTypes, handsOut, repackingKeeps, packedLegal, packedFull, packedOnly, holds, joins, canonical, laneKeeping, findings, harvestLegal, harvestRepacks}
 use Rattle.stream.proofs.Demand3.{calls, parts}
 use Rattle.stream.proofs.Tables.{widthTested, octets-tested, legalTested, dividesTested}

@@ -7,6 +7,7 @@ use Prim.Native.Nat.{ℕ}
 use lib.ListN.{length}
 use Rattle.stream.specs.declared.Shape.{Shape}
 use Rattle.stream.specs.Answers.{Values, values, verdictValues, writtenValues, lookupValues, judgeAnswer, harvestAnswer, harvestAfter, fillAnswer, fillAfter, dataAnswer, dataPart, dataStart, repackAnswer, repackAfter, downsizeAnswer, downsizeAfter}
+use Rattle.stream.specs.Tables.{lanes, one}
 
 -- A call with its arguments. The last list of `repack`, `downsize` and `harvest` is the lent output.
 pub data Asked : Type 0 where
@@ -43,9 +44,6 @@ answer (downsize s v xs out) = tells (writtenValues (downsizeAnswer s v xs (leng
 
 -- ---- how cases are written
 
-abbrev lanes : ℕ → Shape
-lanes w = record { width = w }
-
 abbrev gives : Asked → ℕ → List ℕ → Case
 gives asked count octets = record { asked = asked; told = tells (values 0 0 0 count) octets }
 
@@ -64,7 +62,7 @@ abbrev eight : List ℕ
 eight = ee ++ ee
 
 -- P1's transfer
-abbrev p1 : List ℕ
+abbrev pub p1 : List ℕ
 p1 = 0x01 ∷ 0x01 ∷ 0x02 ∷ 0x0D ∷ 0x00 ∷ 0x09 ∷ 0x00 ∷ 0x11 ∷ 0x22 ∷ 0x33 ∷ 0x44 ∷ []
 
 -- S3's two records of width 1: AA, and TLAST alone
@@ -77,10 +75,6 @@ lastAlone = 0x01 ∷ 0x00 ∷ 0x00 ∷ 0x00 ∷ 0x00 ∷ 0x00 ∷ 0x00 ∷ 0x00 
 -- an all-null record of width 1 without TLAST, of the pair (tid, 0)
 abbrev nulls : ℕ → List ℕ
 nulls tid = 0x00 ∷ tid ∷ 0x00 ∷ 0x00 ∷ 0x00 ∷ 0x00 ∷ 0x00 ∷ 0x00 ∷ []
-
--- a record of width 1 with this octet 0, TID, TDEST, TKEEP, TSTRB and data
-abbrev one : ℕ → ℕ → ℕ → ℕ → ℕ → ℕ → List ℕ
-one flags tid tdest tkeep tstrb octet = flags ∷ tid ∷ tdest ∷ tkeep ∷ 0x00 ∷ tstrb ∷ 0x00 ∷ octet ∷ []
 
 -- ---- paper 01, 'Bench cases': the starred ones on streams, and S6 and S7
 

@@ -93,10 +93,7 @@ onesEnds = end (pair 1 2) ∷ end (pair 1 2) ∷ []
 abbrev pub onesItems : List (Item Kept)
 onesItems = onesBytes ++ onesEnds
 
--- ---- lane-keeping: P1's transfer (paper 01) at width 4, its slices of width 2, and the packed form of both
-
-abbrev pub p1 : List ℕ
-p1 = 0x01 ∷ 0x01 ∷ 0x02 ∷ 0x0D ∷ 0x00 ∷ 0x09 ∷ 0x00 ∷ 0x11 ∷ 0x22 ∷ 0x33 ∷ 0x44 ∷ []
+-- ---- lane-keeping: P1's transfer (p1 of Cases) at width 4, its slices of width 2, and the packed form of both
 
 abbrev pub p1Slices : List ℕ
 p1Slices =
