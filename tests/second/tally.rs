@@ -26,11 +26,15 @@ impl Random {
     pub fn pick<T: Copy>(&mut self, from: &[T]) -> T { from[self.below(from.len())] }
 }
 
+/// Each group of a program, with the least number of comparisons that it must make.
+pub type Least = &'static [(&'static str, u64)];
+
 /// With a seed, a difference is printed with it and with the command that repeats it. `only` is a group to run alone.
+/// With a list `least`, a group fails that compares less than it says there, or is not listed; with none, one is enough.
 #[derive(Default)]
 pub struct Tally {
-    pub seed: Option<u64>, pub only: Option<String>, pub wrong: u64,
-    passed: u64, failed: u64, checks: u64, all: u64, group: String, verdicts: BTreeMap<String, u64>,
+    pub seed: Option<u64>, pub only: Option<String>, pub wrong: u64, pub least: Least,
+    passed: u64, failed: u64, checks: u64, all: u64, group: String, ran: Vec<String>, verdicts: BTreeMap<String, u64>,
 }
 
 impl Tally {
@@ -50,10 +54,24 @@ impl Tally {
         print!("{name}: ");
         let _ = std::io::stdout().flush(); // so that a crash shows its group
         run(self);
+        self.ran.push(name.to_string());
         self.all += self.checks;
-        let good = self.wrong == 0 && self.checks > 0;
+        let least = self.least_of(name);
+        let good = self.wrong == 0 && self.checks >= least;
         if good { self.passed += 1 } else { self.failed += 1 }
-        println!("{} compared, {} differ{}", self.checks, self.wrong, if good { "" } else { "  FAILED" });
+        let few = if self.checks < least { format!(", fewer than its {least}") } else { String::new() };
+        println!("{} compared, {} differ{few}{}", self.checks, self.wrong, if good { "" } else { "  FAILED" });
+    }
+
+    fn least_of(&self, name: &str) -> u64 {
+        if self.least.is_empty() { return 1; }
+        self.least.iter().find(|(listed, _)| *listed == name).map_or(u64::MAX, |(_, least)| *least)
+    }
+
+    /// The last group: none of the list was left out.
+    pub fn every_group_ran(&mut self) {
+        let left_out: Vec<&str> = self.least.iter().map(|(name, _)| *name).filter(|name| !self.ran.iter().any(|ran| ran == name)).collect();
+        self.group("every group ran", |t| t.check(left_out == ["every group ran"], || format!("left out: {left_out:?}")));
     }
 
     /// One comparison; only the first five differences of a group are printed.
