@@ -47,7 +47,7 @@ function having(kind, thing, of,    i, n, part, count, key, rest) {
 function tell(kind, thing, of,    count) {
     count = having(kind, thing, of)
     if (count == 1 || anywhere && count > 0) print kind " + " place " " thing
-    else if (count == 0) print kind " - " place " cites `" thing "`, which is not declared in public in: " of
+    else if (count == 0) print kind " - " place " cites `" thing "`, which is not declared in public in: " (anywhere ? "any crate" : of)
     else print kind " - " place " cites `" thing "`, which more than one crate declares (say which: ' of `crate`'): " of
 }
 
