@@ -9,8 +9,8 @@
  *     `capture` of urd_fill_in: writable ones), and is not NULL, even where its length is 0;
  *   - `out` and `text` share no octet with each other, nor with the input of the same call;
  *   - nothing else writes those octets until the call has returned. Calls on other octets may run at the same time;
- *   - 160 KB of stack are free: urd_repack works in arrays of its own, of 124 KB; the other calls need less than 1 KB. For
- *     urd_report it is 288 KB: it has arrays of 128 KB, and repacks.
+ *   - so much stack is free: 216 KB for urd_report, 88 KB for urd_repack, 1 KB for any other call. (tests/bindings
+ *     measures each of them; here they use 211.4, 83.1 and less than 0.4 KB, most of it arrays.)
  *
  * Octets. A capture (paper 01: a take) is records of 7 + width octets, width 1 to 16, at most 65,536 octets in all:
  *   octet 0     bit 0 TLAST, bit 1 TVALID, bit 2 TREADY, bit 3 ARESETn; in a transfer record bit 0 alone

@@ -1,6 +1,7 @@
 //! The self test: the model against paper 01's own cases and formulas.
 #![allow(dead_code)]
 mod cases;
+mod least;
 mod model;
 mod tally;
 use model::{Burst, FIXED, INCR, WRAP};
@@ -22,6 +23,7 @@ fn formula(b: Burst, k: u64) -> (u64, u64, u64) {
 
 fn main() {
     let mut t = Tally::default();
+    t.least = least::SELF_TEST;
     let mut r = Random(tally::SEED);
     println!("self test of the model, seed {:#x}", tally::SEED);
     cases::bursts(&mut t, &cases::BurstCalls {
@@ -65,5 +67,6 @@ fn main() {
             t.same(model::items(v, &sliced), list, || format!("items after downsizing {w} to {v} {stream:02x?}"));
         }
     });
+    t.every_group_ran();
     t.finish()
 }

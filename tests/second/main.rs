@@ -8,6 +8,7 @@ mod cases;
 mod compare_bursts;
 mod compare_report;
 mod compare_streams;
+mod least;
 mod library_burst;
 mod library_report;
 mod library_stream;
@@ -19,20 +20,19 @@ use model as stream; // the report's model has it by this name
 use std::time::{Duration, Instant, SystemTime};
 use tally::{Random, Tally};
 
-const CALLS_AT_LEAST: u64 = 200_000;
 const PROGRESS: Duration = Duration::from_secs(5);
 
 fn gate(seed: u64, only: Option<String>) -> ! {
     println!("library and model, seed {seed:#x}");
     let mut t = Tally::default();
-    (t.seed, t.only) = (Some(seed), only);
+    (t.seed, t.only, t.least) = (Some(seed), only, least::COMPARE);
     compare_bursts::all(&mut t);
     compare_streams::all(&mut t);
     compare_report::all(&mut t);
     calls::show();
     t.seed = None; // the last two groups are about the run as a whole
     t.show_verdicts(&[&compare_bursts::VERDICTS[..], &compare_streams::VERDICTS, &compare_report::VERDICTS].concat());
-    t.group("enough calls", |t| t.check(calls::all() >= CALLS_AT_LEAST, || format!("only {} calls", calls::all())));
+    t.every_group_ran();
     println!("{} calls in all", calls::all());
     t.finish()
 }

@@ -26,11 +26,15 @@ impl Random {
     pub fn pick<T: Copy>(&mut self, from: &[T]) -> T { from[self.below(from.len())] }
 }
 
+/// Each group of a program, with the least number of comparisons that it must make.
+pub type Least = &'static [(&'static str, u64)];
+
 /// With a seed, a difference is printed with it and with the command that repeats it. `only` is a group to run alone.
+/// With a list `least`, a group fails that compares less than it says there, or is not listed; with none, one is enough.
 #[derive(Default)]
 pub struct Tally {
-    pub seed: Option<u64>, pub only: Option<String>, pub wrong: u64,
-    passed: u64, failed: u64, checks: u64, all: u64, group: String, verdicts: BTreeMap<String, u64>,
+    pub seed: Option<u64>, pub only: Option<String>, pub wrong: u64, pub least: Least,
+    passed: u64, failed: u64, checks: u64, all: u64, group: String, ran: Vec<String>, verdicts: BTreeMap<String, u64>,
 }
 
 impl Tally {
@@ -50,10 +54,27 @@ impl Tally {
         print!("{name}: ");
         let _ = std::io::stdout().flush(); // so that a crash shows its group
         run(self);
+        self.ran.push(name.to_string());
         self.all += self.checks;
-        let good = self.wrong == 0 && self.checks > 0;
+        let few = self.too_few(name);
+        let good = self.wrong == 0 && few.is_empty();
         if good { self.passed += 1 } else { self.failed += 1 }
-        println!("{} compared, {} differ{}", self.checks, self.wrong, if good { "" } else { "  FAILED" });
+        println!("{} compared, {} differ{few}{}", self.checks, self.wrong, if good { "" } else { "  FAILED" });
+    }
+
+    /// What is wrong with the number of comparisons of this group, or nothing.
+    fn too_few(&self, name: &str) -> String {
+        let listed = self.least.iter().find(|(listed, _)| *listed == name);
+        let least = listed.map_or(1, |(_, least)| *least);
+        if listed.is_none() && !self.least.is_empty() { return ", and its least number is not listed".to_string(); }
+        if self.checks < least { format!(", fewer than its {least}") } else { String::new() }
+    }
+
+    /// The last group: none of the list was left out.
+    pub fn every_group_ran(&mut self) {
+        let others = self.least.iter().map(|(name, _)| *name).filter(|name| *name != "every group ran");
+        let left_out: Vec<&str> = others.filter(|name| !self.ran.iter().any(|ran| ran == name)).collect();
+        self.group("every group ran", |t| t.check(left_out.is_empty(), || format!("left out: {left_out:?}")));
     }
 
     /// One comparison; only the first five differences of a group are printed.
