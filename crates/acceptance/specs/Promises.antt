@@ -22,7 +22,7 @@ use Rattle.setup.specs.Grammar.{sheetOf}
 use Rattle.acceptance.specs.declared.Tally.{Tally}
 use Rattle.acceptance.specs.declared.Verdict.{Verdict}
 use Rattle.acceptance.specs.declared.Verdict.the-variants.{Clean, Broken, Refused}
-use Rattle.acceptance.specs.Report.{shapeOf, cyclesOf, transfersOf, packetCount, convertResult, tally, setupChecks, setupOutcome, textOf, whole, reportOf, front}
+use Rattle.acceptance.specs.Report.{Word, saysClean, saysBroken, saysRefused, verdictValues, shapeOf, cyclesOf, transfersOf, packetCount, convertResult, tally, setupChecks, setupOutcome, textOf, whole, reportOf, front}
 
 -- every number of a take that could be read is an octet
 abbrev pub OctetsOf : Option (List ℕ) → Type 0
@@ -41,10 +41,13 @@ ReportsSetup =
 
 -- ---- "`out.bin` is written only when the verdict is clean."
 
+abbrev pub cleanWord : Word → Bool
+cleanWord saysClean = true
+cleanWord saysBroken = false
+cleanWord saysRefused = false
+
 abbrev pub isClean : Verdict → Bool
-isClean (Clean t) = true
-isClean (Broken cycle rule) = false
-isClean (Refused r) = false
+isClean v = cleanWord (verdictValues v .word)
 
 -- unless the verdict is clean there is no result, and lent memory keeps its content
 pub record WritesNothing (result : List ℕ) : Type 0 where
