@@ -39,25 +39,29 @@ abbrev shows : Word → ℕ → ℕ → ℕ → ℕ → ℕ → ℕ → Values
 shows word refusal place rule transfers packets written =
     record { word = word; refusal = refusal; place = place; rule = rule; transfers = transfers; packets = packets; records = written }
 
-abbrev says : String → Option (List ℕ)
+abbrev pub says : String → Option (List ℕ)
 says sheet = some (ascii sheet)
 
--- P1's sheet and take
-abbrev p1Sheet : Option (List ℕ)
+-- P1's sheet, take and result
+abbrev pub p1Sheet : Option (List ℕ)
 p1Sheet = says "width_in=4\nwidth_out=2\nmode=pack\ntlast=wired\n"
 
-abbrev p1Take : List ℕ
+abbrev pub p1Take : List ℕ
 p1Take = 0x0F ∷ 0x01 ∷ 0x02 ∷ 0x0D ∷ 0x00 ∷ 0x09 ∷ 0x00 ∷ 0x11 ∷ 0x22 ∷ 0x33 ∷ 0x44 ∷ []
 
+abbrev pub p1Result : List ℕ
+p1Result =
+    0x00 ∷ 0x01 ∷ 0x02 ∷ 0x03 ∷ 0x00 ∷ 0x01 ∷ 0x00 ∷ 0x11 ∷ 0x00 ∷ 0x01 ∷ 0x01 ∷ 0x02 ∷ 0x01 ∷ 0x00 ∷ 0x01 ∷ 0x00 ∷ 0x44 ∷ 0x00 ∷ []
+
 -- a cycle of width 1 with this octet 0, TDEST, TKEEP, TSTRB; TID is 0 and the data 7
-abbrev cycle : ℕ → ℕ → ℕ → ℕ → List ℕ
+abbrev pub cycle : ℕ → ℕ → ℕ → ℕ → List ℕ
 cycle flags tdest tkeep tstrb = flags ∷ 0x00 ∷ tdest ∷ tkeep ∷ 0x00 ∷ tstrb ∷ 0x00 ∷ 0x07 ∷ []
 
 -- a data byte 7 transferred without TLAST and with it, and the same while it waits
 abbrev plain : List ℕ
 plain = cycle 0x0E 0 1 1
 
-abbrev last : List ℕ
+abbrev pub last : List ℕ
 last = cycle 0x0F 0 1 1
 
 abbrev waits : List ℕ
@@ -66,8 +70,7 @@ waits = cycle 0x0A 0 1 1
 unfoldable pub cases : List Case
 cases =
     -- case P1
-    tells p1Sheet (some p1Take) 65536 (shows saysClean 0 0 0 1 1 2) "verdict=clean\ntransfers=1\npackets=1\nrecords=2\n"
-    (0x00 ∷ 0x01 ∷ 0x02 ∷ 0x03 ∷ 0x00 ∷ 0x01 ∷ 0x00 ∷ 0x11 ∷ 0x00 ∷ 0x01 ∷ 0x01 ∷ 0x02 ∷ 0x01 ∷ 0x00 ∷ 0x01 ∷ 0x00 ∷ 0x44 ∷ 0x00 ∷ [])
+    tells p1Sheet (some p1Take) 65536 (shows saysClean 0 0 0 1 1 2) "verdict=clean\ntransfers=1\npackets=1\nrecords=2\n" p1Result
     -- the same take sliced, as in S2
     ∷ tells (says "width_in=4\nwidth_out=2\nmode=lanes\ntlast=wired\n") (some p1Take) 18 (shows saysClean 0 0 0 1 1 2) "verdict=clean\ntransfers=1\npackets=1\nrecords=2\n"
     (0x00 ∷ 0x01 ∷ 0x02 ∷ 0x01 ∷ 0x00 ∷ 0x01 ∷ 0x00 ∷ 0x11 ∷ 0x00 ∷ 0x01 ∷ 0x01 ∷ 0x02 ∷ 0x03 ∷ 0x00 ∷ 0x02 ∷ 0x00 ∷ 0x00 ∷ 0x44 ∷ [])

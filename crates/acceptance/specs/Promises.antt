@@ -123,6 +123,12 @@ orderedChecks u cycles = setupChecks u ++ lengthCheck (shapeOf u) cycles ∷ cyc
 abbrev pub resultOf : Setup → List ℕ → List ℕ
 resultOf u capture = convertResult (u .mode) (shapeOf u) (u .«width_out») (transfersOf u capture)
 
+-- the numbers of a clean verdict
+abbrev pub tallyOf : Setup → List ℕ → Tally
+tallyOf u capture =
+    tally (transferCount (shapeOf u) (cyclesOf u capture)) (packetCount (shapeOf u) (transfersOf u capture))
+    (length (records (outShape u) (resultOf u capture)))
+
 abbrev pub inOrder : Option Refusal → Option Finding → Option Refusal → Tally → Verdict
 inOrder (some r) finding room t = Refused r
 inOrder none (some f) room t = Broken (f .cycle) (f .rule)
@@ -134,9 +140,7 @@ ReportInOrder =
     (u : Setup) (capture : List ℕ) (room : ℕ) → Octets capture
     → setupOutcome u (some capture) room .verdict
     ≡ inOrder (first (orderedChecks u (cyclesOf u capture))) (firstFinding (shapeOf u) (cyclesOf u capture))
-    (first (roomCheck (resultOf u capture) room ∷ []))
-    (tally (transferCount (shapeOf u) (cyclesOf u capture)) (packetCount (shapeOf u) (transfersOf u capture))
-    (length (records (outShape u) (resultOf u capture))))
+    (first (roomCheck (resultOf u capture) room ∷ [])) (tallyOf u capture)
 
 -- ---- a text with numbers of 64 bits has at most 103 octets
 
