@@ -1,4 +1,5 @@
--- Laws of the report: its text, its tests, its steps, what is promised of it, and its worked cases.
+-- Laws of the report: its text, its tests, its steps, what is promised of it, its worked cases, and what shows that contracts
+-- and promises say something.
 pub mod Told
 pub mod Passed
 pub mod Convert
@@ -8,3 +9,5 @@ pub mod Steps
 pub mod Ends
 pub mod Promises
 pub mod Cases
+pub mod Once
+pub mod Witnesses

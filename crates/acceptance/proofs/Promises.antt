@@ -38,7 +38,7 @@ use Rattle.setup.specs.Grammar.{sheetOf, text as ascii}
 use Rattle.acceptance.specs.declared.Tally.{Tally}
 use Rattle.acceptance.specs.declared.Verdict.the-variants.{Clean, Broken, Refused}
 use Rattle.acceptance.specs.Report.{Outcome, shapeOf, prepared, cyclesOf, transfersOf, packetCount, convertAnswer, convertResult, tally, converted, convertedTransfers, judged, captureOutcome, ratioChecks, setupChecks, unless, setupOutcome, sheetOutcome, outcomeOf, Whole, whole, reportOf, front}
-use Rattle.acceptance.specs.Promises.{OctetsOf, outShape, ReportsSetup, isClean, OnlyWhenClean, CleanTally, CleanTallies, shows, RefusalsShown, NeverReservedNorUnclean, PackNeverRatio, orderedChecks, resultOf, inOrder, ReportInOrder, TextShort}
+use Rattle.acceptance.specs.Promises.{OctetsOf, outShape, ReportsSetup, isClean, OnlyWhenClean, CleanTally, CleanTallies, shows, RefusalsShown, NeverReservedNorUnclean, PackNeverRatio, orderedChecks, resultOf, tallyOf, inOrder, ReportInOrder, TextShort}
 use Rattle.acceptance.specs.Steps.{Passes}
 use Rattle.acceptance.proofs.Passed.{sound-in, sound-out, sound-ratio, fits-out}
 use Rattle.acceptance.proofs.Convert.{convertRefusal, convertCount, answer-is, result-long, result-fits, not-written, IsWritten, is-written}
@@ -257,7 +257,7 @@ refusalsShown u capture room r o e = go (first (setupChecks u)) refl e
 
 -- ---- the numbers that show
 
-no : false ≡ true → ⊥
+pub no : false ≡ true → ⊥
 no e = let z : _≡_ {A = ℕ} 0 1 = cc in absurd (omega arith)
 
 codes : (m : Mode) (r : Refusal) → shows m r ≡ true → (codeOf r .0 ≢ 4) × (codeOf r .0 ≢ 14) × (m ≡ Pack → codeOf r .0 ≢ 6)
@@ -408,11 +408,6 @@ module _ (u : Setup) (capture : List ℕ) (o : Octets capture) (room : ℕ) wher
   abbrev cycles : List ℕ
   cycles = cyclesOf u capture
 
-  abbrev counted : Tally
-  counted =
-      tally (transferCount (shapeOf u) cycles) (packetCount (shapeOf u) (transfersOf u capture))
-      (length (records (outShape u) (resultOf u capture)))
-
   abbrev roomy : Option Refusal
   roomy = first (roomCheck (resultOf u capture) room ∷ [])
 
@@ -434,15 +429,15 @@ module _ (u : Setup) (capture : List ℕ) (o : Octets capture) (room : ℕ) wher
       (resultOf u capture) (result-count (u .mode) (shapeOf u) (u .«width_out») ts)
 
   in-order : (f : Option Refusal) → first (setupChecks u) ≡ f
-      → unless f (captureOutcome u (some capture) room) .verdict ≡ inOrder (first (orderedChecks u cycles)) (firstFinding (shapeOf u) cycles) roomy counted
-  in-order (some r) k = ap (λ (x : Option Refusal). inOrder x (firstFinding (shapeOf u) cycles) roomy counted) (sym (append-found (setupChecks u) left r k))
+      → unless f (captureOutcome u (some capture) room) .verdict ≡ inOrder (first (orderedChecks u cycles)) (firstFinding (shapeOf u) cycles) roomy (tallyOf u capture)
+  in-order (some r) k = ap (λ (x : Option Refusal). inOrder x (firstFinding (shapeOf u) cycles) roomy (tallyOf u capture)) (sym (append-found (setupChecks u) left r k))
   in-order none k =
       ap (λ (j : Judgement). judged j (convertedTransfers u (transfersOf u capture) room) .verdict) (judge-is k)
-      ∙ settles (first left) (firstFinding (shapeOf u) cycles) (transferCount (shapeOf u) cycles) (convertedTransfers u (transfersOf u capture) room) roomy counted
+      ∙ settles (first left) (firstFinding (shapeOf u) cycles) (transferCount (shapeOf u) cycles) (convertedTransfers u (transfersOf u capture) room) roomy (tallyOf u capture)
       (λ a b. room-last k (transferCount (shapeOf u) cycles)
       (judge-is k ∙ ap (λ (x : Option Refusal). verdict x (firstFinding (shapeOf u) cycles) (transferCount (shapeOf u) cycles)) a
       ∙ ap (λ (x : Option Finding). verdict none x (transferCount (shapeOf u) cycles)) b))
-      ∙ ap (λ (x : Option Refusal). inOrder x (firstFinding (shapeOf u) cycles) roomy counted) (sym (append-passed (setupChecks u) left k))
+      ∙ ap (λ (x : Option Refusal). inOrder x (firstFinding (shapeOf u) cycles) roomy (tallyOf u capture)) (sym (append-passed (setupChecks u) left k))
 
 pub reportInOrder : ReportInOrder
 reportInOrder u capture room o = in-order u capture o room (first (setupChecks u)) refl

@@ -22,7 +22,7 @@ use Rattle.setup.specs.Grammar.{sheetOf}
 use Rattle.acceptance.specs.declared.Tally.{Tally}
 use Rattle.acceptance.specs.declared.Verdict.{Verdict}
 use Rattle.acceptance.specs.declared.Verdict.the-variants.{Clean, Broken, Refused}
-use Rattle.acceptance.specs.Report.{shapeOf, cyclesOf, transfersOf, packetCount, convertResult, tally, setupChecks, setupOutcome, textOf, whole, reportOf, front}
+use Rattle.acceptance.specs.Report.{Word, saysClean, saysBroken, saysRefused, verdictValues, shapeOf, cyclesOf, transfersOf, packetCount, convertResult, tally, setupChecks, setupOutcome, textOf, whole, reportOf, front}
 
 -- every number of a take that could be read is an octet
 abbrev pub OctetsOf : Option (List ℕ) → Type 0
@@ -41,10 +41,13 @@ ReportsSetup =
 
 -- ---- "`out.bin` is written only when the verdict is clean."
 
+abbrev pub cleanWord : Word → Bool
+cleanWord saysClean = true
+cleanWord saysBroken = false
+cleanWord saysRefused = false
+
 abbrev pub isClean : Verdict → Bool
-isClean (Clean t) = true
-isClean (Broken cycle rule) = false
-isClean (Refused r) = false
+isClean v = cleanWord (verdictValues v .word)
 
 -- unless the verdict is clean there is no result, and lent memory keeps its content
 pub record WritesNothing (result : List ℕ) : Type 0 where
@@ -120,6 +123,12 @@ orderedChecks u cycles = setupChecks u ++ lengthCheck (shapeOf u) cycles ∷ cyc
 abbrev pub resultOf : Setup → List ℕ → List ℕ
 resultOf u capture = convertResult (u .mode) (shapeOf u) (u .«width_out») (transfersOf u capture)
 
+-- the numbers of a clean verdict
+abbrev pub tallyOf : Setup → List ℕ → Tally
+tallyOf u capture =
+    tally (transferCount (shapeOf u) (cyclesOf u capture)) (packetCount (shapeOf u) (transfersOf u capture))
+    (length (records (outShape u) (resultOf u capture)))
+
 abbrev pub inOrder : Option Refusal → Option Finding → Option Refusal → Tally → Verdict
 inOrder (some r) finding room t = Refused r
 inOrder none (some f) room t = Broken (f .cycle) (f .rule)
@@ -131,9 +140,7 @@ ReportInOrder =
     (u : Setup) (capture : List ℕ) (room : ℕ) → Octets capture
     → setupOutcome u (some capture) room .verdict
     ≡ inOrder (first (orderedChecks u (cyclesOf u capture))) (firstFinding (shapeOf u) (cyclesOf u capture))
-    (first (roomCheck (resultOf u capture) room ∷ []))
-    (tally (transferCount (shapeOf u) (cyclesOf u capture)) (packetCount (shapeOf u) (transfersOf u capture))
-    (length (records (outShape u) (resultOf u capture))))
+    (first (roomCheck (resultOf u capture) room ∷ [])) (tallyOf u capture)
 
 -- ---- a text with numbers of 64 bits has at most 103 octets
 

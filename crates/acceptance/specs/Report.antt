@@ -131,26 +131,32 @@ abbrev pub outcomeOf : Option (List ℕ) → Option (List ℕ) → ℕ → Outco
 outcomeOf none capture room = refused BadSheet
 outcomeOf (some sheet) capture room = sheetOutcome (sheetOf sheet) capture room
 
--- ---- the text
+-- ---- the numbers and the text of a verdict
 
--- 01's numbers for each verdict; what a verdict does not have is 0
+-- which lines are printed
+pub data Word : Type 0 where
+  saysClean : Word
+  saysBroken : Word
+  saysRefused : Word
+
+-- 01's numbers for each verdict, the one list that its text, its contract and C's answer are read from: the refusal's
+-- number, its place (or the broken cycle), the rule, and the counts of a clean take. What a verdict does not have is 0.
 pub record Values : Type 0 where
+  pub word : Word
+  pub refusal : ℕ
+  pub place : ℕ
+  pub rule : ℕ
   pub transfers : ℕ
   pub packets : ℕ
   pub records : ℕ
-  pub cycle : ℕ
-  pub rule : ℕ
-  pub refusal : ℕ
-  pub place : ℕ
-
-abbrev pub values : ℕ → ℕ → ℕ → ℕ → ℕ → ℕ → ℕ → Values
-values transfers packets written cycle rule refusal place =
-    record { transfers = transfers; packets = packets; records = written; cycle = cycle; rule = rule; refusal = refusal; place = place }
 
 abbrev pub verdictValues : Verdict → Values
-verdictValues (Clean t) = values (t .transfers) (t .packets) (t .records) 0 0 0 0
-verdictValues (Broken cycle rule) = values 0 0 0 cycle rule 0 0
-verdictValues (Refused r) = values 0 0 0 0 0 (codeOf r .0) (codeOf r .1)
+verdictValues (Clean t) =
+    record { word = saysClean; refusal = 0; place = 0; rule = 0; transfers = t .transfers; packets = t .packets; records = t .records }
+verdictValues (Broken cycle rule) =
+    record { word = saysBroken; refusal = 0; place = cycle; rule = rule; transfers = 0; packets = 0; records = 0 }
+verdictValues (Refused r) =
+    record { word = saysRefused; refusal = codeOf r .0; place = codeOf r .1; rule = 0; transfers = 0; packets = 0; records = 0 }
 
 -- "It prints key=value lines: for clean the four below; for broken `verdict`, `cycle`, `rule`; for refused `verdict`,
 -- `refusal`, `at`."
@@ -164,10 +170,13 @@ brokenText cycle rule = ascii "verdict=broken\n" ++ line (ascii "cycle=") cycle 
 abbrev pub refusedText : ℕ → ℕ → List ℕ
 refusedText number place = ascii "verdict=refused\n" ++ line (ascii "refusal=") number ++ line (ascii "at=") place
 
+abbrev pub linesOf : Word → Values → List ℕ
+linesOf saysClean v = cleanText (v .transfers) (v .packets) (v .records)
+linesOf saysBroken v = brokenText (v .place) (v .rule)
+linesOf saysRefused v = refusedText (v .refusal) (v .place)
+
 abbrev pub textOf : Verdict → List ℕ
-textOf (Clean t) = cleanText (t .transfers) (t .packets) (t .records)
-textOf (Broken cycle rule) = brokenText cycle rule
-textOf (Refused r) = refusedText (codeOf r .0) (codeOf r .1)
+textOf v = linesOf (verdictValues v .word) (verdictValues v)
 
 -- ---- the report: verdict, text and result
 

@@ -1,15 +1,14 @@
 -- The report as C sees it: paper 01's numbers of a report, the verdict first. What the report is of is acceptance's
--- `reportOf`; here is only how a number stands for a verdict, and for whether a file was read.
+-- `reportOf`, and a verdict's numbers are acceptance's `verdictValues`; here is only how a number stands for a verdict's word,
+-- and for whether a file was read.
 use mathlib.Core.Path.{_≡_}
 use mathlib.Core.Bool.{Bool, not}
 use mathlib.Core.List.{List}
 use Prim.Native.Nat.{ℕ}
 use lib.Dec.{eqb}
 use lib.ListN.{length}
-use Rattle.refusal.specs.Code.{codeOf}
 use Rattle.acceptance.specs.declared.Verdict.{Verdict}
-use Rattle.acceptance.specs.declared.Verdict.the-variants.{Clean, Broken, Refused}
-use Rattle.acceptance.specs.Report.{Whole, contents, reportOf, verdictValues, front, fitting}
+use Rattle.acceptance.specs.Report.{Word, saysClean, saysBroken, saysRefused, verdictValues, Whole, contents, reportOf, front, fitting}
 use Rattle.capi.specs.declared.report_call.ReportAnswer.{ReportAnswer}
 
 -- ---- what C hands over
@@ -24,23 +23,17 @@ reportAsked sheetRead sheet captureRead capture room =
 
 -- ---- what C is shown
 
-abbrev pub verdictNumber : Verdict → ℕ
-verdictNumber (Clean t) = 0
-verdictNumber (Broken cycle rule) = 1
-verdictNumber (Refused r) = 2
-
--- one field for both places: the broken cycle, and 01's place of a refusal
-abbrev pub verdictPlace : Verdict → ℕ
-verdictPlace (Clean t) = 0
-verdictPlace (Broken cycle rule) = cycle
-verdictPlace (Refused r) = codeOf r .1
+abbrev pub wordNumber : Word → ℕ
+wordNumber saysClean = 0
+wordNumber saysBroken = 1
+wordNumber saysRefused = 2
 
 -- a verdict, with how long the text and the result are
 pub record ShowsVerdict (a : ReportAnswer) (v : Verdict) (text octets : ℕ) : Type 0 where
-  pub verdict : a .verdict ≡ verdictNumber v
+  pub verdict : a .verdict ≡ wordNumber (verdictValues v .word)
   pub refusal : a .refusal ≡ verdictValues v .refusal
   pub rule : a .rule ≡ verdictValues v .rule
-  pub place : a .place ≡ verdictPlace v
+  pub place : a .place ≡ verdictValues v .place
   pub transfers : a .transfers ≡ verdictValues v .transfers
   pub packets : a .packets ≡ verdictValues v .packets
   pub records : a .records ≡ verdictValues v .records

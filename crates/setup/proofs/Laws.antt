@@ -26,7 +26,9 @@ use Rattle.setup.specs.declared.TlastLine.{TlastLine}
 use Rattle.setup.specs.declared.TlastLine.the-variants.{Read as TlastLine·Read, Refused as TlastLine·Refused}
 use Rattle.setup.specs.declared.Mode.{Mode}
 use Rattle.setup.specs.declared.Tlast.{Tlast}
+use Rattle.setup.specs.declared.Sheet.{Sheet}
 use Rattle.setup.specs.declared.Sheet.the-variants.{Read, Refused}
+use Rattle.setup.specs.Answers.{sheetValues, Parsed}
 
 -- ---- the first line
 
@@ -373,3 +375,7 @@ module _ {xs : List ℕ} {a second : ℕ} (p : Reads (lineOf (text "width_in=") 
         sheet-read l =
             let gone : drop end xs ≡ [] = drop-of-length-le xs l in
             rw (p .is, q .is, r .is, s .is, gone)
+
+-- an answer that is the grammar's meets the contract
+pub parsed : {xs : List ℕ} {r : Sheet} → r ≡ sheetOf xs → Parsed xs r
+parsed e = record { is = e; says = ap sheetValues e }

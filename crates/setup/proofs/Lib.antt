@@ -1,3 +1,5 @@
 pub mod Cases
 pub mod Laws
 pub mod Promises
+pub mod Once
+pub mod Witnesses

@@ -15,7 +15,8 @@ use Rattle.setup.specs.declared.Tlast.the-variants.{Wired, Absent}
 use Rattle.setup.specs.declared.Setup.{Setup}
 use Rattle.setup.specs.declared.Sheet.{Sheet}
 use Rattle.setup.specs.declared.Sheet.the-variants.{Read, Refused}
-use Rattle.setup.specs.Promises.{numeral, NumbersExactly, modeWord, tlastWord, lineText, sheetText, SheetsExactly}
+use Rattle.setup.specs.Answers.{modeWord, tlastWord}
+use Rattle.setup.specs.Promises.{numeral, NumbersExactly, lineText, sheetText, SheetsExactly}
 use Rattle.setup.proofs.Laws.{both, digit-yes, digit-range}
 
 -- ---- each number is read

@@ -1,4 +1,5 @@
 pub mod Grammar
+pub mod Answers
 pub mod Reading
 pub mod Cases
 pub mod Promises

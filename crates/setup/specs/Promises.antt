@@ -5,13 +5,10 @@ use mathlib.Core.Option.{some}
 use mathlib.Core.Path.{_≡_}
 use Prim.Native.Nat.{ℕ, _+_, _/_, _%_, _≤_}
 use lib.Dec.{ltb}
-use Rattle.setup.specs.declared.Mode.{Mode}
-use Rattle.setup.specs.declared.Mode.the-variants.{Pack, Lanes}
-use Rattle.setup.specs.declared.Tlast.{Tlast}
-use Rattle.setup.specs.declared.Tlast.the-variants.{Wired, Absent}
 use Rattle.setup.specs.declared.Setup.{Setup}
 use Rattle.setup.specs.declared.Sheet.the-variants.{Read}
 use Rattle.setup.specs.Grammar.{text, number, sheetOf}
+use Rattle.setup.specs.Answers.{Values, sheetValues}
 
 -- a number up to 99 in decimal, without a leading zero
 abbrev pub numeral : ℕ → List ℕ
@@ -24,23 +21,19 @@ pub record NumbersExactly : Type 0 where
 
 -- ---- a setup, written as a sheet
 
-abbrev pub modeWord : Mode → List ℕ
-modeWord Pack = text "pack"
-modeWord Lanes = text "lanes"
-
-abbrev pub tlastWord : Tlast → List ℕ
-tlastWord Wired = text "wired"
-tlastWord Absent = text "none"
-
 -- a key and its value, LF-ended, in front of the lines after it
 abbrev pub lineText : List ℕ → List ℕ → List ℕ → List ℕ
 lineText key value rest = key ++ (value ++ (10 ∷ rest))
 
+-- the four lines of these values
+abbrev pub valuesText : Values → List ℕ
+valuesText v =
+    lineText (text "width_in=") (numeral (v .«width_in»))
+    (lineText (text "width_out=") (numeral (v .«width_out»))
+    (lineText (text "mode=") (v .mode) (lineText (text "tlast=") (v .tlast) [])))
+
 abbrev pub sheetText : Setup → List ℕ
-sheetText u =
-    lineText (text "width_in=") (numeral (u .«width_in»))
-    (lineText (text "width_out=") (numeral (u .«width_out»))
-    (lineText (text "mode=") (modeWord (u .mode)) (lineText (text "tlast=") (tlastWord (u .tlast)) [])))
+sheetText u = valuesText (sheetValues (Read u))
 
 -- each setup with widths from 0 to 99 is read from its text; and a sheet that is read is the text of what it says, octet for
 -- octet, so that nothing else is read

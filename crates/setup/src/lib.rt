@@ -5,7 +5,8 @@ ghost use mathlib.Core.List.{[], _∷_};
 ghost use mathlib.Core.Path.{_≡_};
 ghost use Prim.Native.Nat.{_≤_};
 ghost use lib.ListN.{length};
-ghost use Rattle.setup.specs.Grammar.{sheetOf, isDigit, isWord};
+ghost use Rattle.setup.specs.Grammar.{isDigit, isWord};
+ghost use Rattle.setup.specs.Answers.{Parsed};
 ghost use Rattle.setup.specs.Reading.{LineEnd, Begins, EndSays, NumberSays, NumberLineSays, ModeLineSays, TlastLineSays};
 
 // `mode=pack`: repacking. `mode=lanes`: lane-keeping downsizing.
@@ -64,7 +65,7 @@ enum TlastLine {
 
 // What the octets of a sheet say.
 pub fn parse(sheet: &[u8]) -> Sheet
-    ensures { λ r. ⌜ r ≡ sheetOf (now (sheet .entry)) ⌝ }
+    ensures { λ r. ⌜ Parsed (now (sheet .entry)) r ⌝ }
 {
     let NumberLine::Read(width_in, second) = number_line(sheet, 0, b"width_in=") else {
         return Sheet::Refused;

@@ -1,5 +1,5 @@
 -- `setup::parse` meets its contract: each line in its turn, and nothing after the fourth. Assumes nothing.
-use Rattle.setup.proofs.Laws.{read-number, refused-number, read-mode, refused-mode, read-tlast, refused-tlast, first-refused, second-refused, third-refused, fourth-refused, end-refused, sheet-read}
+use Rattle.setup.proofs.Laws.{read-number, refused-number, read-mode, refused-mode, read-tlast, refused-tlast, first-refused, second-refused, third-refused, fourth-refused, end-refused, sheet-read, parsed}
 use borrow.Author.Needs.{needs}
 use Rattle.setup.proofs.parse.Statement.{statement}
 use Rattle.setup.proofs.parse.Tie as tie
@@ -17,7 +17,7 @@ enum-told : tie.Need-enum-told
 enum-told c = search needs
 
 returns : tie.Need-returns
-returns c = first-refused (c .before .before .before .before .before .args .sheet .now) (refused-number (c .enum-told .given .1) (c .before .before .number-line .ensures))
+returns c = parsed (first-refused (c .before .before .before .before .before .args .sheet .now) (refused-number (c .enum-told .given .1) (c .before .before .number-line .ensures)))
 
 slice-aggregate-number-line-2 : tie.Need-slice-aggregate-number-line-2
 slice-aggregate-number-line-2 c = search needs
@@ -32,7 +32,7 @@ enum-told-2 : tie.Need-enum-told-2
 enum-told-2 c = search needs
 
 returns-2 : tie.Need-returns-2
-returns-2 c = second-refused (read-number (c .before .before .before .before .before .width-in .given .1) (c .before .before .before .before .before .before .before .number-line .ensures)) (refused-number (c .enum-told2 .given .1) (c .before .before .number-line2 .ensures))
+returns-2 c = parsed (second-refused (read-number (c .before .before .before .before .before .width-in .given .1) (c .before .before .before .before .before .before .before .number-line .ensures)) (refused-number (c .enum-told2 .given .1) (c .before .before .number-line2 .ensures)))
 
 mode-line-requires : tie.Need-mode-line-requires
 mode-line-requires c κs = read-number (c .before .width-out .given .1) (c .before .before .before .number-line2 .ensures) .within
@@ -44,7 +44,7 @@ enum-told-3 : tie.Need-enum-told-3
 enum-told-3 c = search needs
 
 returns-3 : tie.Need-returns-3
-returns-3 c = third-refused (read-number (c .before .before .before .before .before .before .before .before .before .width-in .given .1) (c .before .before .before .before .before .before .before .before .before .before .before .number-line .ensures)) (read-number (c .before .before .before .before .width-out .given .1) (c .before .before .before .before .before .before .number-line2 .ensures)) (refused-mode (c .enum-told3 .given .1) (c .before .before .mode-line .ensures))
+returns-3 c = parsed (third-refused (read-number (c .before .before .before .before .before .before .before .before .before .width-in .given .1) (c .before .before .before .before .before .before .before .before .before .before .before .number-line .ensures)) (read-number (c .before .before .before .before .width-out .given .1) (c .before .before .before .before .before .before .number-line2 .ensures)) (refused-mode (c .enum-told3 .given .1) (c .before .before .mode-line .ensures)))
 
 tlast-line-requires : tie.Need-tlast-line-requires
 tlast-line-requires c κs = read-mode (c .before .mode .given .1) (c .before .before .before .mode-line .ensures) .within
@@ -56,13 +56,13 @@ enum-told-4 : tie.Need-enum-told-4
 enum-told-4 c = search needs
 
 returns-4 : tie.Need-returns-4
-returns-4 c = fourth-refused (read-number (c .before .before .before .before .before .before .before .before .before .before .before .before .before .width-in .given .1) (c .before .before .before .before .before .before .before .before .before .before .before .before .before .before .before .number-line .ensures)) (read-number (c .before .before .before .before .before .before .before .before .width-out .given .1) (c .before .before .before .before .before .before .before .before .before .before .number-line2 .ensures)) (read-mode (c .before .before .before .before .mode .given .1) (c .before .before .before .before .before .before .mode-line .ensures)) (refused-tlast (c .enum-told4 .given .1) (c .before .before .tlast-line .ensures))
+returns-4 c = parsed (fourth-refused (read-number (c .before .before .before .before .before .before .before .before .before .before .before .before .before .width-in .given .1) (c .before .before .before .before .before .before .before .before .before .before .before .before .before .before .before .number-line .ensures)) (read-number (c .before .before .before .before .before .before .before .before .width-out .given .1) (c .before .before .before .before .before .before .before .before .before .before .number-line2 .ensures)) (read-mode (c .before .before .before .before .mode .given .1) (c .before .before .before .before .before .before .mode-line .ensures)) (refused-tlast (c .enum-told4 .given .1) (c .before .before .tlast-line .ensures)))
 
 returns-5 : tie.Need-returns-5
-returns-5 c = end-refused (read-number (c .before .before .before .before .before .before .before .before .before .before .before .before .before .before .before .width-in .given .1) (c .before .before .before .before .before .before .before .before .before .before .before .before .before .before .before .before .before .number-line .ensures)) (read-number (c .before .before .before .before .before .before .before .before .before .before .width-out .given .1) (c .before .before .before .before .before .before .before .before .before .before .before .before .number-line2 .ensures)) (read-mode (c .before .before .before .before .before .before .mode .given .1) (c .before .before .before .before .before .before .before .before .mode-line .ensures)) (read-tlast (c .before .before .tlast .given .1) (c .before .before .before .before .tlast-line .ensures)) (c .if1 .taken)
+returns-5 c = parsed (end-refused (read-number (c .before .before .before .before .before .before .before .before .before .before .before .before .before .before .before .width-in .given .1) (c .before .before .before .before .before .before .before .before .before .before .before .before .before .before .before .before .before .number-line .ensures)) (read-number (c .before .before .before .before .before .before .before .before .before .before .width-out .given .1) (c .before .before .before .before .before .before .before .before .before .before .before .before .number-line2 .ensures)) (read-mode (c .before .before .before .before .before .before .mode .given .1) (c .before .before .before .before .before .before .before .before .mode-line .ensures)) (read-tlast (c .before .before .tlast .given .1) (c .before .before .before .before .tlast-line .ensures)) (c .if1 .taken))
 
 returns-6 : tie.Need-returns-6
-returns-6 c = sheet-read (read-number (c .before .before .before .before .before .before .before .before .before .before .before .before .before .before .before .width-in .given .1) (c .before .before .before .before .before .before .before .before .before .before .before .before .before .before .before .before .before .number-line .ensures)) (read-number (c .before .before .before .before .before .before .before .before .before .before .width-out .given .1) (c .before .before .before .before .before .before .before .before .before .before .before .before .number-line2 .ensures)) (read-mode (c .before .before .before .before .before .before .mode .given .1) (c .before .before .before .before .before .before .before .before .mode-line .ensures)) (read-tlast (c .before .before .tlast .given .1) (c .before .before .before .before .tlast-line .ensures)) (c .if1 .left)
+returns-6 c = parsed (sheet-read (read-number (c .before .before .before .before .before .before .before .before .before .before .before .before .before .before .before .width-in .given .1) (c .before .before .before .before .before .before .before .before .before .before .before .before .before .before .before .before .before .number-line .ensures)) (read-number (c .before .before .before .before .before .before .before .before .before .before .width-out .given .1) (c .before .before .before .before .before .before .before .before .before .before .before .before .number-line2 .ensures)) (read-mode (c .before .before .before .before .before .before .mode .given .1) (c .before .before .before .before .before .before .before .before .mode-line .ensures)) (read-tlast (c .before .before .tlast .given .1) (c .before .before .before .before .tlast-line .ensures)) (c .if1 .left))
 
 pub parse-spec : {M : Type 1} → statement M
 parse-spec =

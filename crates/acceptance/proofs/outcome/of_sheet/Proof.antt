@@ -28,13 +28,13 @@ of-setup-requires : tie.Need-of-setup-requires
 of-setup-requires c κs = search needs
 
 returns-2 : tie.Need-returns-2
-returns-2 c = sheet-refused (c .before .before .before .before .before .before .before .before .args .sheet .now) (c .before .before .before .before .before .before .before .before .args .sheet-read) (contents (c .before .before .before .before .before .before .before .before .args .capture-read) (c .before .before .before .before .before .before .before .before .args .capture .now)) (c .before .before .before .before .before .before .before .before .args .out .now) (not-false (c .before .before .before .before .before .before .before .before .args .sheet-read) (c .before .before .before .before .if1 .left)) (c .before .before .before .parse .result) (c .before .before .before .parse .ensures) (c .before .enum-told .given .1) (c .refuse2 .result) (c .refuse2 .ensures .0) (c .refuse2 .ensures .1)
+returns-2 c = sheet-refused (c .before .before .before .before .before .before .before .before .args .sheet .now) (c .before .before .before .before .before .before .before .before .args .sheet-read) (contents (c .before .before .before .before .before .before .before .before .args .capture-read) (c .before .before .before .before .before .before .before .before .args .capture .now)) (c .before .before .before .before .before .before .before .before .args .out .now) (not-false (c .before .before .before .before .before .before .before .before .args .sheet-read) (c .before .before .before .before .if1 .left)) (c .before .before .before .parse .result) (c .before .before .before .parse .ensures .is) (c .before .enum-told .given .1) (c .refuse2 .result) (c .refuse2 .ensures .0) (c .refuse2 .ensures .1)
 
 same-length : tie.Need-same-length
 same-length c = search needs
 
 returns-3 : tie.Need-returns-3
-returns-3 c = sheet-read (c .before .before .before .before .before .before .before .before .before .before .before .before .args .sheet .now) (c .before .before .before .before .before .before .before .before .before .before .before .before .args .sheet-read) (contents (c .before .before .before .before .before .before .before .before .before .before .before .before .args .capture-read) (c .before .before .before .before .before .before .before .before .before .before .before .before .args .capture .now)) (c .before .before .before .before .before .before .before .before .before .before .before .before .args .out .now) (not-false (c .before .before .before .before .before .before .before .before .before .before .before .before .args .sheet-read) (c .before .before .before .before .before .before .before .before .if1 .left)) (c .before .before .before .before .before .before .before .parse .result) (c .before .before .before .before .before .before .before .parse .ensures) (c .before .before .before .before .before .read .given .0 .0) (c .before .before .before .before .before .read .given .1) (c .before .before .of-setup .last .1 .1 .1 .0) (c .before .before .of-setup .result) (c .before .before .of-setup .ensures)
+returns-3 c = sheet-read (c .before .before .before .before .before .before .before .before .before .before .before .before .args .sheet .now) (c .before .before .before .before .before .before .before .before .before .before .before .before .args .sheet-read) (contents (c .before .before .before .before .before .before .before .before .before .before .before .before .args .capture-read) (c .before .before .before .before .before .before .before .before .before .before .before .before .args .capture .now)) (c .before .before .before .before .before .before .before .before .before .before .before .before .args .out .now) (not-false (c .before .before .before .before .before .before .before .before .before .before .before .before .args .sheet-read) (c .before .before .before .before .before .before .before .before .if1 .left)) (c .before .before .before .before .before .before .before .parse .result) (c .before .before .before .before .before .before .before .parse .ensures .is) (c .before .before .before .before .before .read .given .0 .0) (c .before .before .before .before .before .read .given .1) (c .before .before .of-setup .last .1 .1 .1 .0) (c .before .before .of-setup .result) (c .before .before .of-setup .ensures)
 
 pub of-sheet-spec : {M : Type 1} → statement M
 of-sheet-spec =

@@ -1,0 +1,59 @@
+-- The contracts of the C calls leave no choice: two answers that meet one of them on the same arguments are equal in each
+-- number, and so is lent memory afterwards. A field that says nothing breaks one of these proofs. Assumes nothing.
+use mathlib.Core.Path.{_≡_}
+use mathlib.Core.List.{List}
+use Prim.Native.Nat.{ℕ}
+use Rattle.burst_spec.specs.Answers.{Row}
+use Rattle.stream.specs.declared.Shape.{Shape}
+use Rattle.stream.specs.Answers.{Values}
+use Rattle.acceptance.specs.declared.Verdict.{Verdict}
+use Rattle.acceptance.specs.Report.{Whole}
+use Rattle.acceptance.proofs.Once.{both}
+use Rattle.capi.specs.declared.BurstAnswer.{BurstAnswer}
+use Rattle.capi.specs.declared.stream_calls.PartAnswer.{PartAnswer}
+use Rattle.capi.specs.declared.stream_calls.StreamAnswer.{StreamAnswer}
+use Rattle.capi.specs.declared.report_call.ReportAnswer.{ReportAnswer}
+use Rattle.capi.specs.Shows.{ShowsRow, ShowsValues, ShowsPart}
+use Rattle.capi.specs.Reports.{ShowsVerdict, ShowsReport}
+
+pub row-once : {a b : BurstAnswer} {row : Row} → ShowsRow a row → ShowsRow b row → a ≡ b
+row-once p q = λ i. record {
+  refusal = both (p .refusal) (q .refusal) i;
+  lower = both (p .lower) (q .lower) i;
+  upper = both (p .upper) (q .upper) i;
+  step = both (p .step) (q .step) i;
+  address = both (p .address) (q .address) i;
+}
+
+pub values-once : {a b : StreamAnswer} {values : Values} → ShowsValues a values → ShowsValues b values → a ≡ b
+values-once p q = λ i. record {
+  refusal = both (p .refusal) (q .refusal) i;
+  rule = both (p .rule) (q .rule) i;
+  place = both (p .place) (q .place) i;
+  count = both (p .count) (q .count) i;
+}
+
+pub part-once : {a b : PartAnswer} {s : Shape} {capture : List ℕ} {k : ℕ} → ShowsPart a s capture k → ShowsPart b s capture k → a ≡ b
+part-once p q = λ i. record {
+  refusal = both (p .refusal) (q .refusal) i;
+  start = both (p .start) (q .start) i;
+  length = both (p .octets) (q .octets) i;
+}
+
+pub verdict-once : {a b : ReportAnswer} {v : Verdict} {text octets : ℕ} → ShowsVerdict a v text octets → ShowsVerdict b v text octets → a ≡ b
+verdict-once p q = λ i. record {
+  verdict = both (p .verdict) (q .verdict) i;
+  refusal = both (p .refusal) (q .refusal) i;
+  rule = both (p .rule) (q .rule) i;
+  place = both (p .place) (q .place) i;
+  transfers = both (p .transfers) (q .transfers) i;
+  packets = both (p .packets) (q .packets) i;
+  records = both (p .records) (q .records) i;
+  text = both (p .told) (q .told) i;
+  octets = both (p .long) (q .long) i;
+}
+
+-- o and t are the output and the text as the first call leaves them, o' and t' as the second does
+pub report-once : {a b : ReportAnswer} {w : Whole} {out o o' text t t' : List ℕ} → ShowsReport a w out o text t → ShowsReport b w out o' text t'
+    → (a ≡ b) × (o ≡ o') × (t ≡ t')
+report-once p q = (verdict-once (p .numbers) (q .numbers), both (p .leaves) (q .leaves), both (p .told) (q .told))
