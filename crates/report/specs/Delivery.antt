@@ -1,12 +1,11 @@
 -- What the program hands on: what it knows of a file, the report that a summary and its buffers are of, and what may be saved
 -- and printed. Words in quotes are paper 01's.
 use mathlib.Core.Path.{_≡_}
-use mathlib.Core.Bool.{true, cond}
-use mathlib.Core.List.{List, []}
+use mathlib.Core.Bool.{true}
+use mathlib.Core.List.{List}
 use mathlib.Core.Option.{Option}
 use Prim.Native.Nat.{ℕ}
-use lib.Dec.{ltb}
-use lib.ListN.{length, take}
+use lib.ListN.{take}
 use Rattle.io.specs.Counts.{Counts}
 use Rattle.acceptance.specs.declared.Summary.{Summary}
 use Rattle.acceptance.specs.Report.{contents, Whole, reportOf}
@@ -21,20 +20,13 @@ known input buffer = contents (input .whole) (take (input .octets) buffer)
 abbrev pub room : ℕ
 room = 65536
 
--- the text, which fits into the program's 128 octets for it: with numbers of 64 bits none is longer (`Promises.textShort`)
-abbrev pub textRoom : ℕ
-textRoom = 128
-
-abbrev pub shown : Whole → List ℕ
-shown w = cond (ltb textRoom (length (w .text))) [] (w .text)
-
 -- The summary has the report's verdict, and says how much at the front of either buffer is its result and its text.
 pub record Tells (w : Whole) (told : Summary) (output text : List ℕ) : Type 0 where
   pub verdict : told .verdict ≡ w .verdict
   pub octets : Counts (told .octets) output
   pub result : take (told .octets) output ≡ w .result
   pub letters : Counts (told .text) text
-  pub says : take (told .text) text ≡ shown w
+  pub says : take (told .text) text ≡ w .text
 
 -- These are summary and buffers of the report on a sheet and a take.
 pub record Delivers (told : Summary) (output text : List ℕ) : Type 0 where
@@ -55,4 +47,4 @@ pub record Prints (told : Summary) (letters : List ℕ) : Type 0 where
   pub sheet : Option (List ℕ)
   pub capture : Option (List ℕ)
   pub verdict : told .verdict ≡ reportOf sheet capture room .verdict
-  pub text : letters ≡ shown (reportOf sheet capture room)
+  pub text : letters ≡ reportOf sheet capture room .text

@@ -1,4 +1,5 @@
 -- `report::report_on` meets its contract: the report on what was read, by the lengths that were read. Assumes nothing.
+use Rattle.report.proofs.Short.{fits}
 use Rattle.report.proofs.Laws.{tells}
 use borrow.Author.Needs.{needs}
 use Rattle.report.proofs.report_on.Statement.{statement}
@@ -20,7 +21,7 @@ same-length-2 : tie.Need-same-length-2
 same-length-2 c = search needs
 
 returns : tie.Need-returns
-returns c = tells (c .before .before .before .before .before .before .before .before .before .before .before .before .before .pre .1 .1) (c .before .before .before .before .report .ensures)
+returns c = tells _ _ _ _ _ _ _ _ (c .before .before .before .before .report .ensures) (fits (c .before .before .before .before .report .result) _ (c .before .before .before .before .report .ok)) (c .before .before .before .before .before .before .before .before .before .before .before .before .before .pre .1 .1)
 
 pub report-on-spec : {M : Type 1} → statement M
 report-on-spec =
