@@ -1,11 +1,21 @@
 // The report program of paper 01. It reads setup.txt and take.bin in the folder it is run in, writes out.bin where the verdict
 // is clean, and prints the report. Nothing is decided here: verdict, text and result are `acceptance::report`'s, and what a
 // sheet says is in the crate setup. How files are read and written is in files.
+// Proved is that the report is on what `files::read_file` handed over, that `files::save` is handed its result, whole, and only
+// where it is clean, and `files::print` its text, whole. Only code and tests/report show that the names are those two, that
+// the buffers are cleared at the start, and that the result is saved, and before the text is printed.
 mod files;
 
 use acceptance::Summary;
 use acceptance::Verdict;
-ghost use Rattle.report.specs.Delivery.{Delivers};
+use files::Input;
+ghost use Prim.Native.Nat.{_≤_};
+ghost use mathlib.Core.Path.{_≡_};
+ghost use lib.ListN.{length};
+ghost use Rattle.io.specs.Counts.{Counts};
+ghost use Rattle.acceptance.specs.Report.{reportOf};
+ghost use Rattle.acceptance.specs.Promises.{isClean};
+ghost use Rattle.report.specs.Delivery.{known, Tells, Delivers};
 
 fn main() {
     // the longest sheet has 48 octets, and no text has more than 103, whatever its numbers
@@ -15,17 +25,34 @@ fn main() {
     let mut output = [0u8; 65536];
     let setup = files::read_file(b"setup.txt", &mut sheet);
     let capture = files::read_file(b"take.bin", &mut take);
+    let told = report_on(setup, &sheet, capture, &take, &mut output, &mut text);
+    deliver(told, &output, &text);
+}
+
+// The report on what was read of the two files.
+fn report_on(
+    setup: Input,
+    sheet: &[u8],
+    capture: Input,
+    take: &[u8],
+    output: &mut [u8],
+    text: &mut [u8],
+) -> Summary
+    requires { ⌜ Counts (setup .octets) (now sheet) ⌝ }
+    requires { ⌜ Counts (capture .octets) (now take) ⌝ }
+    requires { ⌜ 103 ≤ length (now text) ⌝ }
+    ensures { λ r. ⌜ Tells (reportOf (known setup (now (sheet .entry))) (known capture (now (take .entry))) (length (now (output .entry)))) r (now (output .exit)) (now (text .exit)) ⌝ }
+{
     let n = setup.octets;
     let m = capture.octets;
-    let told = acceptance::report(
+    acceptance::report(
         &sheet[..n],
         setup.whole,
         &take[..m],
         capture.whole,
-        &mut output,
-        &mut text,
-    );
-    deliver(told, &output, &text);
+        output,
+        text,
+    )
 }
 
 // The result first, and the text only after it: a clean report that is printed has its out.bin.
@@ -35,15 +62,17 @@ fn deliver(told: Summary, output: &[u8], text: &[u8])
     let verdict = told.verdict;
     if is_clean(verdict) {
         let octets = told.octets;
-        if !files::save(&output[..octets]) {
+        if !files::save(told, &output[..octets]) {
             return;
         }
     }
     let letters = told.text;
-    files::print(&text[..letters]);
+    files::print(told, &text[..letters]);
 }
 
-fn is_clean(verdict: Verdict) -> bool {
+fn is_clean(verdict: Verdict) -> bool
+    ensures { λ r. ⌜ r ≡ isClean verdict ⌝ }
+{
     match verdict {
         Verdict::Clean(_) => true,
         Verdict::Broken(_, _) => false,
