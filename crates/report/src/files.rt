@@ -1,8 +1,8 @@
 // The report program's files: a file read whole into a lent buffer, and out.bin written whole or not at all.
-// `save` and `print` ask for what is to be written, so what they are handed is proved. The kit's contracts say nothing of what
-// a call reads or writes, so from there on only code and tests/report show it: that `read_file` hands over what the file
-// holds, that `save` puts its octets into out.bin and flushes them, and that `print` puts its letters on standard output.
-// Proved of that is that nothing goes out of bounds and that every loop ends.
+// `save` and `print` take the summary for their contracts alone: these ask that what they are handed is its result or its text.
+// The kit's contracts say nothing of what a call reads or writes, so only code and tests/report show the rest: that `read_file`
+// hands over what the file holds, that `save` puts its octets into out.bin and flushes them, and that `print` puts its
+// letters on standard output. Proved of that is that nothing goes out of bounds and that every loop ends.
 use acceptance::Summary;
 ghost use Rattle.io.specs.Counts.{Counts};
 ghost use Rattle.report.specs.Delivery.{Saves, Prints};

@@ -1,9 +1,9 @@
 // The report program of paper 01. It reads setup.txt and take.bin in the folder it is run in, writes out.bin where the verdict
 // is clean, and prints the report. Nothing is decided here: verdict, text and result are `acceptance::report`'s, and what a
 // sheet says is in the crate setup. How files are read and written is in files.
-// Proved is that the report is on what `files::read_file` handed over, that `files::save` is handed its result, whole, and only
-// where it is clean, and `files::print` its text, whole. Only code and tests/report show that the names are those two, that
-// the buffers are cleared at the start, and that the result is saved, and before the text is printed.
+// Proved is that the report is on what `files::read_file` handed over, with room for 65,536 octets; that `files::save` is handed
+// its result, whole, and only where it is clean; and that `files::print` is handed its text, whole. Only code and tests/report
+// show which files are read, how long their buffers are, and that a clean result is saved at all, and before the text.
 mod files;
 
 use acceptance::Summary;
@@ -55,7 +55,7 @@ fn report_on(
     )
 }
 
-// The result first, and the text only after it: a clean report that is printed has its out.bin.
+// The result first, and the text only after it: a clean report that is printed has its out.bin, on the disk.
 fn deliver(told: Summary, output: &[u8], text: &[u8])
     requires { ⌜ Delivers told (now output) (now text) ⌝ }
 {
