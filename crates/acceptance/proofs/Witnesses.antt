@@ -21,12 +21,13 @@ use Rattle.stream.specs.Legal.{Octets}
 use Rattle.setup.specs.declared.Setup.{Setup}
 use Rattle.setup.specs.declared.Mode.the-variants.{Pack, Lanes}
 use Rattle.setup.specs.declared.Tlast.the-variants.{Wired}
-use Rattle.setup.specs.declared.Sheet.the-variants.{Read}
+use Rattle.setup.specs.declared.Sheet.the-variants.{Read, Refused as NoSheet}
 use Rattle.setup.specs.Grammar.{sheetOf}
+use Rattle.setup.specs.Answers.{sheetValues}
 use Rattle.setup.proofs.Laws.{both as and-both}
 use Rattle.acceptance.specs.declared.Tally.{Tally}
 use Rattle.acceptance.specs.declared.Verdict.the-variants.{Clean, Broken, Refused}
-use Rattle.acceptance.specs.Report.{shapeOf, cyclesOf, tally, setupOutcome, textOf, whole, reportOf, front}
+use Rattle.acceptance.specs.Report.{shapeOf, cyclesOf, tally, setupOutcome, sheetOutcome, verdictValues, textOf, whole, reportOf, front}
 use Rattle.acceptance.specs.Promises.{OctetsOf, isClean, CleanTally, shows, orderedChecks, resultOf, tallyOf, inOrder}
 use Rattle.acceptance.specs.Cases.{says, p1Sheet, p1Take, p1Result, cycle}
 use Rattle.acceptance.proofs.Promises.{reportsSetup, onlyWhenClean, cleanTallies, refusalsShown, neverReservedNorUnclean, packNeverRatio, reportInOrder, textShort, no}
@@ -59,6 +60,11 @@ unread-octets = tt
 pub read-octets : (capture : List ℕ) → Octets capture → OctetsOf (some capture)
 read-octets capture o = o
 
+-- a sheet that is refused shows the number that the report shows for it
+pub sheet-number : (capture : Option (List ℕ)) (room : ℕ)
+    → verdictValues (sheetOutcome NoSheet capture room .verdict) .refusal ≡ sheetValues NoSheet .refusal
+sheet-number capture room = refl
+
 -- ---- at their widest
 
 module _ (sheet capture : Option (List ℕ)) (room : ℕ) where
@@ -87,7 +93,7 @@ module _ (sheet : List ℕ) (u : Setup) (e : sheetOf sheet ≡ Read u) (capture 
   pub pack-no-ratio : u .mode ≡ Pack → OctetsOf capture → reportOf (some sheet) capture room .verdict ≡ Refused Ratio → ⊥
   pack-no-ratio m o h = packNeverRatio sheet u e m capture room Ratio o h refl
 
--- "SHEET comes first of all .. and ROOM last": each kind of verdict, where those before it are not there
+-- ".. LENGTH, FIELD, a broken verdict, and ROOM last": each kind of verdict, where those before it are not there
 module _ (u : Setup) (capture : List ℕ) (room : ℕ) (o : Octets capture) where
   abbrev tests : Option Refusal
   tests = first (orderedChecks u (cyclesOf u capture))

@@ -1,6 +1,6 @@
 // The setup sheet of the report program (paper 01, 'The report program'): its four lines, read from octets. What a sheet says
-// is in specs/Grammar. A width is any number from 0 to 99 here: which widths are allowed, and the refusal that is shown for a
-// sheet that is not as it should be, are decided in the crate acceptance.
+// is in specs/Grammar, and the number and values that an answer stands for are in specs/Answers. A width is any number from 0 to
+// 99 here: which widths are allowed is decided in the crate acceptance.
 ghost use mathlib.Core.List.{[], _∷_};
 ghost use mathlib.Core.Path.{_≡_};
 ghost use Prim.Native.Nat.{_≤_};
