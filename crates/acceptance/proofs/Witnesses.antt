@@ -2,15 +2,13 @@
 -- written out, and at examples typed by hand. A premise that is narrowed, or a conclusion that says less, breaks one.
 -- Assumes nothing.
 use mathlib.Core.Path.{_≡_, refl, sym, ap, _∙_}
-use mathlib.Core.Bool.{Bool, true, false, _&&_}
+use mathlib.Core.Bool.{Bool, true, false}
 use mathlib.Core.List.{List, [], _∷_, map}
 use mathlib.Core.Logic.{_≢_}
 use mathlib.Core.Option.{Option, none, some}
 use Prim.Native.Nat.{ℕ, _≤_}
 use native.Mathlib.Omega.{arith}
-use lib.Dec.{ltb}
 use lib.ListN.{length}
-use borrow.Author.Tests.{ltb-true}
 use Rattle.refusal.specs.declared.Refusal.{Refusal}
 use Rattle.refusal.specs.declared.Refusal.the-variants.{Width, Length, Field, Reserved, Room, Ratio, Bus, Size, Kind, Count, Align, Boundary, Index, Unclean, Setup as BadSheet}
 use Rattle.stream.specs.Layout.{size}
@@ -18,13 +16,13 @@ use Rattle.stream.specs.Checks.{first, roomCheck}
 use Rattle.stream.specs.Handshake.{Finding, firstFinding}
 use Rattle.stream.specs.Answers.{judgeAnswer, repackAnswer}
 use Rattle.stream.specs.Legal.{Octets}
+use Rattle.stream.proofs.Tables.{octets-tested}
 use Rattle.setup.specs.declared.Setup.{Setup}
 use Rattle.setup.specs.declared.Mode.the-variants.{Pack, Lanes}
 use Rattle.setup.specs.declared.Tlast.the-variants.{Wired}
 use Rattle.setup.specs.declared.Sheet.the-variants.{Read, Refused as NoSheet}
 use Rattle.setup.specs.Grammar.{sheetOf}
 use Rattle.setup.specs.Answers.{sheetValues}
-use Rattle.setup.proofs.Laws.{both as and-both}
 use Rattle.acceptance.specs.declared.Tally.{Tally}
 use Rattle.acceptance.specs.declared.Verdict.the-variants.{Clean, Broken, Refused}
 use Rattle.acceptance.specs.Report.{shapeOf, cyclesOf, tally, setupOutcome, sheetOutcome, verdictValues, textOf, whole, reportOf, front}
@@ -126,22 +124,12 @@ module _ (u : Setup) (capture : List ℕ) (room : ℕ) (o : Octets capture) wher
 
 -- ---- at examples: P1, a take with a reserved lane, the longest text
 
-abbrev small : List ℕ → Bool
-small [] = true
-small (x ∷ xs) = ltb x 256 && small xs
-
-small-octets : (xs : List ℕ) → small xs ≡ true → Octets xs
-small-octets [] e = tt
-small-octets (x ∷ xs) e =
-    let p : (ltb x 256 ≡ true) × (small xs ≡ true) = and-both (ltb x 256) (small xs) e in
-    (ltb-true x 256 (p .0), small-octets xs (p .1))
-
 abbrev p1 : Setup
 p1 = record { «width_in» = 4; «width_out» = 2; mode = Pack; tlast = Wired }
 
 pub p1-tallied : CleanTally p1 p1Take 18 p1Result (tally 1 1 2)
 unfolding size judgeAnswer repackAnswer
-p1-tallied = cleanTallies p1 p1Take 18 (tally 1 1 2) (small-octets p1Take refl) refl
+p1-tallied = cleanTallies p1 p1Take 18 (tally 1 1 2) (octets-tested p1Take .1 refl) refl
 
 -- one octet short
 pub p1-unwritten : (out : List ℕ) → front (reportOf p1Sheet (some p1Take) 17 .result) out ≡ out
@@ -150,7 +138,7 @@ p1-unwritten = onlyWhenClean p1Sheet (some p1Take) 17 refl .kept
 
 pub p1-room : (_≢_ {A = ℕ} 5 4) × (_≢_ {A = ℕ} 5 14)
 unfolding reportOf sheetOf size judgeAnswer repackAnswer
-p1-room = neverReservedNorUnclean p1Sheet (some p1Take) 17 Room (small-octets p1Take refl) refl
+p1-room = neverReservedNorUnclean p1Sheet (some p1Take) 17 Room (octets-tested p1Take .1 refl) refl
 
 -- the same, of a broken take
 abbrev narrow : Option (List ℕ)

@@ -1,6 +1,6 @@
-// A record's octets in code: its size, its header's fields, the faults of a width, a length and a record. The definitions
-// know them in stream's Layout alone. The loops of the crates above know places too (octet 0, data from octet 7 on), each
-// proved against Layout. Functions with a `requires` are for those crates, which make the test first.
+// A record's octets in code: its size, its header's fields, the faults of a width, a length and a record. What each octet is
+// stands in stream's Layout; the words and masks in specs/ here, and the loops of the crates above, which know places too
+// (octet 0, data from octet 7 on), are proved against it. Functions with a `requires` are for those crates, which test first.
 mod lookup;
 mod masks;
 mod usual;

@@ -1,9 +1,9 @@
 // The report program of paper 01. It reads setup.txt and take.bin in the folder it is run in, writes out.bin where the verdict
 // is clean, and prints the report. Nothing is decided here: verdict, text and result are `acceptance::report`'s, and what a
 // sheet says is in the crate setup. How files are read and written is in files.
-// Proved is that the report is on what `files::read_file` handed over, with room for 65,536 octets; that `files::save` is handed
-// its result, whole, and only where it is clean; and that `files::print` is handed its text, whole. Only code and tests/report
-// show which files are read, how long their buffers are, and that a clean result is saved at all, and before the text.
+// Proved is that `report_on` reports on all that it is handed, that what `files::save` is handed is the whole result of a clean
+// report with this verdict, and what `files::print` is handed the verdict's whole text. Only code and tests/report show that
+// `main` reads those two files into cleared buffers and hands that on, and that a clean result is saved, then the text printed.
 mod files;
 
 use acceptance::Summary;

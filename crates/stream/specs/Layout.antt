@@ -1,5 +1,5 @@
--- The octets of a record (paper 01, 'One record of a take'; Arm IHI 0051A 2.1, 2.4): the only place that knows which
--- octet or bit is what. Everything else goes through the names below, or through transfers and items.
+-- The octets of a record (paper 01, 'One record of a take'; Arm IHI 0051A 2.1, 2.4): which octet or bit is
+-- what. Everything else in specs/ goes through the names below, or through transfers and items; Handshake rewrites octet 0.
 use mathlib.Core.Bool.{Bool, true, false, _||_}
 use mathlib.Core.List.{List, [], _∷_, _++_, map}
 use mathlib.Core.Option.{Option, none, some}

@@ -1,5 +1,5 @@
--- What the premises of the promises let in: a promise says nothing where a premise never holds. Each premise has a test
--- that computes and says the same both ways, and a table of the test, typed by hand. The proofs are in proofs/Tables;
+-- What the premises of the promises let in: a promise says nothing where a premise never holds. There is a table, typed by
+-- hand, of the premise or of a test that computes and says the same both ways. The proofs are in proofs/Tables;
 -- examples that meet all premises of a promise are in Witnesses.
 use mathlib.Core.Path.{_≡_}
 use mathlib.Core.Bool.{Bool, true, false, _&&_}
