@@ -65,8 +65,9 @@ fn at_end(fd: i32) -> bool {
     libc::read(fd, &mut spare) == 0
 }
 
-// Writes out.bin whole and answers true once it is on the disk. Where that fails, answers false: an out.bin that was there
-// stays as it was (unless only the folder's flush failed), no side file stays, and one line on standard error says what to do.
+// Writes out.bin whole, flushes it, and its folder where that has a flush, and answers true. Where that fails, answers false:
+// an out.bin that was there stays as it was (unless only the folder's flush failed), no side file stays, and one line on
+// standard error says what to do.
 pub fn save(told: Summary, octets: &[u8]) -> bool
     requires { ⌜ Saves told (now octets) ⌝ }
 {
