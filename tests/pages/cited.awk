@@ -2,7 +2,7 @@
 # the words of '(field `x`)' or '(fields `x`, `y` and `z`)' behind a name. A line each: 'KIND + what is there' or
 # 'KIND - what is wrong', KIND being name, call or field.
 # The rule: a name belongs to the crates of its section, which stand in a line '<!-- crate: a b -->' right under the heading;
-# without that line it is `stream`. Just one of them must declare the name, in public. A name that is followed by ' of `c`'
+# without that line it is `stream_spec`. Just one of them must declare the name, in public. A name that is followed by ' of `c`'
 # or ' of the crate `c`' belongs to the crate c alone. In `a::name` a is a crate, or else a module of one of those crates.
 # With -v anywhere=1 any crate will do, and for calls what is not public too.
 FILENAME == ARGV[1] {
@@ -26,7 +26,7 @@ END { look_up() }
 
 function begin(title) {
     place = FILENAME (title == "" ? "" : ", '" title "'")
-    list = anywhere ? crates : "stream"
+    list = anywhere ? crates : "stream_spec"
     text = ""
 }
 

@@ -5,15 +5,15 @@ use mathlib.Core.Path.{_≡_}
 use mathlib.Core.List.{List}
 use Prim.Native.Nat.{ℕ}
 use Rattle.burst_spec.specs.Answers.{Row}
-use Rattle.stream.specs.declared.Shape.{Shape}
-use Rattle.stream.specs.Answers.{Values}
-use Rattle.acceptance.specs.declared.Verdict.{Verdict}
-use Rattle.acceptance.specs.Report.{Whole}
-use Rattle.acceptance.proofs.Once.{both}
+use Rattle.stream_spec.specs.declared.Shape.{Shape}
+use Rattle.stream_spec.specs.Answers.{Values}
+use Rattle.report_call.specs.declared.Verdict.{Verdict}
+use Rattle.report_call.specs.Report.{Whole}
+use Rattle.report_call.proofs.Once.{both}
 use Rattle.capi.specs.declared.BurstAnswer.{BurstAnswer}
 use Rattle.capi.specs.declared.stream_calls.PartAnswer.{PartAnswer}
 use Rattle.capi.specs.declared.stream_calls.StreamAnswer.{StreamAnswer}
-use Rattle.capi.specs.declared.report_call.ReportAnswer.{ReportAnswer}
+use Rattle.capi.specs.declared.report_calls.ReportAnswer.{ReportAnswer}
 use Rattle.capi.specs.Shows.{ShowsRow, ShowsValues, ShowsPart}
 use Rattle.capi.specs.Reports.{ShowsVerdict, ShowsReport}
 

@@ -3,10 +3,10 @@ use mathlib.Core.Path.{_≡_, sym, subst}
 use mathlib.Core.List.{List}
 use Prim.Native.Nat.{ℕ}
 use lib.ListN.{length}
-use Rattle.acceptance.specs.declared.Summary.{Summary}
-use Rattle.acceptance.specs.declared.Verdict.{Verdict}
-use Rattle.acceptance.specs.Report.{Whole, Reported, fitting}
-use Rattle.capi.specs.declared.report_call.ReportAnswer.{ReportAnswer}
+use Rattle.report_call.specs.declared.Summary.{Summary}
+use Rattle.report_call.specs.declared.Verdict.{Verdict}
+use Rattle.report_call.specs.Report.{Whole, Reported, fitting}
+use Rattle.capi.specs.declared.report_calls.ReportAnswer.{ReportAnswer}
 use Rattle.capi.specs.Reports.{ShowsVerdict, ShowsReport}
 
 -- a verdict x that was found to be y shows what y shows

@@ -20,7 +20,7 @@ use Rattle.burst_spec.proofs.Step.{step-in-range}
 use Rattle.burst_spec.specs.declared.Burst.{Burst}
 use Rattle.burst_spec.specs.Answers.{Row}
 use Rattle.capi.specs.declared.BurstAnswer.{BurstAnswer}
-use Rattle.stream.specs.Answers.{Values, values}
+use Rattle.stream_spec.specs.Answers.{Values, values}
 use Rattle.capi.specs.declared.stream_calls.StreamAnswer.{StreamAnswer}
 use Rattle.capi.specs.Shows.{ShowsRow, ShowsValues}
 

@@ -1,5 +1,5 @@
--- The report as C sees it: paper 01's numbers of a report, the verdict first. What the report is of is acceptance's
--- `reportOf`, and a verdict's numbers are acceptance's `verdictValues`; here is only how a number stands for a verdict's word,
+-- The report as C sees it: paper 01's numbers of a report, the verdict first. What the report is of is report_call's
+-- `reportOf`, and a verdict's numbers are report_call's `verdictValues`; here is only how a number stands for a verdict's word,
 -- and for whether a file was read.
 use mathlib.Core.Path.{_≡_}
 use mathlib.Core.Bool.{Bool, not}
@@ -7,9 +7,9 @@ use mathlib.Core.List.{List}
 use Prim.Native.Nat.{ℕ}
 use lib.Dec.{eqb}
 use lib.ListN.{length}
-use Rattle.acceptance.specs.declared.Verdict.{Verdict}
-use Rattle.acceptance.specs.Report.{Word, saysClean, saysBroken, saysRefused, verdictValues, Whole, contents, reportOf, front, fitting}
-use Rattle.capi.specs.declared.report_call.ReportAnswer.{ReportAnswer}
+use Rattle.report_call.specs.declared.Verdict.{Verdict}
+use Rattle.report_call.specs.Report.{Word, saysClean, saysBroken, saysRefused, verdictValues, Whole, contents, reportOf, front, fitting}
+use Rattle.capi.specs.declared.report_calls.ReportAnswer.{ReportAnswer}
 
 -- ---- what C hands over
 

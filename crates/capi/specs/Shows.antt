@@ -4,8 +4,8 @@ use mathlib.Core.List.{List}
 use Prim.Native.Nat.{ℕ}
 use lib.ListN.{length}
 use Rattle.burst_spec.specs.Answers.{Row}
-use Rattle.stream.specs.declared.Shape.{Shape}
-use Rattle.stream.specs.Answers.{Values, lookupValues, dataAnswer, dataStart, dataPart}
+use Rattle.stream_spec.specs.declared.Shape.{Shape}
+use Rattle.stream_spec.specs.Answers.{Values, lookupValues, dataAnswer, dataStart, dataPart}
 use Rattle.capi.specs.declared.stream_calls.PartAnswer.{PartAnswer}
 use Rattle.capi.specs.declared.stream_calls.StreamAnswer.{StreamAnswer}
 use Rattle.capi.specs.declared.BurstAnswer.{BurstAnswer}

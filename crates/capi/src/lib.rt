@@ -4,11 +4,11 @@ use burst_spec::BeatAnswer;
 use burst_spec::Judgement;
 use burst_spec::StepAnswer;
 
-mod report_call;
+mod report_calls;
 mod stream_calls;
 
 use refusal::Refusal;
-pub use report_call::urd_report;
+pub use report_calls::urd_report;
 pub use stream_calls::urd_data_octets;
 pub use stream_calls::urd_downsize;
 pub use stream_calls::urd_fill_in;

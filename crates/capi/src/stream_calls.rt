@@ -1,13 +1,13 @@
 // The stream calls as C functions.
 use refusal::Refusal;
-use stream::Lookup;
-use stream::Shape;
-use stream::Verdict;
-use stream::Written;
+use stream_spec::Lookup;
+use stream_spec::Shape;
+use stream_spec::Verdict;
+use stream_spec::Written;
 ghost use mathlib.Core.Path.{_≡_};
 ghost use lib.ListN.{length};
-ghost use Rattle.stream.specs.Handshake.{baseLevel};
-ghost use Rattle.stream.specs.Answers.{refusalValues, verdictValues, writtenValues, lookupValues, judgeAnswer, harvestAnswer, harvestAfter, fillAnswer, fillAfter, repackAnswer, repackAfter, downsizeAnswer, downsizeAfter};
+ghost use Rattle.stream_spec.specs.Handshake.{baseLevel};
+ghost use Rattle.stream_spec.specs.Answers.{refusalValues, verdictValues, writtenValues, lookupValues, judgeAnswer, harvestAnswer, harvestAfter, fillAnswer, fillAfter, repackAnswer, repackAfter, downsizeAnswer, downsizeAfter};
 ghost use Rattle.capi.specs.Shows.{ShowsValues, ShowsPart, shape};
 
 // What a stream call answers: the refusal's number, or 0; its place, or the broken cycle; the rule; the count of transfers
@@ -62,7 +62,7 @@ fn of_verdict(v: Verdict) -> StreamAnswer
 pub extern "C" fn urd_judge(width: usize, capture: &[u8]) -> StreamAnswer
     ensures { λ a. ⌜ ShowsValues a (verdictValues (judgeAnswer (shape width) (now (capture .entry)))) ⌝ }
 {
-    of_verdict(handshake::judge(Shape { width }, capture))
+    of_verdict(stream_judge::judge(Shape { width }, capture))
 }
 
 // Writes the transfers of a clean take of cycle records into a lent output.
@@ -71,7 +71,7 @@ pub extern "C" fn urd_harvest(width: usize, capture: &[u8], out: &mut [u8]) -> S
     ensures { λ a. ⌜ ShowsValues a (writtenValues (harvestAnswer (shape width) (now (capture .entry)) (length (now (out .entry))))) ⌝ }
     ensures { λ a. ⌜ now (out .exit) ≡ harvestAfter (shape width) (now (capture .entry)) (now (out .entry)) ⌝ }
 {
-    of_written(harvest::harvest(Shape { width }, capture, out))
+    of_written(stream_harvest::harvest(Shape { width }, capture, out))
 }
 
 // Clears TLAST in a lent take.
@@ -80,7 +80,7 @@ pub extern "C" fn urd_fill_in(width: usize, capture: &mut [u8]) -> StreamAnswer
     ensures { λ a. ⌜ ShowsValues a (writtenValues (fillAnswer (shape width) (now (capture .entry)))) ⌝ }
     ensures { λ a. ⌜ now (capture .exit) ≡ fillAfter baseLevel (shape width) (now (capture .entry)) ⌝ }
 {
-    of_written(tlast::fill_in(Shape { width }, capture))
+    of_written(stream_fill_in::fill_in(Shape { width }, capture))
 }
 
 // Repacks a take of transfer records to width v into a lent output.
@@ -89,7 +89,7 @@ pub extern "C" fn urd_repack(width: usize, v: usize, input: &[u8], out: &mut [u8
     ensures { λ a. ⌜ ShowsValues a (writtenValues (repackAnswer (shape width) v (now (input .entry)) (length (now (out .entry))))) ⌝ }
     ensures { λ a. ⌜ now (out .exit) ≡ repackAfter (shape width) v (now (input .entry)) (now (out .entry)) ⌝ }
 {
-    of_written(repack::repack(Shape { width }, v, input, out))
+    of_written(stream_repack::repack(Shape { width }, v, input, out))
 }
 
 // Slices a take of transfer records to width v, lane by lane, into a lent output.
@@ -98,7 +98,7 @@ pub extern "C" fn urd_downsize(width: usize, v: usize, input: &[u8], out: &mut [
     ensures { λ a. ⌜ ShowsValues a (writtenValues (downsizeAnswer (shape width) v (now (input .entry)) (length (now (out .entry))))) ⌝ }
     ensures { λ a. ⌜ now (out .exit) ≡ downsizeAfter (shape width) v (now (input .entry)) (now (out .entry)) ⌝ }
 {
-    of_written(downsize::downsize(Shape { width }, v, input, out))
+    of_written(stream_downsize::downsize(Shape { width }, v, input, out))
 }
 
 // Where the data octets of a record stand in a take: the refusal's number, or 0 with their offset and their number.
@@ -127,10 +127,10 @@ pub extern "C" fn urd_data_octets(width: usize, capture: &[u8], k: usize) -> Par
     ensures { λ a. ⌜ ShowsPart a (shape width) (now (capture .entry)) k ⌝ }
 {
     let s = Shape { width };
-    let octets = record::data_octets(s, capture, k);
+    let octets = stream_record::data_octets(s, capture, k);
     PartAnswer {
-        refusal: number_of(record::find_data(s, capture, k)),
-        start: record::data_start(s, capture, k) as u64,
+        refusal: number_of(stream_record::find_data(s, capture, k)),
+        start: stream_record::data_start(s, capture, k) as u64,
         length: octets.len() as u64,
     }
 }

@@ -1,9 +1,9 @@
 -- Every starred case of paper 01 holds, in one statement: by computing. Assumes nothing.
 use mathlib.Core.Path.{_≡_, refl}
 use mathlib.Core.List.{[], _∷_, _++_, map}
-use Rattle.stream.specs.Cases as stream
-use Rattle.stream.specs.Layout.{size}
-use Rattle.stream.specs.Answers.{judgeAnswer, harvestAnswer, harvestAfter, fillAnswer, fillAfter, dataAnswer, dataPart, repackAnswer, repackAfter, downsizeAnswer, downsizeAfter}
+use Rattle.stream_spec.specs.Cases as stream
+use Rattle.stream_spec.specs.Layout.{size}
+use Rattle.stream_spec.specs.Answers.{judgeAnswer, harvestAnswer, harvestAfter, fillAnswer, fillAfter, dataAnswer, dataPart, repackAnswer, repackAfter, downsizeAnswer, downsizeAfter}
 use Rattle.burst_spec.specs.Cases as burst
 use Rattle.burst_spec.specs.Address.{roundDown, incrAddress, wrapAddress, addressBy, incrStep, wrapStep, stepBy}
 use Rattle.burst_spec.specs.Checks.{someBelow, busAllowed, countAllowed, misaligned, crossesBy}

@@ -1,7 +1,7 @@
 -- Paper 01: "Starred ones are proved over the definitions, gathered as entries of a single list that one statement covers."
--- The entries are stream's S1 to S5 and burst_spec's B1 to B4, with inputs and answers typed from the paper there.
+-- The entries are stream_spec's S1 to S5 and burst_spec's B1 to B4, with inputs and answers typed from the paper there.
 use mathlib.Core.List.{List, _++_, map}
-use Rattle.stream.specs.Cases as stream
+use Rattle.stream_spec.specs.Cases as stream
 use Rattle.burst_spec.specs.Cases as burst
 use Rattle.burst_spec.specs.Answers.{Row}
 

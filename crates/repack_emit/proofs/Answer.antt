@@ -7,12 +7,12 @@ use native.Mathlib.Omega.{arith}
 use borrow.Author.Tests.{lt-ltb, le-ltb}
 use lib.ListN.{length, drop}
 use Rattle.refusal.specs.declared.Refusal.the-variants.{Room}
-use Rattle.stream.specs.declared.Shape.{Shape}
-use Rattle.stream.specs.declared.Written.the-variants.{Records, Refused}
-use Rattle.stream.specs.Packed.{packStretches}
-use Rattle.stream.specs.Layout.{size, octets}
-use Rattle.stream.proofs.Records.{length-octets}
-use Rattle.scratch.specs.Codes.{stretchesOf, total}
+use Rattle.stream_spec.specs.declared.Shape.{Shape}
+use Rattle.stream_spec.specs.declared.Written.the-variants.{Records, Refused}
+use Rattle.stream_spec.specs.Packed.{packStretches}
+use Rattle.stream_spec.specs.Layout.{size, octets}
+use Rattle.stream_spec.proofs.Records.{length-octets}
+use Rattle.repack_scratch.specs.Codes.{stretchesOf, total}
 use Rattle.repack_emit.specs.Write.{countOf, Emitted}
 use Rattle.repack_emit.proofs.Memory.{size-is}
 use Rattle.repack_emit.proofs.Stretches.{count-is, wide-stretches}

@@ -7,13 +7,13 @@ use Prim.Native.Nat.{ℕ, suc, _+_, _-_, _*_, _/_, _%_, _≤_, _<_}
 use native.Mathlib.Omega.{arith}
 use lib.ListN.{length, getD, take, drop, length-drop, length-map}
 use lib.Seq.{drop-cons}
-use Rattle.stream.specs.declared.Shape.{Shape}
-use Rattle.stream.specs.Packed.{spread}
-use Rattle.stream.specs.Layout.{size, octetsOf}
-use Rattle.stream.proofs.Pack.{wide-spread, length-spread}
-use Rattle.stream.proofs.Records.{length-octets}
-use Rattle.record.specs.Write.{headerOctets}
-use Rattle.scratch.specs.Codes.{dataCode, keptOf, pairFrom}
+use Rattle.stream_spec.specs.declared.Shape.{Shape}
+use Rattle.stream_spec.specs.Packed.{spread}
+use Rattle.stream_spec.specs.Layout.{size, octetsOf}
+use Rattle.stream_spec.proofs.Pack.{wide-spread, length-spread}
+use Rattle.stream_spec.proofs.Records.{length-octets}
+use Rattle.stream_record.specs.Write.{headerOctets}
+use Rattle.repack_scratch.specs.Codes.{dataCode, keptOf, pairFrom}
 use Rattle.repack_emit.specs.declared.plain.Cursor.{Cursor}
 use Rattle.repack_emit.specs.Write.{recordOf, stretchOctets, Writes, Fitting, Advanced}
 use Rattle.repack_emit.proofs.Lanes.{data-octet, data-strobe}

@@ -11,12 +11,12 @@ use lib.Dec.{eqb}
 use lib.Pow.{pow-pos, pow-mono}
 use lib.ListN.{length, getD, take, drop, replicate, length-map}
 use lib.Seq.{slice, slice-cons, length-slice}
-use Rattle.stream.specs.Packed.{fitted}
-use Rattle.stream.specs.Layout.{bitOf, maskOf, Kept, octet, position, keepBit, strbBit, laneOctet}
-use Rattle.stream.proofs.Legal.{mask-fits}
+use Rattle.stream_spec.specs.Packed.{fitted}
+use Rattle.stream_spec.specs.Layout.{bitOf, maskOf, Kept, octet, position, keepBit, strbBit, laneOctet}
+use Rattle.stream_spec.proofs.Legal.{mask-fits}
 use Rattle.words.specs.Words.{front}
-use Rattle.scratch.specs.Codes.{dataCode, heldCode, heldCodes, keptOf}
-use Rattle.scratch.proofs.Held.{length-held}
+use Rattle.repack_scratch.specs.Codes.{dataCode, heldCode, heldCodes, keptOf}
+use Rattle.repack_scratch.proofs.Held.{length-held}
 use Rattle.repack_emit.specs.Write.{itemOctet, itemStrobe}
 
 -- ---- an item

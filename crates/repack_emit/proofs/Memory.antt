@@ -7,10 +7,10 @@ use lib.ListN.{length, getD, take, drop, replicate, length-append, length-drop, 
 use lib.Seq.{take-all, take-at, drop-at, drop-drop, drop-append-add, length-take-le}
 use Rattle.words.specs.Words.{front, placed as placedAt}
 use Rattle.words.proofs.Words.{length-front}
-use Rattle.stream.specs.declared.Shape.{Shape}
-use Rattle.stream.specs.Layout.{size, odd, bitOf, maskOf, octetsOf}
-use Rattle.record.specs.Write.{headerOctets}
-use Rattle.scratch.specs.Codes.{dataCode, pairFrom}
+use Rattle.stream_spec.specs.declared.Shape.{Shape}
+use Rattle.stream_spec.specs.Layout.{size, odd, bitOf, maskOf, octetsOf}
+use Rattle.stream_record.specs.Write.{headerOctets}
+use Rattle.repack_scratch.specs.Codes.{dataCode, pairFrom}
 use Rattle.repack_emit.specs.Write.{itemOctet, itemStrobe, recordOf, Writes}
 use Rattle.repack_emit.proofs.Lanes.{lanes-octets, lanes-strb, lanes-keep, data-octets, data-strb}
 

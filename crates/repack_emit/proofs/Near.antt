@@ -8,9 +8,9 @@ use lib.Pow.{pow-pos}
 use lib.ListN.{length, getD, take, drop, length-drop}
 use lib.Seq.{getD-drop}
 use Rattle.words.specs.Words.{wordAt}
-use Rattle.scratch.specs.Codes.{dataCode, heldCodes, markBits}
-use Rattle.scratch.proofs.Held.{length-held, drop-held}
-use Rattle.scratch.proofs.Marks.{length-marks, mark-at}
+use Rattle.repack_scratch.specs.Codes.{dataCode, heldCodes, markBits}
+use Rattle.repack_scratch.proofs.Held.{length-held, drop-held}
+use Rattle.repack_scratch.proofs.Marks.{length-marks, mark-at}
 
 -- ---- how many there are
 

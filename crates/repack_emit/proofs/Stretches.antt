@@ -11,13 +11,13 @@ use native.Mathlib.Numerals.{add-one}
 use native.Mathlib.Omega.{arith}
 use lib.ListN.{length, getD, take, drop, length-append, length-drop, length-map, take-append-drop, drop-of-length-le, set}
 use lib.Seq.{take-all, take-take, take-nil, drop-drop, drop-cons, length-take-le, getD-set-same, getD-set-other}
-use Rattle.stream.specs.declared.Shape.{Shape}
-use Rattle.stream.specs.Items.{Pair}
-use Rattle.stream.specs.Packed.{Stretch, fitted, packStretch, packStretches}
-use Rattle.stream.specs.Layout.{size, odd, Kept, octetsOf, octets}
-use Rattle.stream.proofs.Pack.{Wide, wide-append, wide-spread, length-fitted, length-spread}
-use Rattle.stream.proofs.Records.{octets-sized, octets-append}
-use Rattle.scratch.specs.Codes.{keptOf, pairFrom, entryCount, stretchOf, stretchesOf, total}
+use Rattle.stream_spec.specs.declared.Shape.{Shape}
+use Rattle.stream_spec.specs.Items.{Pair}
+use Rattle.stream_spec.specs.Packed.{Stretch, fitted, packStretch, packStretches}
+use Rattle.stream_spec.specs.Layout.{size, odd, Kept, octetsOf, octets}
+use Rattle.stream_spec.proofs.Pack.{Wide, wide-append, wide-spread, length-fitted, length-spread}
+use Rattle.stream_spec.proofs.Records.{octets-sized, octets-append}
+use Rattle.repack_scratch.specs.Codes.{keptOf, pairFrom, entryCount, stretchOf, stretchesOf, total}
 use Rattle.repack_emit.specs.Write.{recordOf, stretchOctets, countOf, Writing, Writes, Counts}
 
 -- ---- lists

@@ -5,13 +5,14 @@ use mathlib.Core.List.{List, [], _∷_, _++_, map}
 use mathlib.Core.Option.{some}
 use Prim.Native.Nat.{ℕ, _+_, _-_, _/_, _≤_, _<_}
 use lib.ListN.{length, getD, take, drop}
-use Rattle.stream.specs.declared.Written.{Written}
-use Rattle.stream.specs.Items.{Pair, Transfer}
-use Rattle.stream.specs.Packed.{fitted, spread, packStretches}
-use Rattle.stream.specs.Layout.{Kept, strbBit, laneOctet, octets}
-use Rattle.stream.specs.Checks.{first, roomCheck}
-use Rattle.stream.specs.Answers.{written, lentAfter}
-use Rattle.scratch.specs.Codes.{Unmarked, dataCode, keptOf, pairFrom, entryCount, stretchesOf}
+use Rattle.stream_spec.specs.declared.Written.{Written}
+use Rattle.stream_spec.specs.Items.{Pair, Transfer}
+use Rattle.stream_spec.specs.Packed.{fitted, spread, packStretches}
+use Rattle.stream_spec.specs.Layout.{Kept, strbBit, laneOctet, octets}
+use Rattle.refusal.specs.Checks.{first}
+use Rattle.stream_spec.specs.Checks.{roomCheck}
+use Rattle.stream_spec.specs.Answers.{written, lentAfter}
+use Rattle.repack_scratch.specs.Codes.{Unmarked, dataCode, keptOf, pairFrom, entryCount, stretchesOf}
 use Rattle.repack_emit.specs.declared.plain.Cursor.{Cursor}
 
 -- the data octet and the strobe of an item

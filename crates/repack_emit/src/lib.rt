@@ -5,14 +5,14 @@ mod marked;
 mod plain;
 
 use refusal::Refusal;
-use stream::Shape;
-use stream::Written;
+use stream_spec::Shape;
+use stream_spec::Written;
 ghost use mathlib.Core.Path.{_≡_};
 ghost use mathlib.Core.List.{_++_};
 ghost use Prim.Native.Nat.{_+_, _*_, _-_, _/_, _≤_, _<_};
 ghost use lib.ListN.{length, take, drop};
-ghost use Rattle.stream.specs.Layout.{odd};
-ghost use Rattle.scratch.specs.Codes.{heldCodes, markBits, pairFrom, entryCount, total};
+ghost use Rattle.stream_spec.specs.Layout.{odd};
+ghost use Rattle.repack_scratch.specs.Codes.{heldCodes, markBits, pairFrom, entryCount, total};
 ghost use Rattle.repack_emit.specs.Write.{Held, stretchOctets, packedFrom, Counts, countOf, Writes, Emitted};
 
 // The records of a stretch of n items.
@@ -104,7 +104,7 @@ fn put_all(out: &mut [u8], octets: &[u8], marks: &[u8], plain: bool, table: &[u3
 }
 
 // The packed form of the table's stretches, where the output has room for it. Answers the number of its records. A helper
-// for the crate repack, which has read the take: the items and their marks stand in `octets` and `marks`.
+// for the crate stream_repack, which has read the take: the items and their marks stand in `octets` and `marks`.
 pub fn emit(
     out: &mut [u8],
     octets: &[u8],
@@ -117,7 +117,7 @@ pub fn emit(
     ensures { λ r. ⌜ Emitted (t .width) (heldCodes (now (octets .entry)) (markBits (now (marks .entry)))) (now (table .entry)) (now (out .entry)) (now (out .exit)) r ⌝ }
 {
     let n = count(table, t.width as u32);
-    if out.len() < n * record::record_size(t) {
+    if out.len() < n * stream_record::record_size(t) {
         return Written::Refused(Refusal::Room);
     }
     put_all(out, octets, marks, plain, table, t);

@@ -1,13 +1,13 @@
 // Stretches of a take with position items: a record near which no mark stands is written as one of data, any other lane by
 // lane.
-use stream::Shape;
+use stream_spec::Shape;
 ghost use mathlib.Core.Path.{_≡_};
 ghost use mathlib.Core.Bool.{true};
 ghost use mathlib.Core.List.{_++_, map};
 ghost use Prim.Native.Nat.{ℕ, _+_, _*_, _-_, _/_, _≤_, _<_};
 ghost use lib.ListN.{length, getD, take, drop};
-ghost use Rattle.stream.specs.Layout.{size, odd, maskOf, octetsOf};
-ghost use Rattle.scratch.specs.Codes.{heldCodes, markBits, pairFrom, entryCount};
+ghost use Rattle.stream_spec.specs.Layout.{size, odd, maskOf, octetsOf};
+ghost use Rattle.repack_scratch.specs.Codes.{heldCodes, markBits, pairFrom, entryCount};
 ghost use Rattle.repack_emit.specs.Write.{itemOctet, itemStrobe, recordOf, stretchOctets, Writes};
 
 // The mark of item i.
@@ -67,8 +67,8 @@ fn put_lanes(
     ensures { λ _. ⌜ now (out .exit) ≡ octetsOf (recordOf (t .width) (pairFrom pair) (take n (drop from (heldCodes (now (octets .entry)) (markBits (now (marks .entry)))))) (odd last)) ++ drop (size t) (now (out .entry)) ⌝ }
 {
     let strb = put_items(out, octets, marks, from, n);
-    record::write::write_nulls(out, n, t.width);
-    record::write::write_header(
+    stream_record::write::write_nulls(out, n, t.width);
+    stream_record::write::write_header(
         out,
         (last % 256) as u8,
         (pair % 256) as u8,
@@ -93,7 +93,7 @@ fn put_record(
     ensures { λ _. ⌜ now (out .exit) ≡ octetsOf (recordOf (t .width) (pairFrom pair) (take n (drop from (heldCodes (now (octets .entry)) (markBits (now (marks .entry)))))) (odd last)) ++ drop (size t) (now (out .entry)) ⌝ }
 {
     if unmarked_near(marks, from) {
-        record::write::write_data_header(out, last, pair, n);
+        stream_record::write::write_data_header(out, last, pair, n);
         words::place(out, 7, &octets[from..], n, t.width);
         return;
     }
@@ -116,7 +116,7 @@ fn put_at(
     ensures { λ r. ⌜ (r ≡ to + size t) × (length (now (out .exit)) ≡ length (now (out .entry))) × Writes (octetsOf (recordOf (t .width) (pairFrom pair) (take n (drop from (heldCodes (now (octets .entry)) (markBits (now (marks .entry)))))) (odd last))) (now (out .entry)) to (now (out .exit)) r ⌝ }
 {
     put_record(&mut out[to..], octets, marks, from, n, t, pair, last);
-    to + record::record_size(t)
+    to + stream_record::record_size(t)
 }
 
 // The records of the stretch whose items begin at item `start`, from place `at` on. Answers the place after them.

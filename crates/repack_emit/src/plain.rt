@@ -1,12 +1,12 @@
 // Stretches of a take in which every item is data: all records but the last are full and go in a tight loop, that of one
 // lane in a loop of its own; then comes the last one.
-use stream::Shape;
+use stream_spec::Shape;
 ghost use mathlib.Core.Path.{_≡_};
 ghost use mathlib.Core.List.{_++_, map};
 ghost use Prim.Native.Nat.{_+_, _/_, _≤_, _<_};
 ghost use lib.ListN.{length, take, drop};
-ghost use Rattle.stream.specs.Layout.{size, odd, octetsOf};
-ghost use Rattle.scratch.specs.Codes.{dataCode, pairFrom, entryCount};
+ghost use Rattle.stream_spec.specs.Layout.{size, odd, octetsOf};
+ghost use Rattle.repack_scratch.specs.Codes.{dataCode, pairFrom, entryCount};
 ghost use Rattle.repack_emit.specs.Write.{recordOf, stretchOctets, Writes, Fitting, Advanced};
 
 // How far a stretch is written: up to octet `to` of the output; `left` items, from item `from` on, are not written yet.
@@ -22,7 +22,7 @@ fn put_plain(out: &mut [u8], octets: &[u8], n: usize, t: Shape, pair: u32, last:
     requires { ⌜ (n ≤ t .width) × (1 ≤ t .width) × (t .width ≤ 16) × (t .width ≤ length (now octets)) × (size t ≤ length (now out)) × (pair < 65536) × (last ≤ 1) ⌝ }
     ensures { λ _. ⌜ now (out .exit) ≡ octetsOf (recordOf (t .width) (pairFrom pair) (take n (map dataCode (now (octets .entry)))) (odd last)) ++ drop (size t) (now (out .entry)) ⌝ }
 {
-    record::write::write_data_header(out, last, pair, n);
+    stream_record::write::write_data_header(out, last, pair, n);
     words::place(out, 7, octets, n, t.width);
 }
 
@@ -35,7 +35,7 @@ fn put_ones(out: &mut [u8], octets: &[u8], c: Cursor, pair: u32) -> Cursor
     let mut from = c.from;
     let mut left = c.left;
     while 1 < left {
-        record::write::write_one(&mut out[to..], pair, octets[from]);
+        stream_record::write::write_one(&mut out[to..], pair, octets[from]);
         to += 8;
         from += 1;
         left -= 1;
@@ -58,7 +58,7 @@ fn put_fulls(out: &mut [u8], octets: &[u8], c: Cursor, t: Shape, pair: u32) -> C
     let mut left = c.left;
     while v < left {
         put_plain(&mut out[to..], &octets[from..], v, t, pair, 0);
-        to += record::record_size(t);
+        to += stream_record::record_size(t);
         from += v;
         left -= v;
     }
@@ -113,5 +113,5 @@ pub fn put_stretch(
         e / 131072,
         e / 65536 % 2,
     );
-    to + record::record_size(t)
+    to + stream_record::record_size(t)
 }

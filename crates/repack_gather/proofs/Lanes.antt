@@ -11,11 +11,11 @@ use borrow.Author.Tests.{eqb-true, eqb-false}
 use lib.Pow.{pow-pos, mod-pow-add, shr-shr}
 use lib.ListN.{length-drop, length, getD, take, drop, set, length-append, length-set}
 use lib.Seq.{take-all, take-suc-set, take-set-le, getD-drop, drop-drop, length-take-le, take-append-add, take-append-le}
-use Rattle.stream.specs.Layout.{odd}
+use Rattle.stream_spec.specs.Layout.{odd}
 use Rattle.words.specs.Words.{front, placed}
 use Rattle.words.proofs.Words.{length-front, take-front, length-placed}
-use Rattle.scratch.specs.Codes.{dataCode, heldCodes, sifted}
-use Rattle.scratch.proofs.Held.{length-held, held-more}
+use Rattle.repack_scratch.specs.Codes.{dataCode, heldCodes, sifted}
+use Rattle.repack_scratch.proofs.Held.{length-held, held-more}
 use Rattle.repack_gather.specs.Gather.{keptOctet, keptOctets, Collected, Gathered, Clear}
 
 -- ---- one lane

@@ -12,9 +12,9 @@ use lib.Dec.{eqb}
 use lib.Pow.{pow-lt}
 use lib.ListN.{length, getD, take, drop, set, length-set}
 use lib.Seq.{take-suc-set, take-set-le, getD-drop, drop-drop, getD-set-same, getD-set-other}
-use Rattle.stream.specs.Layout.{odd}
-use Rattle.scratch.specs.Codes.{itemCode, heldCode, heldCodes, sifted}
-use Rattle.scratch.proofs.Held.{length-held, held-set}
+use Rattle.stream_spec.specs.Layout.{odd}
+use Rattle.repack_scratch.specs.Codes.{itemCode, heldCode, heldCodes, sifted}
+use Rattle.repack_scratch.proofs.Held.{length-held, held-set}
 use Rattle.repack_gather.specs.Gather.{Clear, Marks}
 
 -- ---- a lane's mark

@@ -5,8 +5,8 @@ use mathlib.Core.Bool.{cond}
 use mathlib.Core.List.{List, [], _∷_, _++_}
 use Prim.Native.Nat.{ℕ, zero, suc, _+_, _/_, _≤_}
 use lib.ListN.{length, getD, take, drop}
-use Rattle.stream.specs.Layout.{odd}
-use Rattle.scratch.specs.Codes.{sifted, heldCodes}
+use Rattle.stream_spec.specs.Layout.{odd}
+use Rattle.repack_scratch.specs.Codes.{sifted, heldCodes}
 
 -- the octet of a lane, if TKEEP's lowest bit keeps it
 abbrev pub keptOctet : ℕ → ℕ → List ℕ

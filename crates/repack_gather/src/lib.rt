@@ -8,7 +8,7 @@ ghost use mathlib.Core.Path.{_≡_};
 ghost use mathlib.Core.List.{[], _∷_};
 ghost use Prim.Native.Nat.{_+_, _-_, _*_, _/_, _%_, _^_, _≤_, _<_};
 ghost use lib.ListN.{length, getD, drop, set};
-ghost use Rattle.scratch.specs.Codes.{markBits};
+ghost use Rattle.repack_scratch.specs.Codes.{markBits};
 ghost use Rattle.repack_gather.specs.Gather.{Collected, Clear, Marks};
 ghost use Rattle.repack_gather.specs.Sieve.{sieveRows};
 

@@ -8,14 +8,15 @@ use native.Mathlib.Omega.{arith}
 use borrow.Author.Tests.{leb-false, ltb-false, lt-leb, le-ltb}
 use lib.Dec.{leb, ltb}
 use Rattle.refusal.specs.declared.Refusal.the-variants.{Field as FieldAt, Reserved as ReservedAt}
-use Rattle.stream.specs.declared.Shape.{Shape}
-use Rattle.stream.specs.Layout.{odd, laneType, typesOf, isReserved, anyReserved, tkeep, tstrb}
-use Rattle.stream.specs.Checks.{first, transferFlags, transferChecks, fieldFault, reservedFault}
-use Rattle.stream.proofs.Bools.{neither}
-use Rattle.record.specs.declared.Header.{Header}
-use Rattle.record.specs.declared.Fault.{Fault}
-use Rattle.record.specs.declared.Fault.the-variants.{Sound, Field, Reserved}
-use Rattle.record.specs.Header.{headerOf, headerFault}
+use Rattle.stream_spec.specs.declared.Shape.{Shape}
+use Rattle.stream_spec.specs.Layout.{odd, laneType, typesOf, isReserved, anyReserved, tkeep, tstrb}
+use Rattle.refusal.specs.Checks.{first}
+use Rattle.stream_spec.specs.Checks.{transferFlags, transferChecks, fieldFault, reservedFault}
+use Rattle.stream_spec.proofs.Bools.{neither}
+use Rattle.stream_record.specs.declared.Header.{Header}
+use Rattle.stream_record.specs.declared.Fault.{Fault}
+use Rattle.stream_record.specs.declared.Fault.the-variants.{Sound, Field, Reserved}
+use Rattle.stream_record.specs.Header.{headerOf, headerFault}
 use Rattle.repack_parse.specs.Read.{judged}
 
 -- what a header without a field fault has

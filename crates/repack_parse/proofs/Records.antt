@@ -9,21 +9,21 @@ use borrow.Author.Tests.{eqb-false}
 use lib.Dec.{eqb}
 use lib.ListN.{length, getD, take, drop, length-append, length-drop, length-map}
 use lib.Seq.{length-take-le}
-use Rattle.stream.specs.declared.Shape.{Shape}
-use Rattle.stream.specs.Items.{Pair, Item, byte, end, itemPair, itemsOf, kept, transferItems}
-use Rattle.stream.specs.Packed.{Stretch}
-use Rattle.stream.specs.Layout.{size, flags, pairOf, tkeep, tstrb, tlast, dataOctets, laneTypes, lanesOf, Kept, transferOf}
-use Rattle.stream.specs.Legal.{Octets}
-use Rattle.stream.proofs.Legal.{octets-take, octets-drop, octet-at}
-use Rattle.stream.specs.Checks.{transferFlags}
-use Rattle.record.specs.declared.Header.{Header}
-use Rattle.record.specs.Header.{headerOf, headerFault}
-use Rattle.scratch.specs.declared.Open.{Open}
-use Rattle.scratch.specs.Codes.{heldCodes, keptOf, sifted, pairCode, pairFrom}
-use Rattle.scratch.specs.Stands.{keptAt, Stands}
-use Rattle.scratch.proofs.Codes.{sifted-kept}
-use Rattle.scratch.proofs.Held.{length-held}
-use Rattle.scratch.proofs.Stands.{gather-stands}
+use Rattle.stream_spec.specs.declared.Shape.{Shape}
+use Rattle.stream_spec.specs.Items.{Pair, Item, byte, end, itemPair, itemsOf, kept, transferItems}
+use Rattle.stream_spec.specs.Packed.{Stretch}
+use Rattle.stream_spec.specs.Layout.{size, flags, pairOf, tkeep, tstrb, tlast, dataOctets, laneTypes, lanesOf, Kept, transferOf}
+use Rattle.stream_spec.specs.Legal.{Octets}
+use Rattle.stream_spec.proofs.Legal.{octets-take, octets-drop, octet-at}
+use Rattle.stream_spec.specs.Checks.{transferFlags}
+use Rattle.stream_record.specs.declared.Header.{Header}
+use Rattle.stream_record.specs.Header.{headerOf, headerFault}
+use Rattle.repack_scratch.specs.declared.Open.{Open}
+use Rattle.repack_scratch.specs.Codes.{heldCodes, keptOf, sifted, pairCode, pairFrom}
+use Rattle.repack_scratch.specs.Stands.{keptAt, Stands}
+use Rattle.repack_scratch.proofs.Codes.{sifted-kept}
+use Rattle.repack_scratch.proofs.Held.{length-held}
+use Rattle.repack_scratch.proofs.Stands.{gather-stands}
 use Rattle.repack_gather.specs.Gather.{Collected, Gathered, Clear, Marks}
 use Rattle.repack_gather.proofs.Lanes.{collected-codes}
 use Rattle.repack_parse.specs.Read.{Few, Turned, Ended, Added, AddedData, AddedMarked, Ready}

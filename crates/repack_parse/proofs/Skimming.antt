@@ -9,18 +9,19 @@ use native.Mathlib.Nat.{add-zero}
 use lib.Pow.{pow-pos}
 use lib.ListN.{length, getD, take, drop, replicate, length-drop, length-replicate}
 use lib.Seq.{getD-drop, getD-take, drop-drop, drop-at, take-add, take-take, length-take-le}
-use Rattle.stream.specs.declared.Shape.{Shape}
-use Rattle.stream.specs.Layout.{size, dataOctets, flags}
-use Rattle.stream.specs.Legal.{Octets}
-use Rattle.stream.proofs.Legal.{octets-take, octets-drop}
-use Rattle.stream.specs.Checks.{first, transferChecks}
+use Rattle.stream_spec.specs.declared.Shape.{Shape}
+use Rattle.stream_spec.specs.Layout.{size, dataOctets, flags}
+use Rattle.stream_spec.specs.Legal.{Octets}
+use Rattle.stream_spec.proofs.Legal.{octets-take, octets-drop}
+use Rattle.refusal.specs.Checks.{first}
+use Rattle.stream_spec.specs.Checks.{transferChecks}
 use Rattle.words.specs.Words.{wordAt}
-use Rattle.record.specs.Header.{headerOf}
-use Rattle.record.specs.Usual.{Usual, UsualWords}
-use Rattle.scratch.specs.declared.Open.{Open}
-use Rattle.scratch.specs.Codes.{heldCodes}
-use Rattle.scratch.proofs.Held.{unmarked-at}
-use Rattle.scratch.specs.Stands.{keptAt}
+use Rattle.stream_record.specs.Header.{headerOf}
+use Rattle.stream_record.specs.Usual.{Usual, UsualWords}
+use Rattle.repack_scratch.specs.declared.Open.{Open}
+use Rattle.repack_scratch.specs.Codes.{heldCodes}
+use Rattle.repack_scratch.proofs.Held.{unmarked-at}
+use Rattle.repack_scratch.specs.Stands.{keptAt}
 use Rattle.repack_gather.specs.Gather.{keptOctet, keptOctets, Collected, Clear}
 use Rattle.repack_parse.specs.Read.{Ready, Ended, AddedData}
 use Rattle.repack_parse.specs.Reading.{UsualAt, Reading, Skimmed}

@@ -6,15 +6,15 @@ use native.Mathlib.Numerals.{add-one}
 use native.Mathlib.Omega.{arith}
 use lib.ListN.{length, take, drop, set, length-set, length-drop, length-take, length-map, take-append-drop}
 use lib.Seq.{take-suc-set}
-use Rattle.stream.specs.Items.{Item, byte, end}
-use Rattle.stream.specs.Packed.{Stretch, cut}
-use Rattle.stream.specs.Layout.{odd, Kept}
-use Rattle.stream.proofs.Cut.{cut-ended}
-use Rattle.scratch.specs.declared.Open.{Open}
-use Rattle.scratch.specs.Codes.{keptOf, pairFrom, entryOf, stretchesOf, total}
-use Rattle.scratch.specs.Stands.{closedAt, pairedAt, Stands}
-use Rattle.scratch.proofs.Codes.{stretches-more}
-use Rattle.scratch.proofs.Stands.{opened, made, close-stands, turn-stands, all-closed, pairs-differ, cut-apart, cut-last}
+use Rattle.stream_spec.specs.Items.{Item, byte, end}
+use Rattle.stream_spec.specs.Packed.{Stretch, cut}
+use Rattle.stream_spec.specs.Layout.{odd, Kept}
+use Rattle.stream_spec.proofs.Cut.{cut-ended}
+use Rattle.repack_scratch.specs.declared.Open.{Open}
+use Rattle.repack_scratch.specs.Codes.{keptOf, pairFrom, entryOf, stretchesOf, total}
+use Rattle.repack_scratch.specs.Stands.{closedAt, pairedAt, Stands}
+use Rattle.repack_scratch.proofs.Codes.{stretches-more}
+use Rattle.repack_scratch.proofs.Stands.{opened, made, close-stands, turn-stands, all-closed, pairs-differ, cut-apart, cut-last}
 use Rattle.repack_parse.specs.Read.{Turned, Ended, Finished}
 
 -- ---- closing

@@ -12,19 +12,20 @@ use lib.Dec.{leb}
 use lib.ListN.{length, take, drop, length-drop, drop-of-length-le}
 use lib.Seq.{drop-drop, length-take-le}
 use Rattle.refusal.specs.declared.Refusal.{Refusal}
-use Rattle.stream.specs.declared.Shape.{Shape}
-use Rattle.stream.specs.Items.{items, transferItems}
-use Rattle.stream.specs.Packed.{cut}
-use Rattle.stream.specs.Layout.{size, transferOf, recordCount, records, streamItems}
+use Rattle.stream_spec.specs.declared.Shape.{Shape}
+use Rattle.stream_spec.specs.Items.{items, transferItems}
+use Rattle.stream_spec.specs.Packed.{cut}
+use Rattle.stream_spec.specs.Layout.{size, transferOf, recordCount, records, streamItems}
 use Rattle.refusal.specs.declared.Refusal.the-variants.{Field, Reserved}
-use Rattle.stream.specs.Checks.{first, transferFlags, fieldFault, reservedFault, transferChecks}
-use Rattle.stream.proofs.Records.{size-pos}
-use Rattle.stream.proofs.Bools.{no-such}
-use Rattle.scratch.specs.declared.Open.{Open}
-use Rattle.scratch.specs.Codes.{heldCodes, Unmarked, markBits, total}
-use Rattle.scratch.specs.Stands.{Stands}
-use Rattle.scratch.proofs.Held.{unmarked-at}
-use Rattle.scratch.proofs.Marks.{length-marks}
+use Rattle.refusal.specs.Checks.{first}
+use Rattle.stream_spec.specs.Checks.{transferFlags, fieldFault, reservedFault, transferChecks}
+use Rattle.stream_spec.proofs.Records.{size-pos}
+use Rattle.stream_spec.proofs.Bools.{no-such}
+use Rattle.repack_scratch.specs.declared.Open.{Open}
+use Rattle.repack_scratch.specs.Codes.{heldCodes, Unmarked, markBits, total}
+use Rattle.repack_scratch.specs.Stands.{Stands}
+use Rattle.repack_scratch.proofs.Held.{unmarked-at}
+use Rattle.repack_scratch.proofs.Marks.{length-marks}
 use Rattle.repack_gather.specs.Gather.{Clear}
 use Rattle.repack_parse.specs.Read.{Added, Ready, Sounds, Finished, Taken}
 use Rattle.repack_parse.specs.Reading.{Reading, Holding}

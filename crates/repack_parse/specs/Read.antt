@@ -5,18 +5,19 @@ use mathlib.Core.List.{List, [], _∷_, _++_}
 use mathlib.Core.Option.{none, some}
 use Prim.Native.Nat.{ℕ, _+_, _*_, _≤_, _<_}
 use lib.ListN.{length, take}
-use Rattle.stream.specs.declared.Shape.{Shape}
-use Rattle.stream.specs.Items.{Item, end, itemPair, transferItems}
-use Rattle.stream.specs.Packed.{Stretch, cut}
-use Rattle.stream.specs.Layout.{bit, typesOf, anyReserved, Kept, transferOf, records, streamItems}
-use Rattle.stream.specs.Checks.{first, transferFlags, transferChecks}
-use Rattle.record.specs.declared.Header.{Header}
-use Rattle.record.specs.declared.Fault.{Fault}
-use Rattle.record.specs.declared.Fault.the-variants.{Sound, Field, Reserved}
-use Rattle.record.specs.Header.{headerFault}
-use Rattle.scratch.specs.declared.Open.{Open}
-use Rattle.scratch.specs.Codes.{heldCodes, Unmarked, pairFrom, stretchesOf, total}
-use Rattle.scratch.specs.Stands.{Stands}
+use Rattle.stream_spec.specs.declared.Shape.{Shape}
+use Rattle.stream_spec.specs.Items.{Item, end, itemPair, transferItems}
+use Rattle.stream_spec.specs.Packed.{Stretch, cut}
+use Rattle.stream_spec.specs.Layout.{bit, typesOf, anyReserved, Kept, transferOf, records, streamItems}
+use Rattle.refusal.specs.Checks.{first}
+use Rattle.stream_spec.specs.Checks.{transferFlags, transferChecks}
+use Rattle.stream_record.specs.declared.Header.{Header}
+use Rattle.stream_record.specs.declared.Fault.{Fault}
+use Rattle.stream_record.specs.declared.Fault.the-variants.{Sound, Field, Reserved}
+use Rattle.stream_record.specs.Header.{headerFault}
+use Rattle.repack_scratch.specs.declared.Open.{Open}
+use Rattle.repack_scratch.specs.Codes.{heldCodes, Unmarked, pairFrom, stretchesOf, total}
+use Rattle.repack_scratch.specs.Stands.{Stands}
 use Rattle.repack_gather.specs.Gather.{Clear}
 use Rattle.repack_parse.specs.declared.Next.{Next}
 use Rattle.repack_parse.specs.declared.Next.the-variants.{Read, Marked, Refused as NotRead}

@@ -3,16 +3,17 @@ use mathlib.Core.Path.{_≡_}
 use mathlib.Core.List.{List}
 use Prim.Native.Nat.{ℕ, _+_, _*_, _/_, _%_, _≤_, _<_}
 use lib.ListN.{length, take, drop}
-use Rattle.stream.specs.declared.Shape.{Shape}
-use Rattle.stream.specs.Packed.{cut}
-use Rattle.stream.specs.Layout.{size, records, streamItems}
-use Rattle.stream.specs.Checks.{first, transferChecks}
+use Rattle.stream_spec.specs.declared.Shape.{Shape}
+use Rattle.stream_spec.specs.Packed.{cut}
+use Rattle.stream_spec.specs.Layout.{size, records, streamItems}
+use Rattle.refusal.specs.Checks.{first}
+use Rattle.stream_spec.specs.Checks.{transferChecks}
 use Rattle.words.specs.Words.{wordAt}
-use Rattle.record.specs.Header.{headerOf}
-use Rattle.record.specs.Usual.{Usual}
-use Rattle.scratch.specs.declared.Open.{Open}
-use Rattle.scratch.specs.Codes.{heldCodes}
-use Rattle.scratch.specs.Stands.{Stands}
+use Rattle.stream_record.specs.Header.{headerOf}
+use Rattle.stream_record.specs.Usual.{Usual}
+use Rattle.repack_scratch.specs.declared.Open.{Open}
+use Rattle.repack_scratch.specs.Codes.{heldCodes}
+use Rattle.repack_scratch.specs.Stands.{Stands}
 use Rattle.repack_gather.specs.Gather.{Clear}
 use Rattle.repack_parse.specs.Read.{Few}
 

@@ -2,22 +2,22 @@
 // read in usual.rt. Nothing is written to the caller's memory here.
 mod usual;
 
-use record::Fault;
-use record::Header;
+use stream_record::Fault;
+use stream_record::Header;
 use refusal::Refusal;
-use scratch::Open;
-use stream::Shape;
+use repack_scratch::Open;
+use stream_spec::Shape;
 ghost use mathlib.Core.Path.{_≡_};
 ghost use mathlib.Core.Bool.{false};
 ghost use mathlib.Core.List.{List, []};
-ghost use Rattle.stream.specs.Packed.{Stretch};
+ghost use Rattle.stream_spec.specs.Packed.{Stretch};
 ghost use Prim.Native.Nat.{ℕ, _+_, _-_, _*_, _/_, _%_, _^_, _≤_, _<_};
 ghost use lib.ListN.{length, take, set};
-ghost use Rattle.stream.specs.Layout.{size, Kept};
-ghost use Rattle.stream.specs.Checks.{transferFlags};
-ghost use Rattle.record.specs.Header.{headerOf, headerFault};
-ghost use Rattle.scratch.specs.Codes.{Unmarked, markBits, pairCode, entryOf, total};
-ghost use Rattle.scratch.specs.Stands.{closedAt, pairedAt, keptAt, Stands};
+ghost use Rattle.stream_spec.specs.Layout.{size, Kept};
+ghost use Rattle.stream_spec.specs.Checks.{transferFlags};
+ghost use Rattle.stream_record.specs.Header.{headerOf, headerFault};
+ghost use Rattle.repack_scratch.specs.Codes.{Unmarked, markBits, pairCode, entryOf, total};
+ghost use Rattle.repack_scratch.specs.Stands.{closedAt, pairedAt, keptAt, Stands};
 ghost use Rattle.repack_gather.specs.Gather.{Clear};
 ghost use Rattle.repack_parse.specs.Read.{judged, Turned, Ended, AddedData, AddedMarked, Ready, Finished, NextIs, ParsedIs};
 
@@ -157,10 +157,10 @@ fn judge(h: Header, s: Shape) -> Fault
     requires { ⌜ s .width ≤ 16 ⌝ }
     ensures { λ r. ⌜ r ≡ judged h s ⌝ }
 {
-    if record::field_fault(h, 1, s) {
+    if stream_record::field_fault(h, 1, s) {
         return Fault::Field;
     }
-    if record::reserved(h) {
+    if stream_record::reserved(h) {
         return Fault::Reserved;
     }
     Fault::Sound
@@ -179,11 +179,11 @@ fn unusual(
     requires { ⌜ (length (now rec) ≡ size s) × Ready s (now octets) (now table) st × (8 * length (now marks) ≡ length (now octets)) × Clear (st .items) (markBits (now marks)) ⌝ }
     ensures { λ r. ⌜ NextIs s (now (rec .entry)) (at / size s) (now (octets .entry)) (markBits (now (marks .entry))) (now (table .entry)) st (now (octets .exit)) (markBits (now (marks .exit))) (now (table .exit)) r ⌝ }
 {
-    let h = record::read_header(rec);
+    let h = stream_record::read_header(rec);
     let f = judge(h, s);
     match f {
-        Fault::Field => Next::Refused(Refusal::Field(at / record::record_size(s))),
-        Fault::Reserved => Next::Refused(Refusal::Reserved(at / record::record_size(s))),
+        Fault::Field => Next::Refused(Refusal::Field(at / stream_record::record_size(s))),
+        Fault::Reserved => Next::Refused(Refusal::Reserved(at / stream_record::record_size(s))),
         Fault::Sound => {
             if h.keep + h.flags == 0 {
                 return Next::Read(st);
@@ -221,7 +221,7 @@ pub fn parse(
     requires { ⌜ (length (now octets) ≡ 45664) × (length (now marks) ≡ 5708) × (length (now table) ≡ 8193) × Unmarked (markBits (now marks)) ⌝ }
     ensures { λ r. ⌜ ParsedIs s (now (input .entry)) (now (octets .exit)) (markBits (now (marks .exit))) (now (table .exit)) r ⌝ }
 {
-    let z = record::record_size(s);
+    let z = stream_record::record_size(s);
     let full = full_mask(s);
     let sieve = repack_gather::make_sieve();
     let mut st = Open {

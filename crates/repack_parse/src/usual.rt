@@ -2,13 +2,13 @@
 // words of its header; no place is counted, and no mark is touched. The first record of another kind is left to `parse`.
 use crate::end;
 use crate::with_items;
-use scratch::Open;
-use stream::Shape;
+use repack_scratch::Open;
+use stream_spec::Shape;
 ghost use mathlib.Core.Path.{_≡_};
 ghost use mathlib.Core.Bool.{true};
 ghost use Prim.Native.Nat.{_+_, _-_, _^_, _≤_, _<_};
 ghost use lib.ListN.{length, take, drop};
-ghost use Rattle.stream.specs.Layout.{size};
+ghost use Rattle.stream_spec.specs.Layout.{size};
 ghost use Rattle.repack_gather.specs.Sieve.{sieveRows};
 ghost use Rattle.repack_parse.specs.Read.{Ready, AddedData};
 ghost use Rattle.repack_parse.specs.Reading.{UsualAt, Reading, Skimmed};
@@ -26,7 +26,7 @@ fn usual_at(input: &[u8], at: usize, pair: u32, full: u32) -> bool
 {
     let lo = words::load4(input, at);
     let hi = words::load4(input, at + 3);
-    record::is_usual(lo, hi, pair, full)
+    stream_record::is_usual(lo, hi, pair, full)
 }
 
 // The usual record at octet `at` is added.
@@ -72,7 +72,7 @@ pub fn skim(
     requires { ⌜ (full ≡ 2 ^ s .width - 1) × (now sieve ≡ sieveRows) × Reading s (now input) (now octets) (now table) st from ⌝ }
     ensures { λ r. ⌜ Skimmed s (now (input .entry)) (now (octets .entry)) (now (table .entry)) st from (now (octets .exit)) (now (table .exit)) (r .st) (r .at) ⌝ }
 {
-    let z = record::record_size(s);
+    let z = stream_record::record_size(s);
     let mut at = from;
     let mut o = st;
     while at < input.len() {

@@ -9,10 +9,10 @@ use lib.ListN.{length, take, drop, length-append}
 use lib.Seq.{length-take-le, take-at}
 use borrow.Author.Tests.{le-ltb}
 use Rattle.io.specs.Counts.{Counts}
-use Rattle.acceptance.specs.declared.Summary.{Summary}
-use Rattle.acceptance.specs.Report.{textOf, Whole, reportOf, front, fitting, Reported}
-use Rattle.acceptance.specs.Promises.{Fits64}
-use Rattle.acceptance.proofs.Promises.{textShort}
+use Rattle.report_call.specs.declared.Summary.{Summary}
+use Rattle.report_call.specs.Report.{textOf, Whole, reportOf, front, fitting, Reported}
+use Rattle.report_call.specs.Promises.{Fits64}
+use Rattle.report_call.proofs.Promises.{textShort}
 use Rattle.report.specs.Delivery.{Tells}
 
 pub counted : (n : ℕ) (xs : List ℕ) → n ≤ length xs → Counts n xs

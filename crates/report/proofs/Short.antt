@@ -10,12 +10,12 @@ use Rattle.refusal.specs.Code.{codeOf}
 use Rattle.refusal.specs.declared.Refusal.{Refusal}
 use Rattle.refusal.specs.declared.Refusal.the-variants.{Width, Length, Field, Reserved, Room, Ratio, Bus, Size, Kind, Count, Align, Boundary, Index, Unclean, Setup as BadSheet}
 use Rattle.refusal.proofs.Refusal.{the-type as refusal}
-use Rattle.acceptance.specs.declared.Verdict.{Verdict}
-use Rattle.acceptance.specs.declared.Verdict.the-variants.{Clean, Broken, Refused}
-use Rattle.acceptance.specs.declared.Summary.{Summary}
-use Rattle.acceptance.specs.Promises.{Fits64}
-use Rattle.acceptance.proofs.Verdict.{the-type as verdict}
-use Rattle.acceptance.proofs.Summary.{the-type as summary}
+use Rattle.report_call.specs.declared.Verdict.{Verdict}
+use Rattle.report_call.specs.declared.Verdict.the-variants.{Clean, Broken, Refused}
+use Rattle.report_call.specs.declared.Summary.{Summary}
+use Rattle.report_call.specs.Promises.{Fits64}
+use Rattle.report_call.proofs.Verdict.{the-type as verdict}
+use Rattle.report_call.proofs.Summary.{the-type as summary}
 
 -- number and place of a refusal
 refusal-fits : (r : Refusal) (vs : List Val) → Is (row refusal) r vs → (codeOf r .0 < 2 ^ 64) × (codeOf r .1 < 2 ^ 64)

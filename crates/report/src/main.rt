@@ -1,20 +1,20 @@
 // The report program of paper 01. It reads setup.txt and take.bin in the folder it is run in, writes out.bin where the verdict
-// is clean, and prints the report. Nothing is decided here: verdict, text and result are `acceptance::report`'s, and what a
-// sheet says is in the crate setup. How files are read and written is in files.
+// is clean, and prints the report. Nothing is decided here: verdict, text and result are `report_call::report`'s, and what a
+// sheet says is in the crate report_setup. How files are read and written is in files.
 // Proved is that `report_on` reports on all that it is handed, that what `files::save` is handed is the whole result of a clean
 // report with this verdict, and what `files::print` is handed the verdict's whole text. Only code and tests/report show that
 // `main` reads those two files into cleared buffers and hands that on, and that a clean result is saved, then the text printed.
 mod files;
 
-use acceptance::Summary;
-use acceptance::Verdict;
+use report_call::Summary;
+use report_call::Verdict;
 use files::Input;
 ghost use Prim.Native.Nat.{_≤_};
 ghost use mathlib.Core.Path.{_≡_};
 ghost use lib.ListN.{length};
 ghost use Rattle.io.specs.Counts.{Counts};
-ghost use Rattle.acceptance.specs.Report.{reportOf};
-ghost use Rattle.acceptance.specs.Promises.{isClean};
+ghost use Rattle.report_call.specs.Report.{reportOf};
+ghost use Rattle.report_call.specs.Promises.{isClean};
 ghost use Rattle.report.specs.Delivery.{known, Tells, Delivers};
 
 fn main() {
@@ -45,7 +45,7 @@ fn report_on(
 {
     let n = setup.octets;
     let m = capture.octets;
-    acceptance::report(
+    report_call::report(
         &sheet[..n],
         setup.whole,
         &take[..m],

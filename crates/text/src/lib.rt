@@ -1,6 +1,6 @@
 // Text in a lent slice, as ASCII octets: decimal numbers and LF-ended key=value lines, each written at a place, with the
 // place after it as the answer. What they look like is in specs/Text. Which lines a text has is not here: that is the
-// caller's (acceptance). Helpers for other crates: each asks that there is room, and the caller shows that there is.
+// caller's (report_call). Helpers for other crates: each asks that there is room, and the caller shows that there is.
 ghost use Prim.Native.Nat.{_+_, _≤_, _<_};
 ghost use mathlib.Core.List.{[], _∷_};
 ghost use lib.ListN.{length};

@@ -1,14 +1,14 @@
 -- `repack_emit::emit` meets its contract: ROOM where the records do not fit, else all of them. Assumes nothing.
 use native.Mathlib.Omega.{arith}
-use Rattle.scratch.specs.Codes.{heldCodes, markBits}
-use Rattle.scratch.proofs.Held.{length-held}
+use Rattle.repack_scratch.specs.Codes.{heldCodes, markBits}
+use Rattle.repack_scratch.proofs.Held.{length-held}
 use Rattle.repack_emit.proofs.Answer.{product-fits, packed-long, emit-refused, emit-written}
 use borrow.Author.Needs.{needs}
 use Rattle.repack_emit.proofs.emit.Statement.{statement}
 use Rattle.repack_emit.proofs.emit.Tie as tie
 use Rattle.repack_emit.proofs.emit.Reads as reads
 use Rattle.repack_emit.proofs.emit.Lts as lts
-use Rattle.record.proofs.record_size.Reads as record-size-reads
+use Rattle.stream_record.proofs.record_size.Reads as record-size-reads
 use Rattle.repack_emit.proofs.count.Reads as count-reads
 use Rattle.repack_emit.proofs.put_all.Reads as put-all-reads
 

@@ -4,8 +4,8 @@ use Prim.Native.Nat.{_+_, _-_}
 use native.Mathlib.Omega.{arith}
 use borrow.Author.Needs.{needs}
 use lib.ListN.{length, drop}
-use Rattle.scratch.specs.Codes.{heldCodes, markBits, total}
-use Rattle.scratch.proofs.Held.{length-held}
+use Rattle.repack_scratch.specs.Codes.{heldCodes, markBits, total}
+use Rattle.repack_scratch.proofs.Held.{length-held}
 use Rattle.repack_emit.proofs.Stretches.{Packing, packing-starts, total-step, packing-room, packing-next, packing-done}
 use Rattle.repack_emit.proofs.put_all.Statement.{statement}
 use Rattle.repack_emit.proofs.put_all.Tie as tie

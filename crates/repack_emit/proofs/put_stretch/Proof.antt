@@ -1,8 +1,8 @@
 -- `repack_emit::put_stretch` meets its contract: where no item is marked all are data. Assumes nothing.
 use mathlib.Core.Path.{_∙_}
-use Rattle.scratch.specs.Codes.{markBits}
-use Rattle.scratch.proofs.Held.{unmarked-held}
-use Rattle.scratch.proofs.Marks.{length-marks}
+use Rattle.repack_scratch.specs.Codes.{markBits}
+use Rattle.repack_scratch.proofs.Held.{unmarked-held}
+use Rattle.repack_scratch.proofs.Marks.{length-marks}
 use borrow.Author.Needs.{needs}
 use Rattle.repack_emit.proofs.put_stretch.Statement.{statement}
 use Rattle.repack_emit.proofs.put_stretch.Tie as tie

@@ -1,7 +1,7 @@
 -- `repack_gather::keep_marked` meets its contract: two stores. Assumes nothing.
 use mathlib.Core.Path.{refl, sym, _∙_}
 use native.Mathlib.Omega.{arith}
-use Rattle.scratch.proofs.Marks.{mark-at, mark-set}
+use Rattle.repack_scratch.proofs.Marks.{mark-at, mark-set}
 use Rattle.repack_gather.proofs.Marked.{markOf, mark-small}
 use borrow.Author.Needs.{needs}
 use Rattle.repack_gather.proofs.keep_marked.Statement.{statement}

@@ -3,8 +3,8 @@ use native.Mathlib.Omega.{arith}
 use mathlib.Core.Path.{_∙_}
 use Prim.Native.Nat.{_-_}
 use lib.ListN.{length}
-use Rattle.scratch.specs.Codes.{markBits}
-use Rattle.scratch.proofs.Marks.{length-marks}
+use Rattle.repack_scratch.specs.Codes.{markBits}
+use Rattle.repack_scratch.proofs.Marks.{length-marks}
 use Rattle.repack_gather.proofs.Marked.{Marking, marking-starts, marking-lane, marking-done}
 use borrow.Author.Needs.{needs}
 use Rattle.repack_gather.proofs.sift_marked.Statement.{statement}

@@ -3,8 +3,8 @@ use mathlib.Core.Path.{_≡_, refl, _∙_}
 use Prim.Native.Nat.{_+_, _-_, _^_}
 use native.Mathlib.Omega.{arith}
 use lib.ListN.{take, drop}
-use Rattle.scratch.specs.Codes.{markBits}
-use Rattle.scratch.proofs.Marks.{length-marks}
+use Rattle.repack_scratch.specs.Codes.{markBits}
+use Rattle.repack_scratch.proofs.Marks.{length-marks}
 use Rattle.repack_parse.proofs.Records.{size-low, lanes-ready, end-ready, added-marked}
 use borrow.Author.Needs.{needs}
 use Rattle.repack_parse.proofs.add_marked.Statement.{statement}

@@ -2,7 +2,7 @@
 use native.Mathlib.Omega.{arith}
 use mathlib.Core.Path.{refl}
 use lib.Pow.{pow-pos}
-use Rattle.record.proofs.Field.{shifted}
+use Rattle.stream_record.proofs.Field.{shifted}
 use borrow.Author.Needs.{needs}
 use Rattle.repack_parse.proofs.full_mask.Statement.{statement}
 use Rattle.repack_parse.proofs.full_mask.Tie as tie

@@ -4,9 +4,9 @@ use mathlib.Core.Bool.{false}
 use Prim.Native.Nat.{_+_, _-_}
 use native.Mathlib.Omega.{arith}
 use lib.ListN.{length, take, drop}
-use Rattle.stream.proofs.Records.{size-pos}
-use Rattle.scratch.specs.Codes.{markBits}
-use Rattle.scratch.proofs.Marks.{length-marks}
+use Rattle.stream_spec.proofs.Records.{size-pos}
+use Rattle.repack_scratch.specs.Codes.{markBits}
+use Rattle.repack_scratch.proofs.Marks.{length-marks}
 use Rattle.repack_parse.proofs.Take.{reading-starts, holding-starts, reading-fits, reading-ready, reading-refused, reading-closes, holding-stands, taken, Parsing, parsing-read, parsing-marked, this-record, this-long, marks-kept}
 use borrow.Author.Needs.{needs}
 use Rattle.repack_parse.proofs.parse.Statement.{statement}

@@ -3,10 +3,10 @@ use mathlib.Core.Path.{refl, sym, _∙_}
 use Prim.Native.Nat.{_/_}
 use native.Mathlib.Omega.{arith}
 use lib.Pow.{pow-mono}
-use Rattle.stream.specs.Layout.{size}
-use Rattle.stream.proofs.Records.{size-pos}
-use Rattle.scratch.specs.Codes.{heldCodes, markBits}
-use Rattle.scratch.proofs.Marks.{length-marks}
+use Rattle.stream_spec.specs.Layout.{size}
+use Rattle.stream_spec.proofs.Records.{size-pos}
+use Rattle.repack_scratch.specs.Codes.{heldCodes, markBits}
+use Rattle.repack_scratch.proofs.Marks.{length-marks}
 use Rattle.repack_parse.proofs.Faults.{fields-of, told-field, told-reserved, told-sound, told-fields}
 use Rattle.repack_parse.proofs.Records.{size-low, added-none, data-marked}
 use borrow.Author.Needs.{needs}

@@ -1,5 +1,5 @@
 -- `capi::of_written` meets its contract: each case shows its numbers. Assumes nothing.
-use Rattle.stream.specs.Answers.{writtenValues}
+use Rattle.stream_spec.specs.Answers.{writtenValues}
 use Rattle.capi.proofs.Told.{shown, numbers}
 use borrow.Author.Needs.{needs}
 use Rattle.capi.proofs.stream_calls.of_written.Statement.{statement}

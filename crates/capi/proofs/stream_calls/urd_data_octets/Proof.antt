@@ -1,8 +1,8 @@
 -- `capi::urd_data_octets` meets its contract: it shows what the calls answer. Assumes nothing.
 use mathlib.Core.Path.{ap, _∙_}
 use lib.ListN.{length}
-use Rattle.stream.specs.declared.Lookup.{Lookup}
-use Rattle.stream.specs.Answers.{lookupValues}
+use Rattle.stream_spec.specs.declared.Lookup.{Lookup}
+use Rattle.stream_spec.specs.Answers.{lookupValues}
 use borrow.Author.Needs.{needs}
 use Rattle.capi.proofs.stream_calls.urd_data_octets.Statement.{statement}
 use Rattle.capi.proofs.stream_calls.urd_data_octets.Tie as tie

@@ -1,6 +1,6 @@
 -- `capi::urd_downsize` meets its contract: it shows what the call answers, and leaves what the call leaves. Assumes nothing.
 use mathlib.Core.Path.{sym}
-use Rattle.stream.specs.Answers.{writtenValues}
+use Rattle.stream_spec.specs.Answers.{writtenValues}
 use Rattle.capi.proofs.Told.{shown}
 use borrow.Author.Needs.{needs}
 use Rattle.capi.proofs.stream_calls.urd_downsize.Statement.{statement}

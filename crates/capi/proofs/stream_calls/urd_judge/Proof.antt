@@ -1,6 +1,6 @@
 -- `capi::urd_judge` meets its contract: it shows what the call answers. Assumes nothing.
 use mathlib.Core.Path.{sym}
-use Rattle.stream.specs.Answers.{verdictValues}
+use Rattle.stream_spec.specs.Answers.{verdictValues}
 use Rattle.capi.proofs.Told.{shown}
 use borrow.Author.Needs.{needs}
 use Rattle.capi.proofs.stream_calls.urd_judge.Statement.{statement}

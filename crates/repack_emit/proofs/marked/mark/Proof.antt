@@ -3,7 +3,7 @@ use mathlib.Core.Path.{_≡_, sym}
 use Prim.Native.Nat.{_*_, _%_, _^_}
 use native.Mathlib.Omega.{arith}
 use lib.Pow.{pow-pos}
-use Rattle.scratch.proofs.Marks.{mark-at, shifted-octet}
+use Rattle.repack_scratch.proofs.Marks.{mark-at, shifted-octet}
 use borrow.Author.Needs.{needs}
 use Rattle.repack_emit.proofs.marked.mark.Statement.{statement}
 use Rattle.repack_emit.proofs.marked.mark.Tie as tie

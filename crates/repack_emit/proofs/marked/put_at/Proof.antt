@@ -3,8 +3,8 @@ use mathlib.Core.Path.{refl}
 use Prim.Native.Nat.{_-_}
 use native.Mathlib.Omega.{arith}
 use lib.ListN.{length, take, drop}
-use Rattle.stream.specs.Layout.{size, odd, octetsOf}
-use Rattle.scratch.specs.Codes.{heldCodes, markBits, pairFrom}
+use Rattle.stream_spec.specs.Layout.{size, odd, octetsOf}
+use Rattle.repack_scratch.specs.Codes.{heldCodes, markBits, pairFrom}
 use Rattle.repack_emit.specs.Write.{recordOf}
 use Rattle.repack_emit.proofs.Memory.{lent-long, lent-writes}
 use Rattle.repack_emit.proofs.Stretches.{record-long}
@@ -13,7 +13,7 @@ use Rattle.repack_emit.proofs.marked.put_at.Statement.{statement}
 use Rattle.repack_emit.proofs.marked.put_at.Tie as tie
 use Rattle.repack_emit.proofs.marked.put_at.Reads as reads
 use Rattle.repack_emit.proofs.marked.put_at.Lts as lts
-use Rattle.record.proofs.record_size.Reads as record-size-reads
+use Rattle.stream_record.proofs.record_size.Reads as record-size-reads
 use Rattle.repack_emit.proofs.marked.put_record.Reads as put-record-reads
 
 sub-put-record : tie.Need-sub-put-record

@@ -6,10 +6,10 @@ use native.Mathlib.Omega.{arith}
 use borrow.Author.Needs.{needs}
 use lib.ListN.{length, getD, take, drop, length-set, length-drop, take-append-drop}
 use lib.Seq.{slice, slice-empty, getD-drop}
-use Rattle.stream.specs.Layout.{maskOf}
-use Rattle.record.proofs.Fill.{fill-down}
-use Rattle.scratch.specs.Codes.{heldCodes, markBits}
-use Rattle.scratch.proofs.Held.{length-held, drop-held}
+use Rattle.stream_spec.specs.Layout.{maskOf}
+use Rattle.stream_record.proofs.Fill.{fill-down}
+use Rattle.repack_scratch.specs.Codes.{heldCodes, markBits}
+use Rattle.repack_scratch.proofs.Held.{length-held, drop-held}
 use Rattle.repack_emit.specs.Write.{itemOctet, itemStrobe}
 use Rattle.repack_emit.proofs.Lanes.{octets-down, strb-down, slice-small, octet-small}
 use Rattle.repack_emit.proofs.Near.{marks-same}

@@ -5,8 +5,8 @@ use native.Mathlib.Omega.{arith}
 use lib.Pow.{pow-pos, pow-mono}
 use lib.ListN.{length, take, drop}
 use lib.Seq.{length-take-le}
-use Rattle.record.proofs.Field.{shifted}
-use Rattle.scratch.specs.Codes.{heldCodes, markBits}
+use Rattle.stream_record.proofs.Field.{shifted}
+use Rattle.repack_scratch.specs.Codes.{heldCodes, markBits}
 use Rattle.repack_emit.proofs.Lanes.{strb-fits}
 use Rattle.repack_emit.proofs.Memory.{record-written, size-is}
 use Rattle.repack_emit.proofs.Near.{length-from}
@@ -15,8 +15,8 @@ use Rattle.repack_emit.proofs.marked.put_lanes.Statement.{statement}
 use Rattle.repack_emit.proofs.marked.put_lanes.Tie as tie
 use Rattle.repack_emit.proofs.marked.put_lanes.Reads as reads
 use Rattle.repack_emit.proofs.marked.put_lanes.Lts as lts
-use Rattle.record.proofs.write.write_header.Reads as write-header-reads
-use Rattle.record.proofs.write.write_nulls.Reads as write-nulls-reads
+use Rattle.stream_record.proofs.write.write_header.Reads as write-header-reads
+use Rattle.stream_record.proofs.write.write_nulls.Reads as write-nulls-reads
 use Rattle.repack_emit.proofs.marked.put_items.Reads as put-items-reads
 
 put-items-requires : tie.Need-put-items-requires

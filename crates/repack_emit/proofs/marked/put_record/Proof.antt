@@ -4,7 +4,7 @@ use Prim.Native.Nat.{ℕ, _+_, _<_}
 use native.Mathlib.Omega.{arith}
 use lib.ListN.{length, getD, drop, length-drop}
 use lib.Seq.{getD-drop}
-use Rattle.scratch.specs.Codes.{markBits}
+use Rattle.repack_scratch.specs.Codes.{markBits}
 use Rattle.repack_emit.proofs.Memory.{plain-written, size-is}
 use Rattle.repack_emit.proofs.Stretches.{lent-items}
 use Rattle.repack_emit.proofs.Near.{marks-same, near-data}
@@ -13,7 +13,7 @@ use Rattle.repack_emit.proofs.marked.put_record.Statement.{statement}
 use Rattle.repack_emit.proofs.marked.put_record.Tie as tie
 use Rattle.repack_emit.proofs.marked.put_record.Reads as reads
 use Rattle.repack_emit.proofs.marked.put_record.Lts as lts
-use Rattle.record.proofs.write.write_data_header.Reads as write-data-header-reads
+use Rattle.stream_record.proofs.write.write_data_header.Reads as write-data-header-reads
 use Rattle.repack_emit.proofs.marked.put_lanes.Reads as put-lanes-reads
 use Rattle.repack_emit.proofs.marked.unmarked_near.Reads as unmarked-near-reads
 use Rattle.words.proofs.place.Reads as place-reads

@@ -4,9 +4,9 @@ use Prim.Native.Nat.{_+_, _/_}
 use native.Mathlib.Omega.{arith}
 use borrow.Author.Needs.{needs}
 use lib.ListN.{take, drop}
-use Rattle.stream.specs.Layout.{odd}
-use Rattle.scratch.specs.Codes.{heldCodes, markBits, pairFrom, entryCount}
-use Rattle.scratch.proofs.Held.{length-held}
+use Rattle.stream_spec.specs.Layout.{odd}
+use Rattle.repack_scratch.specs.Codes.{heldCodes, markBits, pairFrom, entryCount}
+use Rattle.repack_scratch.proofs.Held.{length-held}
 use Rattle.repack_emit.specs.Write.{stretchOctets}
 use Rattle.repack_emit.proofs.Stretches.{Stretching, odd-bit, stretching-starts, stretching-room, stretching-next, stretching-last-room, stretching-done}
 use Rattle.repack_emit.proofs.Near.{marks-same}

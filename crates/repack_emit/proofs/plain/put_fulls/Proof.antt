@@ -3,14 +3,14 @@ use mathlib.Core.Path.{refl}
 use mathlib.Core.Bool.{false}
 use native.Mathlib.Omega.{arith}
 use borrow.Author.Needs.{needs}
-use Rattle.stream.specs.Layout.{size}
+use Rattle.stream_spec.specs.Layout.{size}
 use Rattle.repack_emit.specs.Write.{Advanced}
 use Rattle.repack_emit.proofs.Fulls.{advanced-none, full-room, full-written, lent-codes, lent-room}
 use Rattle.repack_emit.proofs.plain.put_fulls.Statement.{statement}
 use Rattle.repack_emit.proofs.plain.put_fulls.Tie as tie
 use Rattle.repack_emit.proofs.plain.put_fulls.Reads as reads
 use Rattle.repack_emit.proofs.plain.put_fulls.Lts as lts
-use Rattle.record.proofs.record_size.Reads as record-size-reads
+use Rattle.stream_record.proofs.record_size.Reads as record-size-reads
 use Rattle.repack_emit.proofs.plain.put_plain.Reads as put-plain-reads
 
 abbrev Inv-loop : tie.InvT-loop

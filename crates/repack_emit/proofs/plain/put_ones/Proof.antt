@@ -5,7 +5,7 @@ use Prim.Native.Nat.{_-_}
 use native.Mathlib.Omega.{arith}
 use borrow.Author.Needs.{needs}
 use lib.ListN.{length, getD, take, drop}
-use Rattle.stream.specs.declared.Shape.{Shape}
+use Rattle.stream_spec.specs.declared.Shape.{Shape}
 use Rattle.repack_emit.specs.Write.{Advanced}
 use Rattle.repack_emit.proofs.Fulls.{advanced-none, full-room, full-written, one-written, lent-room}
 use Rattle.repack_emit.proofs.Memory.{size-is}
@@ -13,7 +13,7 @@ use Rattle.repack_emit.proofs.plain.put_ones.Statement.{statement}
 use Rattle.repack_emit.proofs.plain.put_ones.Tie as tie
 use Rattle.repack_emit.proofs.plain.put_ones.Reads as reads
 use Rattle.repack_emit.proofs.plain.put_ones.Lts as lts
-use Rattle.record.proofs.write.write_one.Reads as write-one-reads
+use Rattle.stream_record.proofs.write.write_one.Reads as write-one-reads
 
 abbrev one-lane : Shape
 one-lane = record { width = 1 }

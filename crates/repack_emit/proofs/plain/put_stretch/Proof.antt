@@ -3,8 +3,8 @@ use mathlib.Core.Path.{refl}
 use mathlib.Core.Bool.{false}
 use Prim.Native.Nat.{_/_}
 use native.Mathlib.Omega.{arith}
-use Rattle.stream.specs.Layout.{size, odd}
-use Rattle.scratch.specs.Codes.{entryCount}
+use Rattle.stream_spec.specs.Layout.{size, odd}
+use Rattle.repack_scratch.specs.Codes.{entryCount}
 use Rattle.repack_emit.proofs.Stretches.{odd-bit}
 use Rattle.repack_emit.proofs.Fulls.{fitting, last-room, last-written, lent-codes, lent-room}
 use borrow.Author.Needs.{needs}
@@ -12,7 +12,7 @@ use Rattle.repack_emit.proofs.plain.put_stretch.Statement.{statement}
 use Rattle.repack_emit.proofs.plain.put_stretch.Tie as tie
 use Rattle.repack_emit.proofs.plain.put_stretch.Reads as reads
 use Rattle.repack_emit.proofs.plain.put_stretch.Lts as lts
-use Rattle.record.proofs.record_size.Reads as record-size-reads
+use Rattle.stream_record.proofs.record_size.Reads as record-size-reads
 use Rattle.repack_emit.proofs.plain.put_all_but_last.Reads as put-all-but-last-reads
 use Rattle.repack_emit.proofs.plain.put_plain.Reads as put-plain-reads
 

@@ -4,7 +4,7 @@ use Prim.Native.Nat.{_-_}
 use native.Mathlib.Omega.{arith}
 use borrow.Author.Tests.{not-false}
 use lib.ListN.{length}
-use Rattle.stream.proofs.Records.{size-pos}
+use Rattle.stream_spec.proofs.Records.{size-pos}
 use Rattle.repack_parse.specs.Reading.{Skimmed}
 use Rattle.repack_parse.proofs.Records.{size-low}
 use Rattle.repack_parse.proofs.Take.{reading-fits, reading-ready}

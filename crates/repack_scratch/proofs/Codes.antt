@@ -1,0 +1,97 @@
+-- Laws of the codes: what is packed into a code comes out of it again; the codes of a record's kept lanes stand for what
+-- those lanes carry; a table grows by one stretch with each entry. Assumes nothing.
+use mathlib.Core.Path.{_≡_, refl, ap, _∙_}
+use mathlib.Core.Bool.{Bool, true, false}
+use mathlib.Core.List.{List, [], _∷_, _++_, map}
+use Prim.Native.Nat.{ℕ, zero, suc, _+_, _-_, _*_, _/_, _%_, _≤_, _<_}
+use native.Mathlib.Omega.{arith}
+use borrow.Author.Tests.{eqb-true, eqb-false}
+use lib.ListN.{length, take, drop, length-drop}
+use lib.Seq.{take-append-le, drop-append-le, take-all, drop-drop}
+use Rattle.stream_spec.specs.Items.{kept}
+use Rattle.stream_spec.specs.Packed.{Stretch}
+use Rattle.stream_spec.specs.Layout.{odd, laneType, laneOf, lanesOf, typesOf, Kept, octet, position}
+use Rattle.stream_spec.specs.Legal.{Octets}
+use Rattle.repack_scratch.specs.Codes.{itemCode, keptOf, sifted, pairFrom, entryOf, entryCount, stretchOf, stretchesOf, total}
+
+-- ---- items
+
+pub item-data : (t d : ℕ) → d < 256 → odd t ≡ true → keptOf (itemCode t d) ≡ octet d
+unfolding keptOf
+item-data t d h e =
+    let bit : t % 2 ≡ 1 = eqb-true (t % 2) 1 e in
+    let code : d + 256 * (t % 2) ≡ d + 256 = omega arith in
+    let high : (d + 256) / 256 ≡ 1 = omega arith in
+    let low : (d + 256) % 256 ≡ d = omega arith in
+    rw (code, high, low) refl
+
+pub item-position : (t d : ℕ) → d < 256 → odd t ≡ false → keptOf (itemCode t d) ≡ position
+unfolding keptOf
+item-position t d h e =
+    let bit : t % 2 ≡ 1 → ⊥ = eqb-false (t % 2) 1 e in
+    let code : d + 256 * (t % 2) ≡ d = omega arith in
+    let high : d / 256 ≡ 0 = omega arith in
+    rw (code, high) refl
+
+-- the codes of the kept lanes stand for what the lanes carry
+pub sifted-kept : (w k t : ℕ) (ds : List ℕ) → Octets ds → map keptOf (sifted w k t ds) ≡ kept (lanesOf (typesOf w k t) ds)
+sifted-kept zero k t ds h = refl
+sifted-kept (suc w) k t [] h = go (sifted-kept w (k / 2) (t / 2) [] tt) (odd k) refl (odd t) refl
+  where
+    go : map keptOf (sifted w (k / 2) (t / 2) []) ≡ kept (lanesOf (typesOf w (k / 2) (t / 2)) [])
+        → (a : Bool) → odd k ≡ a → (b : Bool) → odd t ≡ b
+        → map keptOf (sifted (suc w) k t []) ≡ kept (laneOf (laneType (odd k) (odd t)) 0 ∷ lanesOf (typesOf w (k / 2) (t / 2)) [])
+    go ih true e true f = rw (e, f) (rw (item-data t 0 (omega arith) f, ih) refl)
+    go ih true e false f = rw (e, f) (rw (item-position t 0 (omega arith) f, ih) refl)
+    go ih false e true f = rw (e, f) ih
+    go ih false e false f = rw (e, f) ih
+sifted-kept (suc w) k t (d ∷ ds) h = go (sifted-kept w (k / 2) (t / 2) ds (h .1)) (odd k) refl (odd t) refl
+  where
+    go : map keptOf (sifted w (k / 2) (t / 2) ds) ≡ kept (lanesOf (typesOf w (k / 2) (t / 2)) ds)
+        → (a : Bool) → odd k ≡ a → (b : Bool) → odd t ≡ b
+        → map keptOf (sifted (suc w) k t (d ∷ ds)) ≡ kept (laneOf (laneType (odd k) (odd t)) d ∷ lanesOf (typesOf w (k / 2) (t / 2)) ds)
+    go ih true e true f = rw (e, f) (rw (item-data t d (h .0) f, ih) refl)
+    go ih true e false f = rw (e, f) (rw (item-position t d (h .0) f, ih) refl)
+    go ih false e true f = rw (e, f) ih
+    go ih false e false f = rw (e, f) ih
+
+-- ---- entries
+
+pub entry-count : (n last pair : ℕ) → n < 65536 → entryCount (entryOf n last pair) ≡ n
+entry-count n last pair h = omega arith
+
+entry-ended : (n last pair : ℕ) → n < 65536 → last ≤ 1 → odd (entryOf n last pair / 65536) ≡ odd last
+entry-ended n last pair h l = let high : entryOf n last pair / 65536 ≡ last + 2 * pair = omega arith in
+    let low : (last + 2 * pair) % 2 ≡ last % 2 = omega arith in rw (high, low) refl
+
+entry-pair : (n last pair : ℕ) → n < 65536 → last ≤ 1 → entryOf n last pair / 131072 ≡ pair
+entry-pair n last pair h l = omega arith
+
+pub entry-stretch : (n last pair : ℕ) (codes : List ℕ) → n < 65536 → last ≤ 1
+    → stretchOf (entryOf n last pair) codes ≡ record { pair = pairFrom pair; bytes = map keptOf codes; ended = odd last }
+entry-stretch n last pair codes h l =
+    λ i. record { pair = pairFrom (entry-pair n last pair h l i); bytes = map keptOf codes; ended = entry-ended n last pair h l i }
+
+-- ---- tables
+
+pub total-more : (es : List ℕ) (e : ℕ) → total (es ++ e ∷ []) ≡ total es + entryCount e
+total-more [] e = omega arith
+total-more (f ∷ es) e = omega (arith, total-more es e)
+
+-- codes behind those of a table do not matter
+pub stretches-more : (es xs ys : List ℕ) → total es ≤ length xs → stretchesOf es (xs ++ ys) ≡ stretchesOf es xs
+stretches-more [] xs ys h = refl
+stretches-more (e ∷ es) xs ys h =
+    let fits : entryCount e ≤ length xs = omega arith in
+    rw (take-append-le (entryCount e) xs ys fits, drop-append-le (entryCount e) xs ys fits)
+    (ap {B = List (Stretch Kept)} (λ l. stretchOf e (take (entryCount e) xs) ∷ l)
+    (stretches-more es (drop (entryCount e) xs) ys (rw length-drop (omega arith))))
+
+-- an entry more, with all the codes that are left, is a stretch more
+pub stretches-one : (es : List ℕ) (e : ℕ) (xs : List ℕ) → total es + entryCount e ≡ length xs
+    → stretchesOf (es ++ e ∷ []) xs ≡ stretchesOf es xs ++ stretchOf e (drop (total es) xs) ∷ []
+stretches-one [] e xs h = rw (take-all (entryCount e) xs (omega arith)) refl
+stretches-one (f ∷ es) e xs h =
+    let rest : total es + entryCount e ≡ length (drop (entryCount f) xs) = rw length-drop (omega arith) in
+    ap {B = List (Stretch Kept)} (λ l. stretchOf f (take (entryCount f) xs) ∷ l)
+    (stretches-one es e (drop (entryCount f) xs) rest ∙ rw (drop-drop (total es) (entryCount f) xs) refl)

@@ -1,0 +1,82 @@
+-- The codes of items and of stretches, as repack's scratch arrays hold them: an item's octet in one array, its mark in
+-- another, a stretch's entry in a third.
+use mathlib.Core.Path.{_≡_}
+use mathlib.Core.Bool.{cond}
+use mathlib.Core.List.{List, [], _∷_, _++_, map}
+use Prim.Native.Nat.{ℕ, zero, suc, _+_, _-_, _*_, _/_, _%_}
+use lib.ListN.{length, getD, take, drop, replicate}
+use Rattle.stream_spec.specs.Items.{Pair}
+use Rattle.stream_spec.specs.Packed.{Stretch}
+use Rattle.stream_spec.specs.Layout.{odd, Kept, octet, position}
+
+-- ---- an item's code: its octet, and its strobe times 256
+
+abbrev pub itemCode : ℕ → ℕ → ℕ
+itemCode strb d = d + 256 * (strb % 2)
+
+-- a data item's code
+abbrev pub dataCode : ℕ → ℕ
+dataCode d = d + 256
+
+-- An item as it is held: its octet, and a mark that is 0 for data and 1 for position.
+abbrev pub heldCode : ℕ → ℕ → ℕ
+heldCode d mark = d + 256 * (1 - mark)
+
+-- the codes of the items that two arrays of one length hold
+abbrev pub heldCodes : List ℕ → List ℕ → List ℕ
+heldCodes [] ms = []
+heldCodes (d ∷ ds) [] = []
+heldCodes (d ∷ ds) (m ∷ ms) = heldCode d m ∷ heldCodes ds ms
+
+-- the k low bits of a number, lowest first
+abbrev pub bitsOf : ℕ → ℕ → List ℕ
+bitsOf zero x = []
+bitsOf (suc k) x = x % 2 ∷ bitsOf k (x / 2)
+
+-- the marks as an array of octets holds them: a bit an item, eight items an octet
+abbrev pub markBits : List ℕ → List ℕ
+markBits [] = []
+markBits (m ∷ ms) = bitsOf 8 m ++ markBits ms
+
+-- no item is marked: every one is data
+abbrev pub Unmarked : List ℕ → Type 0
+Unmarked ms = ms ≡ replicate {A = ℕ} (length ms) 0
+
+-- what an item's code stands for; every number stands for something
+unfoldable pub keptOf : ℕ → Kept
+keptOf x = cond (odd (x / 256)) (octet (x % 256)) position
+
+-- the codes of the lanes that TKEEP keeps: lane 0 has the lowest bit of both masks
+abbrev pub sifted : ℕ → ℕ → ℕ → List ℕ → List ℕ
+sifted zero keep strb ds = []
+sifted (suc w) keep strb ds =
+    cond (odd keep) (itemCode strb (getD ds 0 0) ∷ sifted w (keep / 2) (strb / 2) (drop 1 ds))
+    (sifted w (keep / 2) (strb / 2) (drop 1 ds))
+
+-- ---- a stretch's entry: how many bytes it has, whether an end is behind them, and its pair
+
+abbrev pub pairCode : ℕ → ℕ → ℕ
+pairCode tid tdest = tid + 256 * tdest
+
+abbrev pub pairFrom : ℕ → Pair
+pairFrom x = record { tid = x % 256; tdest = x / 256 }
+
+abbrev pub entryOf : ℕ → ℕ → ℕ → ℕ
+entryOf count last pair = count + 65536 * (last + 2 * pair)
+
+abbrev pub entryCount : ℕ → ℕ
+entryCount e = e % 65536
+
+-- the stretch of an entry whose items have these codes
+abbrev pub stretchOf : ℕ → List ℕ → Stretch Kept
+stretchOf e codes = record { pair = pairFrom (e / 131072); bytes = map keptOf codes; ended = odd (e / 65536) }
+
+-- the stretches of a table, each with as many of the codes as its entry says
+abbrev pub stretchesOf : List ℕ → List ℕ → List (Stretch Kept)
+stretchesOf [] codes = []
+stretchesOf (e ∷ es) codes = stretchOf e (take (entryCount e) codes) ∷ stretchesOf es (drop (entryCount e) codes)
+
+-- how many codes a table has in all
+abbrev pub total : List ℕ → ℕ
+total [] = 0
+total (e ∷ es) = entryCount e + total es

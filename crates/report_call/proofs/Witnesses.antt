@@ -1,0 +1,162 @@
+-- The statements of specs/Promises put to use: truth tables of what they ask, each promise at its widest with its premises
+-- written out, and at examples typed by hand. A premise that is narrowed, or a conclusion that says less, breaks one.
+-- Assumes nothing.
+use mathlib.Core.Path.{_≡_, refl, sym, ap, _∙_}
+use mathlib.Core.Bool.{Bool, true, false}
+use mathlib.Core.List.{List, [], _∷_, map}
+use mathlib.Core.Logic.{_≢_}
+use mathlib.Core.Option.{Option, none, some}
+use Prim.Native.Nat.{ℕ, _≤_}
+use native.Mathlib.Omega.{arith}
+use lib.ListN.{length}
+use Rattle.refusal.specs.declared.Refusal.{Refusal}
+use Rattle.refusal.specs.declared.Refusal.the-variants.{Width, Length, Field, Reserved, Room, Ratio, Bus, Size, Kind, Count, Align, Boundary, Index, Unclean, Setup as BadSheet}
+use Rattle.stream_spec.specs.Layout.{size}
+use Rattle.refusal.specs.Checks.{first}
+use Rattle.stream_spec.specs.Checks.{roomCheck}
+use Rattle.stream_spec.specs.Handshake.{Finding, firstFinding}
+use Rattle.stream_spec.specs.Answers.{judgeAnswer, repackAnswer}
+use Rattle.stream_spec.specs.Legal.{Octets}
+use Rattle.stream_spec.proofs.Tables.{octets-tested}
+use Rattle.report_setup.specs.declared.Setup.{Setup}
+use Rattle.report_setup.specs.declared.Mode.the-variants.{Pack, Lanes}
+use Rattle.report_setup.specs.declared.Tlast.the-variants.{Wired}
+use Rattle.report_setup.specs.declared.Sheet.the-variants.{Read, Refused as NoSheet}
+use Rattle.report_setup.specs.Grammar.{sheetOf}
+use Rattle.report_setup.specs.Answers.{sheetValues}
+use Rattle.report_call.specs.declared.Tally.{Tally}
+use Rattle.report_call.specs.declared.Verdict.the-variants.{Clean, Broken, Refused}
+use Rattle.report_call.specs.Report.{shapeOf, cyclesOf, tally, setupOutcome, sheetOutcome, verdictValues, textOf, whole, reportOf, front}
+use Rattle.report_call.specs.Promises.{OctetsOf, isClean, CleanTally, shows, orderedChecks, resultOf, tallyOf, inOrder}
+use Rattle.report_call.specs.Cases.{says, p1Sheet, p1Take, p1Result, cycle}
+use Rattle.report_call.proofs.Promises.{reportsSetup, onlyWhenClean, cleanTallies, refusalsShown, neverReservedNorUnclean, packNeverRatio, reportInOrder, textShort, no}
+
+-- ---- what the promises ask
+
+pub clean-table : (t : Tally) (cycle rule : ℕ) (r : Refusal)
+    → map isClean (Clean t ∷ Broken cycle rule ∷ Refused r ∷ []) ≡ true ∷ false ∷ false ∷ []
+clean-table t cycle rule r = refl
+
+-- 1 to 15
+abbrev refusals : ℕ → ℕ → List Refusal
+refusals k rule =
+    Width ∷ Length ∷ Field k ∷ Reserved k ∷ Room ∷ Ratio ∷ Bus ∷ Size ∷ Kind ∷ Count ∷ Align ∷ Boundary ∷ Index ∷ Unclean k rule ∷ BadSheet ∷ []
+
+-- 6 is the one that the mode decides
+abbrev shown : Bool → List Bool
+shown six =
+    true ∷ true ∷ true ∷ false ∷ true ∷ six ∷ false ∷ false ∷ false ∷ false ∷ false ∷ false ∷ false ∷ false ∷ false ∷ []
+
+pub pack-table : (k rule : ℕ) → map (shows Pack) (refusals k rule) ≡ shown false
+pack-table k rule = refl
+
+pub lanes-table : (k rule : ℕ) → map (shows Lanes) (refusals k rule) ≡ shown true
+lanes-table k rule = refl
+
+pub unread-octets : OctetsOf none
+unread-octets = tt
+
+pub read-octets : (capture : List ℕ) → Octets capture → OctetsOf (some capture)
+read-octets capture o = o
+
+-- a sheet that is refused shows the number that the report shows for it
+pub sheet-number : (capture : Option (List ℕ)) (room : ℕ)
+    → verdictValues (sheetOutcome NoSheet capture room .verdict) .refusal ≡ sheetValues NoSheet .refusal
+sheet-number capture room = refl
+
+-- ---- at their widest
+
+module _ (sheet capture : Option (List ℕ)) (room : ℕ) where
+  pub broken-keeps : (cycle rule : ℕ) → reportOf sheet capture room .verdict ≡ Broken cycle rule
+      → (out : List ℕ) → front (reportOf sheet capture room .result) out ≡ out
+  broken-keeps cycle rule e = onlyWhenClean sheet capture room (ap isClean e) .kept
+
+  pub refused-nothing : (r : Refusal) → reportOf sheet capture room .verdict ≡ Refused r → reportOf sheet capture room .result ≡ []
+  refused-nothing r e = onlyWhenClean sheet capture room (ap isClean e) .nothing
+
+  module _ (o : OctetsOf capture) where
+    pub never-reserved : (k : ℕ) → reportOf sheet capture room .verdict ≡ Refused (Reserved k) → ⊥
+    never-reserved k e = neverReservedNorUnclean sheet capture room (Reserved k) o e .0 refl
+
+    pub never-unclean : (k rule : ℕ) → reportOf sheet capture room .verdict ≡ Refused (Unclean k rule) → ⊥
+    never-unclean k rule e = neverReservedNorUnclean sheet capture room (Unclean k rule) o e .1 refl
+
+pub never-hidden : (u : Setup) (capture : Option (List ℕ)) (room : ℕ) (r : Refusal) → OctetsOf capture → shows (u .mode) r ≡ false
+    → setupOutcome u capture room .verdict ≡ Refused r → ⊥
+never-hidden u capture room r o h e = no (sym h ∙ refusalsShown u capture room r o e)
+
+module _ (sheet : List ℕ) (u : Setup) (e : sheetOf sheet ≡ Read u) (capture : Option (List ℕ)) (room : ℕ) where
+  pub reads-setup : reportOf (some sheet) capture room ≡ whole (setupOutcome u capture room)
+  reads-setup = reportsSetup sheet u e capture room
+
+  pub pack-no-ratio : u .mode ≡ Pack → OctetsOf capture → reportOf (some sheet) capture room .verdict ≡ Refused Ratio → ⊥
+  pack-no-ratio m o h = packNeverRatio sheet u e m capture room Ratio o h refl
+
+-- ".. LENGTH, FIELD, a broken verdict, and ROOM last": each kind of verdict, where those before it are not there
+module _ (u : Setup) (capture : List ℕ) (room : ℕ) (o : Octets capture) where
+  abbrev tests : Option Refusal
+  tests = first (orderedChecks u (cyclesOf u capture))
+
+  abbrev finding : Option Finding
+  finding = firstFinding (shapeOf u) (cyclesOf u capture)
+
+  abbrev roomy : Option Refusal
+  roomy = first (roomCheck (resultOf u capture) room ∷ [])
+
+  pub tests-first : (r : Refusal) → tests ≡ some r → setupOutcome u (some capture) room .verdict ≡ Refused r
+  tests-first r e = reportInOrder u capture room o ∙ ap (λ (x : Option Refusal). inOrder x finding roomy (tallyOf u capture)) e
+
+  module _ (e : tests ≡ none) where
+    passed : setupOutcome u (some capture) room .verdict ≡ inOrder none finding roomy (tallyOf u capture)
+    passed = reportInOrder u capture room o ∙ ap (λ (x : Option Refusal). inOrder x finding roomy (tallyOf u capture)) e
+
+    pub then-broken : (f : Finding) → finding ≡ some f → setupOutcome u (some capture) room .verdict ≡ Broken (f .cycle) (f .rule)
+    then-broken f h = passed ∙ ap (λ (x : Option Finding). inOrder none x roomy (tallyOf u capture)) h
+
+    module _ (h : finding ≡ none) where
+      sound : setupOutcome u (some capture) room .verdict ≡ inOrder none none roomy (tallyOf u capture)
+      sound = passed ∙ ap (λ (x : Option Finding). inOrder none x roomy (tallyOf u capture)) h
+
+      pub room-last : (r : Refusal) → roomy ≡ some r → setupOutcome u (some capture) room .verdict ≡ Refused r
+      room-last r k = sound ∙ ap (λ (x : Option Refusal). inOrder none none x (tallyOf u capture)) k
+
+      pub else-clean : roomy ≡ none → setupOutcome u (some capture) room .verdict ≡ Clean (tallyOf u capture)
+      else-clean k = sound ∙ ap (λ (x : Option Refusal). inOrder none none x (tallyOf u capture)) k
+
+-- ---- at examples: P1, a take with a reserved lane, the longest text
+
+abbrev p1 : Setup
+p1 = record { «width_in» = 4; «width_out» = 2; mode = Pack; tlast = Wired }
+
+pub p1-tallied : CleanTally p1 p1Take 18 p1Result (tally 1 1 2)
+unfolding size judgeAnswer repackAnswer
+p1-tallied = cleanTallies p1 p1Take 18 (tally 1 1 2) (octets-tested p1Take .1 refl) refl
+
+-- one octet short
+pub p1-unwritten : (out : List ℕ) → front (reportOf p1Sheet (some p1Take) 17 .result) out ≡ out
+unfolding reportOf sheetOf size judgeAnswer repackAnswer
+p1-unwritten = onlyWhenClean p1Sheet (some p1Take) 17 refl .kept
+
+pub p1-room : (_≢_ {A = ℕ} 5 4) × (_≢_ {A = ℕ} 5 14)
+unfolding reportOf sheetOf size judgeAnswer repackAnswer
+p1-room = neverReservedNorUnclean p1Sheet (some p1Take) 17 Room (octets-tested p1Take .1 refl) refl
+
+-- the same, of a broken take
+abbrev narrow : Option (List ℕ)
+narrow = says "width_in=1\nwidth_out=1\nmode=pack\ntlast=wired\n"
+
+pub broken-unwritten : (out : List ℕ) → front (reportOf narrow (some (cycle 0x0E 0 0 1)) 65536 .result) out ≡ out
+unfolding reportOf sheetOf size judgeAnswer
+broken-unwritten = onlyWhenClean narrow (some (cycle 0x0E 0 0 1)) 65536 refl .kept
+
+abbrev most : ℕ
+most = 18446744073709551615
+
+pub longest : length (textOf (Clean (tally most most most))) ≤ 103
+longest = textShort (Clean (tally most most most)) (omega arith, omega arith, omega arith)
+
+pub longest-broken : length (textOf (Broken most most)) ≤ 103
+longest-broken = textShort (Broken most most) (omega arith, omega arith)
+
+pub longest-refused : length (textOf (Refused (Field most))) ≤ 103
+longest-refused = textShort (Refused (Field most)) (omega arith, omega arith)

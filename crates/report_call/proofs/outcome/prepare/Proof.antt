@@ -1,0 +1,29 @@
+-- `report_call::outcome::prepare` meets its contract: nothing, or fill-in. Assumes nothing.
+use mathlib.Core.Path.{sym, ap, _∙_}
+use borrow.Author.Needs.{needs}
+use Rattle.report_setup.specs.declared.Tlast.{Tlast}
+use Rattle.report_call.specs.Report.{prepared}
+use Rattle.report_call.proofs.outcome.prepare.Statement.{statement}
+use Rattle.report_call.proofs.outcome.prepare.Tie as tie
+
+enum-told : tie.Need-enum-told
+enum-told c = search needs
+
+enum-told-2 : tie.Need-enum-told-2
+enum-told-2 c = search needs
+
+fill-in-requires : tie.Need-fill-in-requires
+fill-in-requires c κs = search needs
+
+returns : tie.Need-returns
+returns c = search needs
+
+same-length : tie.Need-same-length
+same-length c = search needs
+
+returns-2 : tie.Need-returns-2
+returns-2 c = c .before .before .fill-in .ensures .leaves ∙ sym (ap (λ (t : Tlast). prepared t (c .before .before .before .before .before .before .before .args .s) (c .before .before .before .before .before .before .before .args .capture .now)) (c .before .before .before .before .enum-told2 .given .1))
+
+pub prepare-spec : {M : Type 1} → statement M
+prepare-spec =
+    tie.close (tie.spec enum-told enum-told-2 fill-in-requires returns same-length returns-2)

@@ -1,0 +1,105 @@
+-- Worked cases of the report: P1 of paper 01, and what pins the order of the refusals and each number of the text. What is
+-- told was typed by hand and never computed. One statement covers the list (`worked` of proofs/Cases).
+use mathlib.Core.List.{List, [], _∷_, _++_}
+use mathlib.Core.Option.{Option, none, some}
+use Prim.Native.Nat.{ℕ}
+use Prim.Native.String.{String}
+use Rattle.report_setup.specs.Grammar.{text as ascii}
+use Rattle.report_call.specs.Report.{Word, saysClean, saysBroken, saysRefused, Values, verdictValues, Whole, reportOf}
+
+-- what a technician sees: the text that is printed, and the octets of `out.bin`; and the verdict's numbers
+pub record Seen : Type 0 where
+  pub numbers : Values
+  pub text : List ℕ
+  pub result : List ℕ
+
+-- the sheet and the take, each none where it can't be read; the room of the output
+pub record Case : Type 0 where
+  pub sheet : Option (List ℕ)
+  pub capture : Option (List ℕ)
+  pub room : ℕ
+  pub told : Seen
+
+abbrev pub seen : Whole → Seen
+seen w = record { numbers = verdictValues (w .verdict); text = w .text; result = w .result }
+
+unfoldable pub computed : Case → Seen
+unfolding reportOf
+computed c = seen (reportOf (c .sheet) (c .capture) (c .room))
+
+abbrev pub expected : Case → Seen
+expected c = c .told
+
+abbrev tells : Option (List ℕ) → Option (List ℕ) → ℕ → Values → String → List ℕ → Case
+tells sheet capture room numbers text result =
+    record { sheet = sheet; capture = capture; room = room; told = record { numbers = numbers; text = ascii text; result = result } }
+
+-- the word, and the numbers in this order
+abbrev shows : Word → ℕ → ℕ → ℕ → ℕ → ℕ → ℕ → Values
+shows word refusal place rule transfers packets written =
+    record { word = word; refusal = refusal; place = place; rule = rule; transfers = transfers; packets = packets; records = written }
+
+abbrev pub says : String → Option (List ℕ)
+says sheet = some (ascii sheet)
+
+-- P1's sheet, take and result
+abbrev pub p1Sheet : Option (List ℕ)
+p1Sheet = says "width_in=4\nwidth_out=2\nmode=pack\ntlast=wired\n"
+
+abbrev pub p1Take : List ℕ
+p1Take = 0x0F ∷ 0x01 ∷ 0x02 ∷ 0x0D ∷ 0x00 ∷ 0x09 ∷ 0x00 ∷ 0x11 ∷ 0x22 ∷ 0x33 ∷ 0x44 ∷ []
+
+abbrev pub p1Result : List ℕ
+p1Result =
+    0x00 ∷ 0x01 ∷ 0x02 ∷ 0x03 ∷ 0x00 ∷ 0x01 ∷ 0x00 ∷ 0x11 ∷ 0x00 ∷ 0x01 ∷ 0x01 ∷ 0x02 ∷ 0x01 ∷ 0x00 ∷ 0x01 ∷ 0x00 ∷ 0x44 ∷ 0x00 ∷ []
+
+-- a cycle of width 1 with this octet 0, TDEST, TKEEP, TSTRB; TID is 0 and the data 7
+abbrev pub cycle : ℕ → ℕ → ℕ → ℕ → List ℕ
+cycle flags tdest tkeep tstrb = flags ∷ 0x00 ∷ tdest ∷ tkeep ∷ 0x00 ∷ tstrb ∷ 0x00 ∷ 0x07 ∷ []
+
+-- a data byte 7 transferred without TLAST and with it, and the same while it waits
+abbrev plain : List ℕ
+plain = cycle 0x0E 0 1 1
+
+abbrev pub last : List ℕ
+last = cycle 0x0F 0 1 1
+
+abbrev waits : List ℕ
+waits = cycle 0x0A 0 1 1
+
+unfoldable pub cases : List Case
+cases =
+    -- case P1
+    tells p1Sheet (some p1Take) 65536 (shows saysClean 0 0 0 1 1 2) "verdict=clean\ntransfers=1\npackets=1\nrecords=2\n" p1Result
+    -- the same take sliced, as in S2
+    ∷ tells (says "width_in=4\nwidth_out=2\nmode=lanes\ntlast=wired\n") (some p1Take) 18 (shows saysClean 0 0 0 1 1 2) "verdict=clean\ntransfers=1\npackets=1\nrecords=2\n"
+    (0x00 ∷ 0x01 ∷ 0x02 ∷ 0x01 ∷ 0x00 ∷ 0x01 ∷ 0x00 ∷ 0x11 ∷ 0x00 ∷ 0x01 ∷ 0x01 ∷ 0x02 ∷ 0x03 ∷ 0x00 ∷ 0x02 ∷ 0x00 ∷ 0x00 ∷ 0x44 ∷ [])
+    -- ROOM: one octet short
+    ∷ tells p1Sheet (some p1Take) 17 (shows saysRefused 5 0 0 0 0 0) "verdict=refused\nrefusal=5\nat=0\n" []
+    -- SHEET comes first of all: unreadable, or not as 01 has it
+    ∷ tells none none 0 (shows saysRefused 15 0 0 0 0 0) "verdict=refused\nrefusal=15\nat=0\n" []
+    ∷ tells none (some p1Take) 65536 (shows saysRefused 15 0 0 0 0 0) "verdict=refused\nrefusal=15\nat=0\n" []
+    ∷ tells (says "width_in=17\nwidth_out=0\nmode=pack\ntlast=wire\n") none 0 (shows saysRefused 15 0 0 0 0 0) "verdict=refused\nrefusal=15\nat=0\n" []
+    -- WIDTH of either width, before RATIO and LENGTH
+    ∷ tells (says "width_in=17\nwidth_out=2\nmode=lanes\ntlast=none\n") none 0 (shows saysRefused 1 0 0 0 0 0) "verdict=refused\nrefusal=1\nat=0\n" []
+    ∷ tells (says "width_in=4\nwidth_out=0\nmode=lanes\ntlast=none\n") none 0 (shows saysRefused 1 0 0 0 0 0) "verdict=refused\nrefusal=1\nat=0\n" []
+    -- RATIO in lanes mode only, before LENGTH
+    ∷ tells (says "width_in=4\nwidth_out=3\nmode=lanes\ntlast=wired\n") none 0 (shows saysRefused 6 0 0 0 0 0) "verdict=refused\nrefusal=6\nat=0\n" []
+    ∷ tells (says "width_in=4\nwidth_out=3\nmode=pack\ntlast=wired\n") none 0 (shows saysRefused 2 0 0 0 0 0) "verdict=refused\nrefusal=2\nat=0\n" []
+    -- LENGTH: no whole number of records; an empty take is clean
+    ∷ tells (says "width_in=1\nwidth_out=1\nmode=pack\ntlast=none\n") (some (cycle 0xFF 0 0 0 ++ (0 ∷ []))) 0 (shows saysRefused 2 0 0 0 0 0) "verdict=refused\nrefusal=2\nat=0\n" []
+    ∷ tells (says "width_in=1\nwidth_out=1\nmode=pack\ntlast=wired\n") (some []) 0 (shows saysClean 0 0 0 0 0 0) "verdict=clean\ntransfers=0\npackets=0\nrecords=0\n" []
+    -- FIELD of any record comes before a broken verdict of an earlier cycle
+    ∷ tells (says "width_in=1\nwidth_out=1\nmode=pack\ntlast=wired\n") (some (cycle 0x02 0 0 0 ++ cycle 0x08 16 0 0)) 0 (shows saysRefused 3 1 0 0 0 0) "verdict=refused\nrefusal=3\nat=1\n" []
+    -- broken comes before ROOM; a reserved lane is rule 4 and no refusal
+    ∷ tells (says "width_in=1\nwidth_out=1\nmode=pack\ntlast=wired\n") (some (last ++ cycle 0x0E 0 0 1)) 0 (shows saysBroken 0 1 4 0 0 0) "verdict=broken\ncycle=1\nrule=4\n" []
+    -- TLAST turns while a transfer waits: broken, but not where it is filled in first
+    ∷ tells (says "width_in=1\nwidth_out=2\nmode=pack\ntlast=wired\n") (some (plain ++ waits ++ last)) 9 (shows saysBroken 0 2 3 0 0 0) "verdict=broken\ncycle=2\nrule=3\n" []
+    ∷ tells (says "width_in=1\nwidth_out=2\nmode=pack\ntlast=none\n") (some (plain ++ waits ++ last)) 9
+    (shows saysClean 0 0 0 2 0 1) "verdict=clean\ntransfers=2\npackets=0\nrecords=1\n"
+    (0x00 ∷ 0x00 ∷ 0x00 ∷ 0x03 ∷ 0x00 ∷ 0x03 ∷ 0x00 ∷ 0x07 ∷ 0x07 ∷ [])
+    -- three transfers, two packets, and records of twice the width
+    ∷ tells (says "width_in=1\nwidth_out=2\nmode=pack\ntlast=wired\n") (some (plain ++ last ++ last)) 18
+    (shows saysClean 0 0 0 3 2 2) "verdict=clean\ntransfers=3\npackets=2\nrecords=2\n"
+    (0x01 ∷ 0x00 ∷ 0x00 ∷ 0x03 ∷ 0x00 ∷ 0x03 ∷ 0x00 ∷ 0x07 ∷ 0x07 ∷ 0x01 ∷ 0x00 ∷ 0x00 ∷ 0x01 ∷ 0x00 ∷ 0x01 ∷ 0x00 ∷ 0x07 ∷ 0x00 ∷ [])
+    ∷ []

@@ -1,0 +1,154 @@
+-- What is proved of the report, a statement each. Words in quotes are paper 01's. The proofs are in proofs/Promises.
+use mathlib.Core.Path.{_≡_}
+use mathlib.Core.Bool.{Bool, true, false}
+use mathlib.Core.List.{List, [], _∷_, _++_}
+use mathlib.Core.Logic.{_≢_}
+use mathlib.Core.Option.{Option, none, some}
+use Prim.Native.Nat.{ℕ, _*_, _^_, _≤_, _<_}
+use lib.ListN.{length}
+use Rattle.refusal.specs.Code.{codeOf}
+use Rattle.refusal.specs.declared.Refusal.{Refusal}
+use Rattle.refusal.specs.declared.Refusal.the-variants.{Width, Length, Field, Reserved, Room, Ratio, Bus, Size, Kind, Count, Align, Boundary, Index, Unclean, Setup as BadSheet}
+use Rattle.stream_spec.specs.declared.Shape.{Shape}
+use Rattle.stream_spec.specs.Layout.{size, records, streamItems}
+use Rattle.refusal.specs.Checks.{Check, first}
+use Rattle.stream_spec.specs.Checks.{lengthCheck, cycleChecks, roomCheck}
+use Rattle.stream_spec.specs.Handshake.{Finding, firstFinding, transferCount}
+use Rattle.stream_spec.specs.Legal.{Octets, Legal}
+use Rattle.report_setup.specs.declared.Setup.{Setup}
+use Rattle.report_setup.specs.declared.Mode.{Mode}
+use Rattle.report_setup.specs.declared.Mode.the-variants.{Pack, Lanes}
+use Rattle.report_setup.specs.declared.Sheet.the-variants.{Read}
+use Rattle.report_setup.specs.Grammar.{sheetOf}
+use Rattle.report_call.specs.declared.Tally.{Tally}
+use Rattle.report_call.specs.declared.Verdict.{Verdict}
+use Rattle.report_call.specs.declared.Verdict.the-variants.{Clean, Broken, Refused}
+use Rattle.report_call.specs.Report.{Word, saysClean, saysBroken, saysRefused, verdictValues, shapeOf, cyclesOf, transfersOf, packetCount, convertResult, tally, setupChecks, setupOutcome, textOf, whole, reportOf, front}
+
+-- every number of a take that could be read is an octet
+abbrev pub OctetsOf : Option (List ℕ) → Type 0
+OctetsOf none = Unit {0}
+OctetsOf (some octets) = Octets octets
+
+-- the records of the result
+abbrev pub outShape : Setup → Shape
+outShape u = record { width = u .«width_out» }
+
+-- what is reported of a sheet that was read
+abbrev pub ReportsSetup : Type 0
+ReportsSetup =
+    (sheet : List ℕ) (u : Setup) → sheetOf sheet ≡ Read u → (capture : Option (List ℕ)) (room : ℕ)
+    → reportOf (some sheet) capture room ≡ whole (setupOutcome u capture room)
+
+-- ---- "`out.bin` is written only when the verdict is clean."
+
+abbrev pub cleanWord : Word → Bool
+cleanWord saysClean = true
+cleanWord saysBroken = false
+cleanWord saysRefused = false
+
+abbrev pub isClean : Verdict → Bool
+isClean v = cleanWord (verdictValues v .word)
+
+-- unless the verdict is clean there is no result, and lent memory keeps its content
+pub record WritesNothing (result : List ℕ) : Type 0 where
+  pub nothing : result ≡ []
+  pub kept : (out : List ℕ) → front result out ≡ out
+
+abbrev pub OnlyWhenClean : Type 0
+OnlyWhenClean =
+    (sheet capture : Option (List ℕ)) (room : ℕ) → isClean (reportOf sheet capture room .verdict) ≡ false
+    → WritesNothing (reportOf sheet capture room .result)
+
+-- ---- a clean verdict: its numbers are counts of the records harvested and of those in the result, which is a legal stream
+-- with the harvested transfers' items, and fits into the lent output. `packets` counts "harvested TLASTs"; the result has as
+-- many.
+
+pub record CleanTally (u : Setup) (capture : List ℕ) (room : ℕ) (result : List ℕ) (t : Tally) : Type 0 where
+  pub transfers : t .transfers ≡ length (records (shapeOf u) (transfersOf u capture))
+  pub packets : t .packets ≡ packetCount (shapeOf u) (transfersOf u capture)
+  pub packetsOut : t .packets ≡ packetCount (outShape u) result
+  pub written : t .records ≡ length (records (outShape u) result)
+  pub long : length result ≡ t .records * size (outShape u)
+  pub fits : length result ≤ room
+  pub legal : Legal (outShape u) result
+  pub items : streamItems (outShape u) result ≡ streamItems (shapeOf u) (transfersOf u capture)
+
+abbrev pub CleanTallies : Type 0
+CleanTallies =
+    (u : Setup) (capture : List ℕ) (room : ℕ) (t : Tally) → Octets capture → setupOutcome u (some capture) room .verdict ≡ Clean t
+    → CleanTally u capture room (setupOutcome u (some capture) room .result) t
+
+-- ---- which refusals show once the sheet is read: 1, 2, 3, 5, and 6 in lanes mode. So 4 and 14 never do: a reserved lane is
+-- R4, and a broken take is a verdict of its own.
+
+abbrev pub shows : Mode → Refusal → Bool
+shows m Width = true
+shows m Length = true
+shows m (Field k) = true
+shows m (Reserved k) = false
+shows m Room = true
+shows Pack Ratio = false
+shows Lanes Ratio = true
+shows m Bus = false
+shows m Size = false
+shows m Kind = false
+shows m Count = false
+shows m Align = false
+shows m Boundary = false
+shows m Index = false
+shows m (Unclean cycle rule) = false
+shows m BadSheet = false
+
+abbrev pub RefusalsShown : Type 0
+RefusalsShown =
+    (u : Setup) (capture : Option (List ℕ)) (room : ℕ) (r : Refusal) → OctetsOf capture
+    → setupOutcome u capture room .verdict ≡ Refused r → shows (u .mode) r ≡ true
+
+abbrev pub NeverReservedNorUnclean : Type 0
+NeverReservedNorUnclean =
+    (sheet capture : Option (List ℕ)) (room : ℕ) (r : Refusal) → OctetsOf capture → reportOf sheet capture room .verdict ≡ Refused r
+    → (codeOf r .0 ≢ 4) × (codeOf r .0 ≢ 14)
+
+abbrev pub PackNeverRatio : Type 0
+PackNeverRatio =
+    (sheet : List ℕ) (u : Setup) → sheetOf sheet ≡ Read u → u .mode ≡ Pack
+    → (capture : Option (List ℕ)) (room : ℕ) (r : Refusal) → OctetsOf capture → reportOf (some sheet) capture room .verdict ≡ Refused r → codeOf r .0 ≢ 6
+
+-- ---- 01's order as one list: "WIDTH of either width, RATIO in lanes mode, LENGTH, FIELD, a broken verdict, and ROOM last".
+-- For a sheet and a take that were read, the verdict is the first of these that is there, or else clean.
+
+abbrev pub orderedChecks : Setup → List ℕ → List (Check Refusal)
+orderedChecks u cycles = setupChecks u ++ lengthCheck (shapeOf u) cycles ∷ cycleChecks (shapeOf u) 0 (records (shapeOf u) cycles)
+
+abbrev pub resultOf : Setup → List ℕ → List ℕ
+resultOf u capture = convertResult (u .mode) (shapeOf u) (u .«width_out») (transfersOf u capture)
+
+-- the numbers of a clean verdict
+abbrev pub tallyOf : Setup → List ℕ → Tally
+tallyOf u capture =
+    tally (transferCount (shapeOf u) (cyclesOf u capture)) (packetCount (shapeOf u) (transfersOf u capture))
+    (length (records (outShape u) (resultOf u capture)))
+
+abbrev pub inOrder : Option Refusal → Option Finding → Option Refusal → Tally → Verdict
+inOrder (some r) finding room t = Refused r
+inOrder none (some f) room t = Broken (f .cycle) (f .rule)
+inOrder none none (some r) t = Refused r
+inOrder none none none t = Clean t
+
+abbrev pub ReportInOrder : Type 0
+ReportInOrder =
+    (u : Setup) (capture : List ℕ) (room : ℕ) → Octets capture
+    → setupOutcome u (some capture) room .verdict
+    ≡ inOrder (first (orderedChecks u (cyclesOf u capture))) (firstFinding (shapeOf u) (cyclesOf u capture))
+    (first (roomCheck (resultOf u capture) room ∷ [])) (tallyOf u capture)
+
+-- ---- a text with numbers of 64 bits has at most 103 octets
+
+abbrev pub Fits64 : Verdict → Type 0
+Fits64 (Clean t) = (t .transfers < 2 ^ 64) × (t .packets < 2 ^ 64) × (t .records < 2 ^ 64)
+Fits64 (Broken cycle rule) = (cycle < 2 ^ 64) × (rule < 2 ^ 64)
+Fits64 (Refused r) = (codeOf r .0 < 2 ^ 64) × (codeOf r .1 < 2 ^ 64)
+
+abbrev pub TextShort : Type 0
+TextShort = (v : Verdict) → Fits64 v → length (textOf v) ≤ 103

@@ -1,0 +1,173 @@
+-- The slices of one record, one after the other, stated by what remains. Assumes nothing.
+use mathlib.Core.Path.{_≡_, refl, sym, ap, ap₂, _∙_, subst}
+use mathlib.Core.Bool.{Bool, false}
+use mathlib.Core.List.{List, [], _∷_, _++_, append-assoc, append-nil}
+use mathlib.Core.Option.{Option, none}
+use Prim.Native.Nat.{ℕ, zero, suc, _+_, _-_, _*_, _/_, _%_, _≤_, _<_}
+use native.Mathlib.Nat.{suc-mul, zero-mul, div-add-mod', div-one}
+use native.Mathlib.Omega.{arith}
+use lib.Dec.{eqb}
+use lib.ListN.{length, take, drop, length-append, length-drop}
+use lib.Seq.{take-all, drop-drop}
+use Rattle.stream_spec.specs.declared.Shape.{Shape}
+use Rattle.stream_spec.specs.Items.{Transfer}
+use Rattle.stream_spec.specs.Packed.{fitted, spread, sliceTransfer}
+use Rattle.stream_spec.specs.Layout.{size, bit, odd, flags, Kept, transferOf, octetsOf, octets}
+use Rattle.stream_spec.specs.Checks.{reservedFault}
+use Rattle.stream_spec.proofs.Records.{octets-sized}
+use Rattle.stream_record.specs.declared.Header.{Header}
+use Rattle.stream_record.specs.Header.{headerOf}
+use Rattle.repack_emit.specs.Write.{Writing, Writes}
+use Rattle.repack_emit.proofs.Memory.{size-is}
+use Rattle.stream_downsize.specs.Slices.{Cuts, pairIn, lanesIn, Unreserved, sliceOf, above, slicesFrom}
+use Rattle.stream_downsize.proofs.Lanes.{fitted-lanes, lanes-long, drop-lanes, above-unreserved, lowest-unreserved}
+
+pub slice-long : (t : Shape) (h : Header) (ds : List ℕ) (last : Bool) → length (octetsOf (sliceOf (t .width) h ds last)) ≡ size t
+slice-long t h ds last = octets-sized t (sliceOf (t .width) h ds last ∷ []) (lanes-long (t .width) (h .keep) (h .strb) ds, tt) .0
+
+-- there is one slice or more
+pub slices-some : (w v : ℕ) → w % v ≡ 0 → 0 < w → 1 ≤ w / v
+slices-some w v d k = go (w / v) (div-add-mod' w v)
+  where
+    go : (q : ℕ) → q * v + w % v ≡ w → 1 ≤ q
+    go zero e = absurd (omega (arith, zero-mul v))
+    go (suc q) e = omega arith
+
+pub slices-more : (w v : ℕ) → w % v ≡ 0 → 0 < w → suc (w / v - 1) ≡ w / v
+slices-more w v d k = omega (arith, slices-some w v d k)
+
+-- w/v slices have w lanes
+pub slices-whole : (w v : ℕ) → w % v ≡ 0 → 0 < w → suc (w / v - 1) * v ≡ w
+slices-whole w v d k = rw (slices-more w v d k) (omega (arith, div-add-mod' w v))
+
+-- ---- one slice, and the others
+
+module _ (v : ℕ) (h : Header) (ds : List ℕ) where
+  first-slice : (k : ℕ) (last : Bool) → record { pair = pairIn h; lanes = fitted v (lanesIn (suc k * v) h ds); last = last } ≡ sliceOf v h ds last
+  first-slice k last =
+      ap (λ (ls : List (Option Kept)). record { pair = pairIn h; lanes = ls; last = last })
+      (fitted-lanes v (suc k * v) (h .keep) (h .strb) ds (omega (arith, suc-mul k v)))
+
+  pub last-slice : slicesFrom 0 v h ds ≡ octetsOf (sliceOf v h ds (odd (h .flags)))
+  last-slice = ap (λ (t : Transfer Kept). octetsOf t ++ []) (first-slice 0 (odd (h .flags))) ∙ append-nil (octetsOf (sliceOf v h ds (odd (h .flags))))
+
+  pub more-slices : (k : ℕ) → slicesFrom (suc k) v h ds ≡ octetsOf (sliceOf v h ds false) ++ slicesFrom k v (above v h) (drop v ds)
+  more-slices k =
+      ap₂ (λ (t : Transfer Kept) (ls : List (Option Kept)). octetsOf t ++ octets (spread k v (pairIn h) ls (odd (h .flags))))
+      (first-slice (suc k) false)
+      (ap (λ (n : ℕ). drop v (lanesIn n h ds)) (suc-mul (suc k) v) ∙ drop-lanes v (suc k * v) h ds)
+
+low-bit : (x : ℕ) → bit 0 x ≡ odd x
+low-bit x = ap (λ (n : ℕ). eqb (n % 2) 1) (div-one x)
+
+-- the slices of a record, from its header and its data octets
+pub record-slices : (s t : Shape) (rec : List ℕ) → Cuts s t → length rec ≡ size s
+    → octets (sliceTransfer (s .width) (t .width) (transferOf s rec)) ≡ slicesFrom (s .width / t .width - 1) (t .width) (headerOf rec) (drop 7 rec)
+record-slices s t rec c l =
+    let all : take (s .width) (drop 7 rec) ≡ drop 7 rec = take-all (s .width) (drop 7 rec) (rw (length-drop 7 rec) (omega (arith, size-is s))) in
+    let w : suc (s .width / t .width - 1) * t .width ≡ s .width = slices-whole (s .width) (t .width) (c .whole) (c .low) in
+    rw (all, low-bit (flags rec))
+    (ap
+    (λ (n : ℕ). octets (spread (s .width / t .width - 1) (t .width) (pairIn (headerOf rec)) (lanesIn n (headerOf rec) (drop 7 rec)) (odd (flags rec))))
+    (sym w))
+
+-- ---- the loop over a record's slices
+
+-- of the record's octets those of k slices and the last one are to be written
+pub record Slicing (t : Shape) (rec out₀ : List ℕ) (at : ℕ) (all out : List ℕ) (h : Header) (k to from : ℕ) : Type 0 where
+  pub within : from + suc k * t .width ≤ length rec
+  pub unreserved : Unreserved (suc k * t .width) h
+  pub same : length out ≡ length out₀
+  pub room : to + length (slicesFrom k (t .width) h (drop from rec)) ≤ length out
+  pub writes :
+      (before whole rest : List ℕ) → Writing before out₀ at whole (all ++ rest)
+      → Writing before out to whole (slicesFrom k (t .width) h (drop from rec) ++ rest)
+
+module _ (s t : Shape) (rec : List ℕ) (h : Header) (c : Cuts s t) (l : length rec ≡ size s) (e : h ≡ headerOf rec) where
+  slices-are : octets (sliceTransfer (s .width) (t .width) (transferOf s rec)) ≡ slicesFrom (s .width / t .width - 1) (t .width) h (drop 7 rec)
+  slices-are = rw e (record-slices s t rec c l)
+
+  pub slicing-starts : (out : List ℕ) (at : ℕ) → reservedFault s rec ≡ false
+      → at + length (octets (sliceTransfer (s .width) (t .width) (transferOf s rec))) ≤ length out
+      → Slicing t rec out at (slicesFrom (s .width / t .width - 1) (t .width) h (drop 7 rec)) out h (s .width / t .width - 1) at 7
+  slicing-starts out at f r =
+      let w : suc (s .width / t .width - 1) * t .width ≡ s .width = slices-whole (s .width) (t .width) (c .whole) (c .low) in
+      record {
+        within = omega (arith, w, l, size-is s);
+        unreserved = rw (w, e) f;
+        same = refl;
+        room = omega (arith, r, ap length slices-are);
+        writes = λ before whole rest g. g;
+      }
+
+  -- what was written is the record's slices
+  pub slicing-told : (out : List ℕ) (at : ℕ) (after : List ℕ) (next : ℕ)
+      → Writes (slicesFrom (s .width / t .width - 1) (t .width) h (drop 7 rec)) out at after next
+      → Writes (octets (sliceTransfer (s .width) (t .width) (transferOf s rec))) out at after next
+  slicing-told out at after next w = rw slices-are w
+
+module _ (t : Shape) (rec out₀ : List ℕ) (at : ℕ) (all out : List ℕ) (h : Header) where
+  -- any slice's lanes
+  pub slicing-lanes : (k to from : ℕ) → Slicing t rec out₀ at all out h k to from → from + t .width ≤ length rec
+  slicing-lanes k to from s = omega (arith, s .within, suc-mul k (t .width))
+
+  pub slicing-unreserved : (k to from : ℕ) → Slicing t rec out₀ at all out h k to from → Unreserved (t .width) h
+  slicing-unreserved k to from s = lowest-unreserved (t .width) (suc k * t .width) h (omega (arith, suc-mul k (t .width))) (s .unreserved)
+
+  module _ (k to from : ℕ) (s : Slicing t rec out₀ at all out h (suc k) to from) where
+    abbrev this : List ℕ
+    this = octetsOf (sliceOf (t .width) h (drop from rec) false)
+
+    abbrev later : List ℕ
+    later = slicesFrom k (t .width) (above (t .width) h) (drop (from + t .width) rec)
+
+    split : slicesFrom (suc k) (t .width) h (drop from rec) ≡ this ++ later
+    split = more-slices (t .width) h (drop from rec) k ∙ rw (drop-drop (t .width) from rec) refl
+
+    split-long : length (slicesFrom (suc k) (t .width) h (drop from rec)) ≡ size t + length later
+    split-long = ap length split ∙ length-append this later ∙ ap (λ (n : ℕ). n + length later) (slice-long t h (drop from rec) false)
+
+    more-room : to + size t ≤ length out
+    more-room = omega (arith, s .room, split-long)
+
+    more-next : (after : List ℕ) (next : ℕ) → next ≡ to + size t → length after ≡ length out → Writes this out to after next
+        → Slicing t rec out₀ at all after (above (t .width) h) k next (from + t .width)
+    more-next after next n l w =
+        record {
+          within = omega (arith, s .within, suc-mul (suc k) (t .width));
+          unreserved = above-unreserved (t .width) (suc k * t .width) h (subst (λ (m : ℕ). Unreserved m h) (suc-mul (suc k) (t .width)) (s .unreserved));
+          same = l ∙ s .same;
+          room = omega (arith, s .room, split-long);
+          writes =
+              λ before whole rest f.
+              w before whole (later ++ rest)
+              (subst (λ (xs : List ℕ). Writing before out to whole xs) (ap (λ (xs : List ℕ). xs ++ rest) split ∙ append-assoc this later rest)
+              (s .writes before whole rest f));
+        }
+
+  -- the same for the code, which counts k down
+  module _ (k to from : ℕ) (s : Slicing t rec out₀ at all out h k to from) (p : 0 < k) where
+    counted : Slicing t rec out₀ at all out h (suc (k - 1)) to from
+    counted = let one : k ≡ suc (k - 1) = omega arith in subst (λ (m : ℕ). Slicing t rec out₀ at all out h m to from) one s
+
+    pub slicing-room : to + size t ≤ length out
+    slicing-room = more-room (k - 1) to from counted
+
+    pub slicing-next : (after : List ℕ) (next : ℕ) (g : Header) → g ≡ above (t .width) h → next ≡ to + size t → length after ≡ length out
+        → Writes (octetsOf (sliceOf (t .width) h (drop from rec) false)) out to after next
+        → Slicing t rec out₀ at all after g (k - 1) next (from + t .width)
+    slicing-next after next g e n l w = rw e (more-next (k - 1) to from counted after next n l w)
+
+  module _ (k to from : ℕ) (s : Slicing t rec out₀ at all out h k to from) (p : k ≤ 0) where
+    only : Slicing t rec out₀ at all out h 0 to from
+    only = let none : k ≡ 0 = omega arith in subst (λ (m : ℕ). Slicing t rec out₀ at all out h m to from) none s
+
+    pub slicing-last-room : to + size t ≤ length out
+    slicing-last-room = omega (arith, only .room, ap length (last-slice (t .width) h (drop from rec)), slice-long t h (drop from rec) (odd (h .flags)))
+
+    pub slicing-done : (after : List ℕ) (next : ℕ) → Writes (octetsOf (sliceOf (t .width) h (drop from rec) (odd (h .flags)))) out to after next
+        → Writes all out₀ at after next
+    slicing-done after next w =
+        λ before whole rest f.
+        w before whole rest
+        (subst (λ (xs : List ℕ). Writing before out to whole (xs ++ rest)) (last-slice (t .width) h (drop from rec)) (only .writes before whole rest f))

@@ -1,0 +1,66 @@
+// Fill-in of TLAST, for ports that have no such wire: bit 0 of octet 0 of every record of a lent take is set to a level, and
+// nothing else is touched. Judging is in the crate stream_judge, harvesting in stream_harvest.
+use refusal::Refusal;
+use stream_spec::Shape;
+use stream_spec::Written;
+ghost use mathlib.Core.Path.{_≡_};
+ghost use Prim.Native.Nat.{_≤_, _<_};
+ghost use lib.ListN.{length};
+ghost use Rattle.stream_spec.specs.Layout.{bitOf};
+ghost use Rattle.stream_spec.specs.Handshake.{baseLevel, withLast};
+ghost use Rattle.stream_spec.specs.Answers.{FilledIn};
+ghost use Rattle.stream_fill_in.specs.Filling.{Fills, Filled};
+
+// A level as a bit.
+fn bit(level: bool) -> u8
+    ensures { λ r. ⌜ (r ≡ bitOf level) × (r ≤ 1) ⌝ }
+{
+    if level {
+        return 1;
+    }
+    0
+}
+
+// Sets TLAST of the record at the front of `rec`.
+fn put_last(rec: &mut [u8], level: bool)
+    requires { ⌜ 0 < length (now rec) ⌝ }
+    ensures { λ _. ⌜ now (rec .exit) ≡ withLast level (now (rec .entry)) ⌝ }
+{
+    rec[0] = rec[0] / 2 * 2 + bit(level);
+}
+
+// Sets TLAST of each record, and answers how many there are. Width and length have passed their tests. Each record is
+// written by a helper lent the take from its offset on.
+fn fill(s: Shape, capture: &mut [u8], level: bool) -> usize
+    requires { ⌜ Fills s (now capture) ⌝ }
+    ensures { λ r. ⌜ Filled level s (now (capture .entry)) (now (capture .exit)) r ⌝ }
+{
+    let mut at = 0;
+    let mut k = 0;
+    while at < capture.len() {
+        put_last(&mut capture[at..], level);
+        at += stream_record::record_size(s);
+        k += 1;
+    }
+    k
+}
+
+// Sets TLAST of every record of the lent take to this level. Only a width or a length is refused.
+pub fn set_last(s: Shape, capture: &mut [u8], level: bool) -> Written
+    ensures { λ r. ⌜ FilledIn level s (now (capture .entry)) (now (capture .exit)) r ⌝ }
+{
+    if stream_record::bad_width(s.width) {
+        return Written::Refused(Refusal::Width);
+    }
+    if stream_record::bad_length(s, capture) {
+        return Written::Refused(Refusal::Length);
+    }
+    Written::Records(fill(s, capture, level))
+}
+
+// Fill-in as paper 01 has it: low.
+pub fn fill_in(s: Shape, capture: &mut [u8]) -> Written
+    ensures { λ r. ⌜ FilledIn baseLevel s (now (capture .entry)) (now (capture .exit)) r ⌝ }
+{
+    set_last(s, capture, false)
+}

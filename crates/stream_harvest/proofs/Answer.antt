@@ -1,0 +1,168 @@
+-- Harvest's answer from judge's verdict: a refused take is refused alike, a broken one is unclean, and of a clean one only
+-- the room is left to be seen. Assumes nothing.
+use mathlib.Core.Path.{_≡_, refl, sym, ap, ap₂, _∙_}
+use mathlib.Core.Bool.{Bool, true, false}
+use mathlib.Core.List.{List, [], _∷_, _++_, map}
+use mathlib.Core.Option.{Option, none, some}
+use Prim.Native.Nat.{ℕ, _*_, _≤_, _<_}
+use native.Mathlib.Nat.{mul-le-mul-right, div-mul-le-self}
+use native.Mathlib.Omega.{arith}
+use borrow.Author.Tests.{lt-ltb, le-ltb}
+use lib.ListN.{length, drop, length-map}
+use Rattle.refusal.specs.declared.Refusal.{Refusal}
+use Rattle.refusal.specs.declared.Refusal.the-variants.{Unclean, Room}
+use Rattle.stream_spec.specs.declared.Shape.{Shape}
+use Rattle.stream_spec.specs.declared.Verdict.{Verdict}
+use Rattle.stream_spec.specs.declared.Verdict.the-variants.{Clean, Broken, Refused}
+use Rattle.stream_spec.specs.declared.Written.{Written}
+use Rattle.stream_spec.specs.declared.Written.the-variants.{Records, Refused as NotWritten}
+use Rattle.stream_spec.specs.Layout.{size, records, recordCount}
+use Rattle.refusal.specs.Checks.{Check, first}
+use Rattle.stream_spec.specs.Checks.{widthCheck, lengthCheck, cycleChecks, roomCheck}
+use Rattle.stream_spec.specs.Handshake.{Finding, findings, firstFinding, transferred, handshakes, asTransfer, transferCount, harvested}
+use Rattle.stream_spec.specs.Answers.{verdict, writtenValues, judgeChecks, judgeAnswer, uncleanCheck, harvestRefusal, harvestAnswer, harvestAfter, Harvested}
+use Rattle.refusal.proofs.First.{first-none}
+use Rattle.stream_spec.proofs.Records.{size-pos, Sized, length-joined, length-pieces, records-sized}
+use Rattle.stream_spec.proofs.Repack.{width-fits, length-fits}
+use Rattle.stream_spec.proofs.Harvest.{fewer, length-kept}
+use Rattle.stream_harvest.specs.Filling.{TakeFits}
+
+-- ---- the first refusal, from the verdict
+
+abbrev orElse : Option Refusal → Option Refusal → Option Refusal
+orElse (some r) o = some r
+orElse none o = o
+
+first-append : (cs ds : List (Check Refusal)) → first (cs ++ ds) ≡ orElse (first cs) (first ds)
+first-append [] ds = refl
+first-append (c ∷ cs) ds = go (c .found) refl (first-append cs ds)
+  where
+    go : (b : Bool) → c .found ≡ b → first (cs ++ ds) ≡ orElse (first cs) (first ds) → first (c ∷ cs ++ ds) ≡ orElse (first (c ∷ cs)) (first ds)
+    go true e ih = rw e refl
+    go false e ih = rw e ih
+
+abbrev uncleanOf : Option Finding → Option Refusal
+uncleanOf (some f) = some (Unclean (f .cycle) (f .rule))
+uncleanOf none = none
+
+unclean-first : (fs : List (Check Finding)) → first (map uncleanCheck fs) ≡ uncleanOf (first fs)
+unclean-first [] = refl
+unclean-first (f ∷ fs) = go (f .found) refl (unclean-first fs)
+  where
+    go : (b : Bool) → f .found ≡ b → first (map uncleanCheck fs) ≡ uncleanOf (first fs) → first (map uncleanCheck (f ∷ fs)) ≡ uncleanOf (first (f ∷ fs))
+    go true e ih = rw e refl
+    go false e ih = rw e ih
+
+-- what a verdict leaves: a refusal, or else what follows
+abbrev refusalOf : Verdict → Option Refusal → Option Refusal
+refusalOf (Refused r) o = some r
+refusalOf (Broken cycle rule) o = some (Unclean cycle rule)
+refusalOf (Clean n) o = o
+
+left-of : (j : Option Refusal) (f : Option Finding) (n : ℕ) (o : Option Refusal) → orElse j (orElse (uncleanOf f) o) ≡ refusalOf (verdict j f n) o
+left-of (some r) f n o = refl
+left-of none (some f) n o = refl
+left-of none none n o = refl
+
+-- what a clean verdict says: nothing is refused, and its number is the count
+record IsClean (j : Option Refusal) (n m : ℕ) : Type 0 where
+  accepted : j ≡ none
+  count : n ≡ m
+
+is-clean : (j : Option Refusal) (f : Option Finding) (n m : ℕ) → Clean n ≡ verdict j f m → IsClean j n m
+is-clean (some r) f n m e = let z : _≡_ {A = ℕ} 0 1 = cc in absurd (omega arith)
+is-clean none (some f) n m e = let z : _≡_ {A = ℕ} 0 1 = cc in absurd (omega arith)
+is-clean none none n m e = record { accepted = refl; count = cc }
+
+-- ---- how long what is harvested is
+
+pub kept-sized : (n : ℕ) (cs : List (List ℕ)) → 0 < n → Sized n cs → Sized n (map asTransfer (handshakes cs))
+kept-sized n [] h z = tt
+kept-sized n (c ∷ cs) h z = go (transferred c) refl (kept-sized n cs h (z .1))
+  where
+    go : (t : Bool) → transferred c ≡ t → Sized n (map asTransfer (handshakes cs)) → Sized n (map asTransfer (handshakes (c ∷ cs)))
+    go true e ih = rw e (length-kept n c h (z .0), ih)
+    go false e ih = rw e ih
+
+module _ (s : Shape) (xs : List ℕ) where
+  pub harvested-long : length (harvested s xs) ≡ transferCount s xs * size s
+  harvested-long =
+      length-joined (size s) (map asTransfer (handshakes (records s xs))) (kept-sized (size s) (records s xs) (size-pos s) (records-sized s xs))
+      ∙ ap (λ (n : ℕ). n * size s) (length-map (handshakes (records s xs)) asTransfer)
+
+  harvested-short : transferCount s xs * size s ≤ length xs
+  harvested-short =
+      omega (
+        arith,
+        mul-le-mul-right (size s) (fewer (records s xs)),
+        ap (λ (n : ℕ). n * size s) (length-pieces (size s) (recordCount s xs) xs),
+        div-mul-le-self (length xs) (size s),
+      )
+
+-- ---- the answers
+
+module _ (s : Shape) (xs : List ℕ) (v : Verdict) (judged : v ≡ judgeAnswer s xs) where
+  left : (room : ℕ) → harvestRefusal s xs room ≡ refusalOf v (first (roomCheck (harvested s xs) room ∷ []))
+  unfolding judgeAnswer
+  left room =
+      let rules = map uncleanCheck (findings s 0 none (records s xs)) in
+      let roomy = roomCheck (harvested s xs) room ∷ [] in
+      first-append (judgeChecks s xs) (rules ++ roomy)
+      ∙ ap (orElse (first (judgeChecks s xs)))
+      (first-append rules roomy ∙ ap (λ (o : Option Refusal). orElse o (first roomy)) (unclean-first (findings s 0 none (records s xs))))
+      ∙ left-of (first (judgeChecks s xs)) (firstFinding s xs) (transferCount s xs) (first roomy)
+      ∙ sym (ap (λ (x : Verdict). refusalOf x (first roomy)) judged)
+
+  module _ (before : List ℕ) where
+    refused-by : (r : Refusal) → harvestRefusal s xs (length before) ≡ some r → Harvested s xs before before (NotWritten r)
+    unfolding harvestAnswer harvestAfter
+    refused-by r e = record { is = rw e refl; says = rw e refl; leaves = rw e refl }
+
+    pub harvest-refused : (r : Refusal) → v ≡ Refused r → Harvested s xs before before (NotWritten r)
+    harvest-refused r e = refused-by r (left (length before) ∙ ap (λ (x : Verdict). refusalOf x (first (roomCheck (harvested s xs) (length before) ∷ []))) e)
+
+    pub harvest-broken : (cycle rule : ℕ) → v ≡ Broken cycle rule → Harvested s xs before before (NotWritten (Unclean cycle rule))
+    harvest-broken cycle rule e =
+        refused-by (Unclean cycle rule) (left (length before) ∙ ap (λ (x : Verdict). refusalOf x (first (roomCheck (harvested s xs) (length before) ∷ []))) e)
+
+  module _ (n : ℕ) (clean : v ≡ Clean n) where
+    passed : IsClean (first (judgeChecks s xs)) n (transferCount s xs)
+    unfolding judgeAnswer
+    passed = is-clean (first (judgeChecks s xs)) (firstFinding s xs) n (transferCount s xs) (sym clean ∙ judged)
+
+    tests : (widthCheck (s .width) .found ≡ false) × (lengthCheck s xs .found ≡ false)
+    tests =
+        let w = first-none (widthCheck (s .width)) (lengthCheck s xs ∷ cycleChecks s 0 (records s xs)) (passed .accepted) in
+        (w .0, first-none (lengthCheck s xs) (cycleChecks s 0 (records s xs)) (w .1) .0)
+
+    pub clean-width : s .width ≤ 16
+    clean-width = width-fits (s .width) (tests .0) .high
+
+    -- the code has the record's size in z
+    module _ (z : ℕ) (q : z ≡ size s) where
+      long-is : n * z ≡ length (harvested s xs)
+      long-is = ap₂ (λ (a b : ℕ). a * b) (passed .count) q ∙ sym (harvested-long s xs)
+
+      pub clean-short : n * z ≤ 65536
+      clean-short = omega (arith, long-is, harvested-long s xs, harvested-short s xs, length-fits s xs (tests .1) .0)
+
+      module _ (before : List ℕ) where
+        by-room : harvestRefusal s xs (length before) ≡ first (roomCheck (harvested s xs) (length before) ∷ [])
+        by-room = left (length before) ∙ ap (λ (x : Verdict). refusalOf x (first (roomCheck (harvested s xs) (length before) ∷ []))) clean
+
+        pub harvest-room : length before < n * z → Harvested s xs before before (NotWritten Room)
+        harvest-room l =
+            let short : length before < length (harvested s xs) = omega (arith, long-is) in
+            refused-by before Room (by-room ∙ rw (lt-ltb (length before) (length (harvested s xs)) short) refl)
+
+        pub harvest-fits : n * z ≤ length before → TakeFits s xs before
+        harvest-fits l = record { low = width-fits (s .width) (tests .0) .low; width = clean-width; whole = length-fits s xs (tests .1) .1; room = omega (arith, long-is) }
+
+        pub harvest-written : n * z ≤ length before → (after : List ℕ) → after ≡ harvested s xs ++ drop (length (harvested s xs)) before
+            → Harvested s xs before after (Records n)
+        unfolding harvestAnswer harvestAfter
+        harvest-written l after e =
+            let fits : length (harvested s xs) ≤ length before = omega (arith, long-is) in
+            let taken : harvestRefusal s xs (length before) ≡ none = by-room ∙ rw (le-ltb (length before) (length (harvested s xs)) fits) refl in
+            let told = ap {B = Written} Records (passed .count) in
+            record { is = rw taken told; says = rw taken (ap writtenValues told); leaves = rw taken e }

@@ -1,0 +1,202 @@
+// Judging a take of cycle records against the handshake rules. A record's octets are read by the crate stream_record; what the
+// rules say is in stream_spec's Handshake.
+use stream_record::Header;
+use stream_record::Zeros;
+use refusal::Refusal;
+use stream_spec::Shape;
+use stream_spec::Verdict;
+ghost use mathlib.Core.Path.{_≡_};
+ghost use mathlib.Core.List.{List};
+ghost use Prim.Native.Nat.{ℕ, _+_, _≤_, _<_, _%_};
+ghost use lib.ListN.{length, take, drop};
+ghost use mathlib.Core.Bool.{Bool, _&&_, not, true};
+ghost use mathlib.Core.Option.{Option, none, some};
+ghost use Rattle.stream_spec.specs.Layout.{size, records, bit, bitOf};
+ghost use Rattle.stream_spec.specs.Checks.{cycleFlags};
+ghost use Rattle.stream_spec.specs.Handshake.{sameOctets, differs};
+ghost use Rattle.stream_record.specs.Zeros.{zerosOf};
+ghost use Rattle.stream_spec.specs.Answers.{Judged};
+ghost use Rattle.stream_judge.specs.Scan.{beforeOf, lowestRule, scanned, start, found, CycleAt, Passed};
+
+// Whether some of the four octets from octet i on differ between two records.
+fn differ4(prev: &[u8], rec: &[u8], i: usize) -> bool
+    requires { ⌜ (i + 4 ≤ length (now prev)) × (i + 4 ≤ length (now rec)) ⌝ }
+    ensures { λ r. ⌜ r ≡ not (sameOctets (take 4 (drop i (now (prev .entry)))) (take 4 (drop i (now (rec .entry))))) ⌝ }
+{
+    words::load4(prev, i) != words::load4(rec, i)
+}
+
+// The same for eight octets.
+fn differ8(prev: &[u8], rec: &[u8], i: usize) -> bool
+    requires { ⌜ (i + 8 ≤ length (now prev)) × (i + 8 ≤ length (now rec)) ⌝ }
+    ensures { λ r. ⌜ r ≡ not (sameOctets (take 8 (drop i (now (prev .entry)))) (take 8 (drop i (now (rec .entry))))) ⌝ }
+{
+    words::load8(prev, i) != words::load8(rec, i)
+}
+
+// Whether some octet from 1 on, or TLAST, differs between two records of one size: groups that may overlap are compared.
+fn changed(prev: &[u8], rec: &[u8]) -> bool
+    requires { ⌜ (length (now prev) ≡ length (now rec)) × (8 ≤ length (now rec)) × (length (now rec) ≤ 23) ⌝ }
+    ensures { λ r. ⌜ r ≡ differs (some (now (prev .entry))) (now (rec .entry)) ⌝ }
+{
+    if prev[0] % 2 != rec[0] % 2 {
+        return true;
+    }
+    let n = rec.len();
+    if n == 8 {
+        if differ4(prev, rec, 1) {
+            return true;
+        }
+        return differ4(prev, rec, 4);
+    }
+    if differ8(prev, rec, 1) {
+        return true;
+    }
+    if differ8(prev, rec, n - 8) {
+        return true;
+    }
+    if 17 < n {
+        return differ8(prev, rec, 9);
+    }
+    false
+}
+
+// Whether a cycle with these flags waits.
+fn waiting(flags: u32) -> bool
+    ensures { λ r. ⌜ r ≡ (bit 3 flags && bit 1 flags && not (bit 2 flags)) ⌝ }
+{
+    if flags / 8 % 2 != 1 {
+        return false;
+    }
+    if flags / 2 % 2 != 1 {
+        return false;
+    }
+    flags / 4 % 2 != 1
+}
+
+// The transfers of a cycle with these flags: 1 where all three are high, else 0.
+pub fn transfers(flags: u32) -> usize
+    ensures { λ r. ⌜ r ≡ bitOf (bit 3 flags && bit 1 flags && bit 2 flags) ⌝ }
+{
+    if flags / 8 % 2 != 1 {
+        return 0;
+    }
+    if flags / 2 % 2 != 1 {
+        return 0;
+    }
+    if flags / 4 % 2 != 1 {
+        return 0;
+    }
+    1
+}
+
+// Whether the record before waited and this one differs from it.
+fn moved(waited: bool, prev: &[u8], rec: &[u8]) -> bool
+    requires { ⌜ (waited ≡ true → (length (now prev) ≡ length (now rec)) × (8 ≤ length (now rec)) × (length (now rec) ≤ 23)) ⌝ }
+    ensures { λ r. ⌜ r ≡ (waited && differs (some (now (prev .entry))) (now (rec .entry))) ⌝ }
+{
+    if waited {
+        return changed(prev, rec);
+    }
+    false
+}
+
+// The lowest rule that the record breaks, or 0. `prev` is the record before it, and read only where that one waited.
+fn rule_of(s: Shape, h: Header, waited: bool, prev: &[u8], rec: &[u8], k: usize) -> u32
+    requires { ⌜ CycleAt s h waited (now prev) (now rec) k ⌝ }
+    ensures { λ r. ⌜ r ≡ lowestRule s (beforeOf k (now (prev .entry))) (now (rec .entry)) ⌝ }
+{
+    let flags = h.flags;
+    if flags / 8 % 2 != 1 {
+        if flags / 2 % 2 == 1 {
+            return 1;
+        }
+        return 0;
+    }
+    if flags / 2 % 2 != 1 {
+        if waited {
+            return 2;
+        }
+        return 0;
+    }
+    if moved(waited, prev, rec) {
+        return 3;
+    }
+    if stream_record::reserved(h) {
+        return 4;
+    }
+    0
+}
+
+// A finding stands, of this cycle and rule. The cycles from cycle j on, whose records begin at octet `from`, are only looked
+// through for a bit that must be zero.
+fn broken(
+    s: Shape,
+    z: Zeros,
+    capture: &[u8],
+    from: usize,
+    j: usize,
+    cycle: usize,
+    rule: u32,
+) -> Verdict
+    requires { ⌜ Passed s (now capture) × (z ≡ zerosOf cycleFlags s) × (from ≤ length (now capture)) × (length (drop from (now capture)) % size s ≡ 0) × (j ≤ from) × (0 < rule) ⌝ }
+    ensures { λ r. ⌜ ((before : Option (List ℕ)) (count : ℕ) (wait : Bool) → r ≡ scanned s before j (records s (drop from (now (capture .entry)))) (found count cycle rule wait)) ⌝ }
+{
+    let size = stream_record::record_size(s);
+    let mut at = from;
+    let mut k = j;
+    while at < capture.len() {
+        let next = at + size;
+        if stream_record::breaks(&capture[at..next], z) {
+            return Verdict::Refused(Refusal::Field(k));
+        }
+        at = next;
+        k += 1;
+    }
+    Verdict::Broken(cycle, rule)
+}
+
+// Judges the cycles of a take whose width and length have passed their tests.
+fn judge_cycles(s: Shape, capture: &[u8]) -> Verdict
+    requires { ⌜ Passed s (now capture) ⌝ }
+    ensures { λ r. ⌜ r ≡ scanned s none 0 (records s (now (capture .entry))) start ⌝ }
+{
+    let size = stream_record::record_size(s);
+    let z = stream_record::must_be_zero(4, s);
+    let mut count = 0;
+    let mut waited = false;
+    let mut from = 0;
+    let mut at = 0;
+    let mut k = 0;
+    while at < capture.len() {
+        let next = at + size;
+        if stream_record::breaks(&capture[at..next], z) {
+            return Verdict::Refused(Refusal::Field(k));
+        }
+        let h = stream_record::read_header(&capture[at..next]);
+        let rule = rule_of(s, h, waited, &capture[from..at], &capture[at..next], k);
+        if rule != 0 {
+            return broken(s, z, capture, next, k + 1, k, rule);
+        }
+        count += transfers(h.flags);
+        waited = waiting(h.flags);
+        from = at;
+        at = next;
+        k += 1;
+    }
+    Verdict::Clean(count)
+}
+
+// Judges a take of cycle records: clean with the count of its transfers, or broken with the earliest cycle that breaks a
+// rule and the lowest rule it breaks, or refused.
+pub fn judge(s: Shape, capture: &[u8]) -> Verdict
+    ensures { λ r. ⌜ Judged s (now (capture .entry)) r ⌝ }
+{
+    if stream_record::bad_width(s.width) {
+        return Verdict::Refused(Refusal::Width);
+    }
+    if stream_record::bad_length(s, capture) {
+        return Verdict::Refused(Refusal::Length);
+    }
+    judge_cycles(s, capture)
+}

@@ -1,0 +1,94 @@
+-- The data octets of a record: what the tests on the way give, and that the part lies in the take. Assumes nothing.
+use mathlib.Core.Path.{_≡_, refl, sym, ap, _∙_}
+use mathlib.Core.Bool.{true, false}
+use mathlib.Core.List.{List, []}
+use mathlib.Core.Option.{Option, none, some}
+use Prim.Native.Nat.{ℕ, _+_, _-_, _*_, _≤_, _<_}
+use native.Mathlib.Omega.{arith}
+use borrow.Author.Tests.{le-leb, lt-leb}
+use lib.ListN.{length, take, drop}
+use lib.Seq.{drop-drop}
+use Rattle.refusal.specs.declared.Refusal.{Refusal}
+use Rattle.refusal.specs.declared.Refusal.the-variants.{Width, Length, Index}
+use Rattle.stream_spec.specs.declared.Shape.{Shape}
+use Rattle.stream_spec.specs.declared.Lookup.{Lookup}
+use Rattle.stream_spec.specs.declared.Lookup.the-variants.{Present, Refused}
+use Rattle.stream_spec.specs.Layout.{size, recordCount}
+use Rattle.stream_spec.specs.Checks.{widthCheck, lengthCheck}
+use Rattle.stream_spec.specs.Answers.{LookedUp, lookup, lookupValues, dataRefusal, dataAnswer, dataPart, dataStart}
+use Rattle.stream_spec.proofs.Promises.{data-there, record-there}
+
+module _ (s : Shape) (xs : List ℕ) (k : ℕ) where
+  looked : (r : Option Refusal) → dataRefusal s xs k ≡ r → LookedUp s xs k (lookup r)
+  unfolding dataAnswer
+  looked r e = record { is = ap lookup (sym e); says = ap (λ (r : Option Refusal). lookupValues (lookup r)) (sym e) }
+
+  pub looked-width : widthCheck (s .width) .found ≡ true → LookedUp s xs k (Refused Width)
+  looked-width w = looked (some Width) (rw w refl)
+
+  pub looked-length : widthCheck (s .width) .found ≡ false → lengthCheck s xs .found ≡ true → LookedUp s xs k (Refused Length)
+  looked-length w l = looked (some Length) (rw (w, l) refl)
+
+  pub looked-index : widthCheck (s .width) .found ≡ false → lengthCheck s xs .found ≡ false → recordCount s xs ≤ k → LookedUp s xs k (Refused Index)
+  looked-index w l i = looked (some Index) (rw (w, l, le-leb (recordCount s xs) k i) refl)
+
+  pub looked-present : widthCheck (s .width) .found ≡ false → lengthCheck s xs .found ≡ false → k < recordCount s xs → LookedUp s xs k Present
+  looked-present w l i = looked none (rw (w, l, lt-leb (recordCount s xs) k i) refl)
+
+  -- what an answer says of the refusal behind it
+  answered : (r : Option Refusal) → dataRefusal s xs k ≡ r → Present ≡ lookup r → dataRefusal s xs k ≡ none
+  answered none e h = e
+  answered (some f) e h = let z : _≡_ {A = ℕ} 0 1 = cc in absurd (omega arith)
+
+  pub found-there : (r : Lookup) → r ≡ Present → LookedUp s xs k r → dataRefusal s xs k ≡ none
+  unfolding dataAnswer
+  found-there r e h = answered (dataRefusal s xs k) refl (sym e ∙ h .is)
+
+  -- an accepted call hands out the record's data, which lies in the take; z is the record's size
+  pub part-within : (z : ℕ) → z ≡ size s → dataRefusal s xs k ≡ none → k * z + 7 + s .width ≤ length xs
+  unfolding size
+  part-within z q e = rw q (omega (arith, record-there s xs k (data-there s xs k e .1)))
+
+  start-refused : (f : Refusal) (r : Option Refusal) → dataRefusal s xs k ≡ r → Refused f ≡ lookup r → 0 ≡ dataStart s xs k
+  unfolding dataStart
+  start-refused f none e h = let z : _≡_ {A = ℕ} 0 1 = cc in absurd (omega arith)
+  start-refused f (some g) e h = rw e refl
+
+  -- a refused call starts nowhere, and an accepted one behind the record's header
+  pub no-start : (r : Lookup) (f : Refusal) → r ≡ Refused f → LookedUp s xs k r → 0 ≡ dataStart s xs k
+  unfolding dataAnswer
+  no-start r f e h = start-refused f (dataRefusal s xs k) refl (sym e ∙ h .is)
+
+  pub start-present : (z : ℕ) → z ≡ size s → dataRefusal s xs k ≡ none → k * z + 7 ≡ dataStart s xs k
+  unfolding dataStart
+  start-present z q e = rw (e, q) refl
+
+  -- ---- the part by where it starts, a
+
+  pub part-refused : (a : ℕ) → a ≡ dataStart s xs k → a ≡ 0 → [] ≡ dataPart s xs k
+  unfolding dataStart dataPart
+  part-refused a e h = go (dataRefusal s xs k) refl
+    where
+      go : (r : Option Refusal) → dataRefusal s xs k ≡ r → [] ≡ dataPart s xs k
+      go none q = absurd (omega (arith, h, start-present (size s) refl q, e))
+      go (some f) q = rw q refl
+
+  starts : (a : ℕ) → a ≡ dataStart s xs k → (a ≡ 0 → ⊥) → dataRefusal s xs k ≡ none
+  unfolding dataStart
+  starts a e h = go (dataRefusal s xs k) refl
+    where
+      go : (r : Option Refusal) → dataRefusal s xs k ≡ r → dataRefusal s xs k ≡ none
+      go none q = q
+      go (some f) q = absurd (h (e ∙ rw q refl))
+
+  pub part-inside : (a : ℕ) → a ≡ dataStart s xs k → (a ≡ 0 → ⊥) → a + s .width ≤ length xs
+  part-inside a e h =
+      let q = starts a e h in
+      omega (arith, e, start-present (size s) refl q, part-within (size s) refl q)
+
+  pub part-present : (a : ℕ) → a ≡ dataStart s xs k → (a ≡ 0 → ⊥) → take (a + s .width - a) (drop a xs) ≡ dataPart s xs k
+  unfolding dataPart
+  part-present a e h =
+      let q = starts a e h in
+      let width : a + s .width - a ≡ s .width = omega arith in
+      rw (q, width, e, ← start-present (size s) refl q, drop-drop 7 (k * size s) xs) refl

@@ -1,0 +1,160 @@
+-- What an accepted harvest writes is a legal stream: its cycles had no bad field, and no rule is broken, so none of those
+-- with ARESETn and TVALID high has a reserved lane (R4). Assumes nothing.
+use mathlib.Core.Path.{_≡_, refl, ap}
+use mathlib.Core.Bool.{Bool, true, false, _&&_, _||_}
+use mathlib.Core.List.{List, [], _∷_, _++_, map}
+use mathlib.Core.Option.{Option, none, some}
+use Prim.Native.Nat.{ℕ, suc, _+_, _*_, _%_, _^_, _≤_, _<_}
+use borrow.Author.Tests.{le-ltb, eq-eqb}
+use native.Mathlib.Nat.{le-trans, mul-mod-left, mul-le-mul-right, div-mul-le-self}
+use native.Mathlib.Omega.{arith}
+use lib.Dec.{leb, ltb}
+use lib.ListN.{length, length-map}
+use Rattle.refusal.specs.declared.Refusal.the-variants.{Field}
+use Rattle.stream_spec.specs.declared.Shape.{Shape}
+use Rattle.stream_spec.specs.Layout.{tlast, tvalid, aresetn, tready, pairOf, tkeep, tstrb, laneTypes, anyReserved, size, records, recordCount, joined, packed}
+use Rattle.refusal.specs.Checks.{Check, check, first}
+use Rattle.stream_spec.specs.Checks.{fieldFault, reservedFault, transferFlags, cycleFlags, captureMost, transferChecks, cycleChecks, widthCheck, lengthCheck, roomCheck}
+use Rattle.stream_spec.specs.Handshake.{r4, Finding, findings, transferred, handshakes, asTransfer, harvested}
+use Rattle.stream_spec.specs.Answers.{judgeChecks, uncleanCheck, harvestRefusal}
+use Rattle.stream_spec.specs.Legal.{Octets}
+use Rattle.stream_spec.specs.Promises.{HarvestLegal, HarvestRepacks}
+use Rattle.stream_spec.proofs.Bools.{and-left, neither}
+use Rattle.refusal.proofs.First.{first-none, none-first, append-none, append-passed}
+use Rattle.stream_spec.proofs.Records.{size-pos, Sized, length-pieces, length-joined, records-joined, records-sized}
+use Rattle.stream_spec.proofs.Legal.{bit-octet, bit-low, octets-append, octets-drop, EachOctets, pieces-octets, Faultless, of-faultless}
+use Rattle.stream_spec.proofs.Repack.{width-fits, fits-width, length-fits}
+use Rattle.stream_spec.proofs.Findings.{none-here}
+
+-- ---- what is known of each cycle of a take that harvest accepts
+
+-- no bad field, and no reserved lane where R4 looks
+abbrev Good : Shape → List (List ℕ) → Type 0
+Good s [] = Unit {0}
+Good s (c ∷ cs) = (fieldFault cycleFlags s c ≡ false) × (r4 s c ≡ false) × Good s cs
+
+good : (s : Shape) (b : Option (List ℕ)) (cs : List (List ℕ)) (k i : ℕ) → first (cycleChecks s k cs) ≡ none → first (findings s i b cs) ≡ none → Good s cs
+good s b [] k i e f = tt
+good s b (c ∷ cs) k i e f =
+    let field = first-none (check (fieldFault cycleFlags s c) (Field k)) (cycleChecks s (suc k) cs) e in
+    let rules = none-here s b c cs i f in
+    (field .0, rules .0 4, good s (some c) cs (suc k) (suc i) (field .1) (rules .1))
+
+unclean-none : (fs : List (Check Finding)) → first (map uncleanCheck fs) ≡ none → first fs ≡ none
+unclean-none [] e = refl
+unclean-none (f ∷ fs) e = let h = first-none (uncleanCheck f) (map uncleanCheck fs) e in none-first f fs (h .0) (unclean-none fs (h .1))
+
+-- ---- one cycle that is harvested
+
+-- octet 0 holds TLAST alone, and the other fields are as sampled
+field-kept : (s : Shape) (c : List ℕ) → fieldFault cycleFlags s c ≡ false → fieldFault transferFlags s (asTransfer c) ≡ false
+field-kept s [] e = e
+field-kept s (f ∷ r) e =
+    let a = leb (2 ^ cycleFlags) f in
+    let b = ltb 15 (pairOf (f ∷ r) .tdest) in
+    let k = leb (2 ^ s .width) (tkeep (f ∷ r)) in
+    let t = leb (2 ^ s .width) (tstrb (f ∷ r)) in
+    let h3 = neither (a || b || k) t e in
+    let h2 = neither (a || b) k (h3 .0) in
+    let h1 = neither a b (h2 .0) in
+    rw (bit-low (tlast (f ∷ r)), h1 .1, h2 .1, h3 .1) refl
+
+-- a transferred cycle has ARESETn and TVALID high, so R4 reads its lanes
+r4-reads : (s : Shape) (c : List ℕ) → transferred c ≡ true → r4 s c ≡ false → anyReserved (laneTypes s c) ≡ false
+r4-reads s c t e = rw (and-left (aresetn c && tvalid c) (tready c) t) at e
+
+reserved-kept : (s : Shape) (c : List ℕ) → transferred c ≡ true → r4 s c ≡ false → reservedFault s (asTransfer c) ≡ false
+reserved-kept s [] t e = r4-reads s [] t e
+reserved-kept s (f ∷ r) t e = r4-reads s (f ∷ r) t e
+
+octets-kept : (c : List ℕ) → Octets c → Octets (asTransfer c)
+octets-kept c h = (bit-octet (tlast c), octets-drop 1 c h)
+
+pub length-kept : (n : ℕ) (c : List ℕ) → 0 < n → length c ≡ n → length (asTransfer c) ≡ n
+length-kept n [] h e = absurd (omega arith)
+length-kept n (f ∷ r) h e = e
+
+-- ---- all harvested cycles
+
+-- what is written for these harvested cycles is fit for a legal stream
+record Fit (s : Shape) (hs : List (List ℕ)) : Type 0 where
+  sized : Sized (size s) (map asTransfer hs)
+  faultless : Faultless s (map asTransfer hs)
+  octets : Octets (joined (map asTransfer hs))
+
+fit-more : (s : Shape) (c : List ℕ) (hs : List (List ℕ)) → length c ≡ size s → Octets c → fieldFault cycleFlags s c ≡ false → r4 s c ≡ false
+    → transferred c ≡ true → Fit s hs → Fit s (c ∷ hs)
+fit-more s c hs n o f r t h =
+    record {
+      sized = (length-kept (size s) c (size-pos s) n, h .sized);
+      faultless = (field-kept s c f, reserved-kept s c t r, h .faultless);
+      octets = octets-append (asTransfer c) (joined (map asTransfer hs)) (octets-kept c o) (h .octets);
+    }
+
+fit : (s : Shape) (cs : List (List ℕ)) → Sized (size s) cs → EachOctets cs → Good s cs → Fit s (handshakes cs)
+fit s [] z o g = record { sized = tt; faultless = tt; octets = tt }
+fit s (c ∷ cs) z o g = go (transferred c) refl (fit s cs (z .1) (o .1) (g .2))
+  where
+    go : (b : Bool) → transferred c ≡ b → Fit s (handshakes cs) → Fit s (handshakes (c ∷ cs))
+    go false e r = rw e r
+    go true e r = rw e (fit-more s c (handshakes cs) (z .0) (o .0) (g .0) (g .1) e r)
+
+pub fewer : (cs : List (List ℕ)) → length (handshakes cs) ≤ length cs
+fewer [] = omega arith
+fewer (c ∷ cs) = go (transferred c) refl (fewer cs)
+  where
+    go : (b : Bool) → transferred c ≡ b → length (handshakes cs) ≤ length cs → length (handshakes (c ∷ cs)) ≤ length (c ∷ cs)
+    go false e h = rw e (omega arith)
+    go true e h = rw e (omega arith)
+
+-- ---- harvest
+
+-- what the checks of harvest let through
+harvest-good : (s : Shape) (xs : List ℕ) (room : ℕ) → harvestRefusal s xs room ≡ none
+    → (widthCheck (s .width) .found ≡ false) × Good s (records s xs) × (lengthCheck s xs .found ≡ false)
+harvest-good s xs room e =
+    let rules = map uncleanCheck (findings s 0 none (records s xs)) in
+    let roomy = roomCheck (harvested s xs) room ∷ [] in
+    let j = append-none (judgeChecks s xs) (rules ++ roomy) e in
+    let w = first-none (widthCheck (s .width)) (lengthCheck s xs ∷ cycleChecks s 0 (records s xs)) (j .0) in
+    let l = first-none (lengthCheck s xs) (cycleChecks s 0 (records s xs)) (w .1) in
+    let u = append-none rules roomy (j .1) in
+    (w .0, good s none (records s xs) 0 0 (l .1) (unclean-none (findings s 0 none (records s xs)) (u .0)), l .0)
+
+pub harvestLegal : HarvestLegal
+harvestLegal s xs room o e =
+    let g = harvest-good s xs room e in
+    let w = width-fits (s .width) (g .0) in
+    let hs = handshakes (records s xs) in
+    let f = fit s (records s xs) (records-sized s xs) (pieces-octets (recordCount s xs) (size s) xs o) (g .1) in
+    let long = length-joined (size s) (map asTransfer hs) (f .sized) in (
+      record {
+        widthLow = w .low;
+        widthHigh = w .high;
+        octets = f .octets;
+        whole = rw long (mul-mod-left (length (map asTransfer hs)) (size s));
+        faultless = rw (records-joined s (map asTransfer hs) (f .sized)) (of-faultless s 0 (map asTransfer hs) (f .faultless));
+      },
+      omega (
+        arith,
+        long,
+        ap (λ (n : ℕ). n * size s) (length-map hs asTransfer),
+        mul-le-mul-right (size s) (fewer (records s xs)),
+        ap (λ (n : ℕ). n * size s) (length-pieces (size s) (recordCount s xs) xs),
+        div-mul-le-self (length xs) (size s),
+      ),
+    )
+
+-- a whole number of records, no longer than a take, passes the check of a length
+length-passes : (s : Shape) (xs : List ℕ) → length xs ≤ captureMost → length xs % size s ≡ 0 → lengthCheck s xs .found ≡ false
+length-passes s xs h w = rw (le-ltb captureMost (length xs) h, eq-eqb (length xs % size s) 0 w) refl
+
+pub harvestRepacks : HarvestRepacks
+harvestRepacks s xs room v lent o e w =
+    let g = harvest-good s xs room e in
+    let l = harvestLegal s xs room o e in
+    let ys = harvested s xs in
+    let short : length (harvested s xs) ≤ captureMost = le-trans (l .1) (length-fits s xs (g .2) .0) in
+    let long = length-passes s ys short (l .0 .whole) in
+    rw (g .0, fits-width v (record { low = w .0; high = w .1 }), long)
+    (append-passed (transferChecks s 0 (records s ys)) (roomCheck (packed s v ys) lent ∷ []) (l .0 .faultless))

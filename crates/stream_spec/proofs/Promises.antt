@@ -1,0 +1,192 @@
+-- Every statement of specs/Promises, proved: mostly by citing the law that carries it. Assumes nothing.
+use mathlib.Core.Path.{_≡_, refl, sym, ap, _∙_}
+use mathlib.Core.Logic.{inl, inr, ⊎-elim}
+use mathlib.Core.Bool.{Bool, true, false, not, or-true}
+use mathlib.Core.List.{List, [], _∷_}
+use borrow.Author.Tests.{eqb-true, eqb-false, eq-eqb, ne-eqb, ltb-true, lt-ltb, leb-false, not-true}
+use lib.Dec.{eqb, ltb}
+use Prim.Native.Nat.{ℕ, zero, suc, _+_, _-_, _*_, _/_, _%_, _^_, _≤_, _<_}
+use lib.Pow.{pow-pos, pow-mono, shr-shr}
+use native.Mathlib.Nat.{le-trans, one-mul, mod-le, le-div-iff-mul-le, div-one, div-div-eq-div-mul, pow-suc, mul-comm, suc-mul, zero-mul, div-add-mod', mul-le-mul-right, div-mul-le-self}
+use native.Mathlib.Omega.{arith}
+use lib.ListN.{length, getD, drop, length-map, length-append, length-drop}
+use lib.Seq.{length-take-le}
+use mathlib.Core.Option.{none}
+use Rattle.stream_spec.specs.declared.Shape.{Shape}
+use Rattle.stream_spec.specs.Items.{Item, Transfer, items}
+use Rattle.stream_spec.specs.Packed.{pack, sliceTransfer, slices}
+use Rattle.stream_spec.specs.Layout.{bit, odd, size, tkeep, tstrb, atWidth, nullLane, laneType, typesOf, Kept, dataOctets, recordCount, records, transferOf, transfers, octets, streamItems, slicedTransfers}
+use Rattle.stream_spec.specs.Checks.{widthCheck, lengthCheck, indexCheck}
+use Rattle.stream_spec.specs.Answers.{dataRefusal, dataPart}
+use Rattle.stream_spec.specs.Promises.{SetAbove, FieldBits, DataOctets, WidthExactly, LengthExactly, ByteTypes, RepackingKeeps, PackedLegal, PackedLength, PackedFull, PackedOnly, Hold, Joins, Canonical, LaneKeeping, Findings, HarvestLegal, HarvestRepacks}
+use Rattle.stream_spec.proofs.Bools.{or-split}
+use Rattle.refusal.proofs.First.{first-none}
+use Rattle.stream_spec.proofs.Repack.{WidthFits, width-fits}
+use Rattle.stream_spec.proofs.Pack.{pack-parted, length-spread, items-slices, wide-slices}
+use Rattle.stream_spec.proofs.Hold.{hold}
+use Rattle.stream_spec.proofs.Records.{packed-items, length-packed, transfers-back}
+use Rattle.stream_spec.proofs.Legal.{packed-legal, sliced-legal, wide-transfers}
+use Rattle.stream_spec.proofs.Full.{packed-full}
+use Rattle.stream_spec.proofs.Only.{packed-only}
+use Rattle.stream_spec.proofs.Findings.{judges}
+use Rattle.stream_spec.proofs.Harvest.{harvestLegal as harvest-legal, harvestRepacks as harvest-repacks}
+
+-- ---- refusals
+
+pub widthExactly : WidthExactly
+widthExactly w = (
+  (λ e. ⊎-elim (λ h. inl (eqb-true w 0 h)) (λ h. inr (ltb-true 16 w h)) (or-split (eqb w 0) (ltb 16 w) e)),
+  ⊎-elim (λ h. rw (eq-eqb w 0 h) refl) (λ h. rw (lt-ltb 16 w h) (or-true (eqb w 0))),
+)
+
+pub lengthExactly : LengthExactly
+lengthExactly s xs =
+    let over = ltb 65536 (length xs) in
+    let whole = eqb (length xs % size s) 0 in (
+      (λ e. ⊎-elim (λ h. inl (ltb-true 65536 (length xs) h)) (λ h. inr (eqb-false (length xs % size s) 0 (not-true whole h))) (or-split over (not whole) e)),
+      ⊎-elim (λ h. rw (lt-ltb 65536 (length xs) h) refl) (λ h. rw (ne-eqb (length xs % size s) 0 h) (or-true over)),
+    )
+
+-- ---- byte types
+
+bit-zero : (n : ℕ) → bit 0 n ≡ odd n
+bit-zero n = rw (div-one n) refl
+
+bit-suc : (x n : ℕ) → bit (suc x) n ≡ bit x (n / 2)
+bit-suc x n = rw (pow-suc 2 x, mul-comm (2 ^ x) 2, ← div-div-eq-div-mul n 2 (2 ^ x)) refl
+
+-- a number above 0 has a bit that is set; f bounds how far up
+some-bit : (f n : ℕ) → 0 < n → n ≤ f → SetAbove 0 n
+some-bit zero n h k = absurd (omega arith)
+some-bit (suc f) n h k = go (some-bit f (n / 2)) (odd n) refl
+  where
+    up : SetAbove 0 (n / 2) → SetAbove 0 n
+    up s = record { place = suc (s .place); above = omega arith; high = bit-suc (s .place) n ∙ s .high }
+
+    go : (0 < n / 2 → n / 2 ≤ f → SetAbove 0 (n / 2)) → (b : Bool) → odd n ≡ b → SetAbove 0 n
+    go half true e = record { place = 0; above = omega arith; high = bit-zero n ∙ e }
+    go half false e = let even = eqb-false (n % 2) 1 e in up (half (omega arith) (omega arith))
+
+pub fieldBits : FieldBits
+fieldBits n m = (found, bounded)
+  where
+    found : 2 ^ n ≤ m → SetAbove n m
+    found h =
+        let some' = some-bit (m / 2 ^ n) (m / 2 ^ n) (le-div-iff-mul-le (pow-pos n) .1 (rw (one-mul (2 ^ n)) h)) (omega arith) in
+        record {
+          place = n + some' .place;
+          above = omega arith;
+          high = ap (λ (x : ℕ). eqb (x % 2) 1) (sym (shr-shr m n (some' .place))) ∙ some' .high;
+        }
+
+    bounded : SetAbove n m → 2 ^ n ≤ m
+    bounded s =
+        let one : m / 2 ^ s .place % 2 ≡ 1 = eqb-true (m / 2 ^ s .place % 2) 1 (s .high) in
+        let up : 1 ≤ m / 2 ^ s .place = omega (arith, mod-le (m / 2 ^ s .place) 2) in
+        le-trans (pow-mono (s .above)) (rw (one-mul (2 ^ s .place)) at (le-div-iff-mul-le (pow-pos (s .place)) .0 up))
+
+types-at : (w x k t : ℕ) → x < w → getD (typesOf w k t) x nullLane ≡ laneType (bit x k) (bit x t)
+types-at zero x k t h = absurd (omega arith)
+types-at (suc w) zero k t h = rw (bit-zero k, bit-zero t) refl
+types-at (suc w) (suc x) k t h = types-at w x (k / 2) (t / 2) (omega arith) ∙ rw (bit-suc x k, bit-suc x t) refl
+
+pub byteTypes : ByteTypes
+byteTypes s r x h = types-at (s .width) x (tkeep r) (tstrb r) h
+
+-- ---- data octets of a record
+
+-- a record that is there lies whole in the take
+pub record-there : (s : Shape) (xs : List ℕ) (k : ℕ) → k < recordCount s xs → k * size s + size s ≤ length xs
+record-there s xs k h =
+    omega (arith, suc-mul k (size s), mul-le-mul-right (size s) h, div-mul-le-self (length xs) (size s))
+
+data-long : (s : Shape) (xs : List ℕ) (k : ℕ) → k < recordCount s xs → length (dataOctets s (drop (k * size s) xs)) ≡ s .width
+unfolding size
+data-long s xs k h =
+    length-take-le (s .width) (drop 7 (drop (k * size s) xs))
+    (omega (arith, length-drop 7 (drop (k * size s) xs), length-drop (k * size s) xs, record-there s xs k h))
+
+pub data-there : (s : Shape) (xs : List ℕ) (k : ℕ) → dataRefusal s xs k ≡ none → WidthFits (s .width) × (k < recordCount s xs)
+data-there s xs k e =
+    let w = first-none (widthCheck (s .width)) (lengthCheck s xs ∷ indexCheck s xs k ∷ []) e in
+    let l = first-none (lengthCheck s xs) (indexCheck s xs k ∷ []) (w .1) in
+    let i = first-none (indexCheck s xs k) [] (l .1) in
+    (width-fits (s .width) (w .0), leb-false (recordCount s xs) k (i .0))
+
+pub handsOut : DataOctets
+unfolding dataPart
+handsOut s xs k = record { present = λ e. let h = data-there s xs k e in rw e (data-long s xs k (h .1), h .0 .low); refused = λ r e. rw e refl }
+
+-- ---- repacking
+
+pub repackingKeeps : RepackingKeeps
+repackingKeeps s v xs w = packed-items s v (w .0) xs
+
+pub packedLegal : PackedLegal
+packedLegal s v xs w l = packed-legal s v xs (w .0) (w .1) l
+
+pub packedLength : PackedLength
+packedLength = length-packed
+
+pub packedFull : PackedFull
+packedFull = packed-full
+
+pub packedOnly : PackedOnly
+packedOnly = packed-only
+
+pub holds : Hold
+holds v h is js = hold v h is js
+
+pub joins : Joins
+joins v is js h = pack-parted v is js h
+
+pub canonical : Canonical
+canonical s t v xs ys w l m = (
+  (λ e. sym (packed-items s v (w .0) xs) ∙ ap (streamItems (atWidth s v)) e ∙ packed-items t v (w .0) ys),
+  (λ e. ap (λ (is : List (Item Kept)). octets (pack v is)) e),
+)
+
+-- ---- lane-keeping downsizing
+
+count-slices : (w v : ℕ) → 0 < w / v → (ts : List (Transfer Kept)) → length (slices w v ts) ≡ length ts * (w / v)
+count-slices w v h [] = sym (zero-mul (w / v))
+count-slices w v h (t ∷ ts) =
+    omega (
+      arith,
+      length-append (sliceTransfer w v t) (slices w v ts),
+      length-spread (w / v - 1) v (t .pair) (t .lanes) (t .last),
+      count-slices w v h ts,
+      suc-mul (length ts) (w / v),
+    )
+
+-- a width is at least one slice
+one-slice : (w v : ℕ) → w % v ≡ 0 → 0 < w → 0 < w / v
+one-slice w v d h = go (w / v) (div-add-mod' w v)
+  where
+    go : (q : ℕ) → q * v + w % v ≡ w → 0 < q
+    go zero e = omega (arith, zero-mul v)
+    go (suc q) e = omega arith
+
+pub laneKeeping : LaneKeeping
+laneKeeping s v xs w d l =
+    let same = ap items (transfers-back (atWidth s v) (slicedTransfers s v xs) (wide-slices (s .width) v (transfers s xs)))
+    ∙ items-slices (s .width) v (w .0) d (l .widthLow) (transfers s xs) (wide-transfers s xs) in
+    record {
+      same = same;
+      legal = sliced-legal s v xs (w .0) (w .1) l;
+      packs = λ u. ap (λ (is : List (Item Kept)). octets (pack u is)) same;
+      count =
+          count-slices (s .width) v (one-slice (s .width) v d (l .widthLow)) (transfers s xs)
+          ∙ ap (λ (n : ℕ). n * (s .width / v)) (length-map (records s xs) (transferOf s));
+    }
+
+-- ---- findings and harvest
+
+pub findings : Findings
+findings = judges
+
+pub harvestLegal : HarvestLegal
+harvestLegal = harvest-legal
+
+pub harvestRepacks : HarvestRepacks
+harvestRepacks = harvest-repacks

@@ -1,0 +1,194 @@
+-- Records and transfers: a stream of whole records divides into them and is joined from them, and a transfer's octets
+-- stand for that transfer. Assumes nothing.
+use mathlib.Core.Path.{_≡_, refl, sym, ap, ap₂, _∙_}
+use mathlib.Core.Bool.{Bool, true, false}
+use mathlib.Core.List.{List, [], _∷_, _++_, map, append-assoc}
+use mathlib.Core.Option.{Option, none, some}
+use Prim.Native.Nat.{ℕ, zero, suc, _+_, _-_, _*_, _/_, _%_, _≤_, _<_}
+use native.Mathlib.Numerals.{add-one}
+use native.Mathlib.Nat.{div-eq-sub-div, mod-eq-sub-mod, mod-eq-of-lt, zero-add, suc-add, div-mul-le-self, suc-mul, zero-mul, div-add-mod', div-add-mod, mul-div-cancel, mul-add-div-right}
+use native.Mathlib.Decide.{decLe}
+use native.Mathlib.Omega.{arith}
+use lib.ListN.{length, take, drop, length-map, length-append, length-drop, take-append-drop}
+use borrow.Author.Tests.{eq-eqb, ne-eqb}
+use lib.Seq.{length-take-le, take-all, take-at, drop-at, take-append-le, drop-append-le}
+use Rattle.stream_spec.specs.declared.Shape.{Shape}
+use Rattle.stream_spec.specs.Items.{Transfer, items}
+use Rattle.stream_spec.specs.Layout.{bit, odd, bitOf, maskOf, size, atWidth, typesOf, laneType, laneOf, lanesOf, Kept, octet, position, keepBit, strbBit, laneOctet, transferOf, octetsOf, pieces, recordCount, records, joined, transfers, octets, streamItems, packedTransfers, packed}
+use Rattle.stream_spec.proofs.Pack.{map-append, items-append, items-pack, wide-pack, Wide}
+
+pub size-pos : (s : Shape) → 0 < size s
+unfolding size
+size-pos s = omega arith
+
+-- ---- pieces
+
+-- every one of the records has so many octets
+abbrev pub Sized : ℕ → List (List ℕ) → Type 0
+Sized n [] = Unit {0}
+Sized n (r ∷ rs) = (length r ≡ n) × Sized n rs
+
+pub length-joined : (n : ℕ) (rs : List (List ℕ)) → Sized n rs → length (joined rs) ≡ length rs * n
+length-joined n [] h = sym (zero-mul n)
+length-joined n (r ∷ rs) h = rw (length-append r (joined rs), h .0, length-joined n rs (h .1)) (omega (arith, suc-mul (length rs) n))
+
+pieces-joined : (n : ℕ) (rs : List (List ℕ)) → Sized n rs → pieces (length rs) n (joined rs) ≡ rs
+pieces-joined n [] h = refl
+pieces-joined n (r ∷ rs) h = rw (take-at r (joined rs) n (h .0), drop-at r (joined rs) n (h .0), pieces-joined n rs (h .1)) refl
+
+pub count-joined : (s : Shape) (rs : List (List ℕ)) → Sized (size s) rs → recordCount s (joined rs) ≡ length rs
+count-joined s rs h = rw (length-joined (size s) rs h) (mul-div-cancel (length rs) (size-pos s))
+
+-- records joined are these records
+pub records-joined : (s : Shape) (rs : List (List ℕ)) → Sized (size s) rs → records s (joined rs) ≡ rs
+records-joined s rs h = rw (count-joined s rs h) (pieces-joined (size s) rs h)
+
+pieces-append : (z n m : ℕ) (xs ys : List ℕ) → length xs ≡ n * z → pieces (n + m) z (xs ++ ys) ≡ pieces n z xs ++ pieces m z ys
+pieces-append z zero m [] ys h = rw (zero-add m) refl
+pieces-append z zero m (x ∷ xs) ys h = absurd (omega (arith, zero-mul z))
+pieces-append z (suc n) m xs ys h =
+    let fits : z ≤ length xs = omega (arith, suc-mul n z) in
+    let rest : length (drop z xs) ≡ n * z = omega (arith, suc-mul n z, length-drop z xs) in
+    rw (suc-add n m)
+    (rw (take-append-le z xs ys fits, drop-append-le z xs ys fits)
+    (ap {B = List (List ℕ)} (λ l. take z xs ∷ l) (pieces-append z n m (drop z xs) ys rest)))
+
+pieces-sized : (z n : ℕ) (xs : List ℕ) → n * z ≤ length xs → Sized z (pieces n z xs)
+pieces-sized z zero xs h = tt
+pieces-sized z (suc n) xs h =
+    (length-take-le z xs (omega (arith, suc-mul n z)), pieces-sized z n (drop z xs) (omega (arith, suc-mul n z, length-drop z xs)))
+
+joined-pieces : (z n : ℕ) (xs : List ℕ) → length xs ≡ n * z → joined (pieces n z xs) ≡ xs
+joined-pieces z zero [] h = refl
+joined-pieces z zero (x ∷ xs) h = absurd (omega (arith, zero-mul z))
+joined-pieces z (suc n) xs h =
+    ap (λ (l : List ℕ). take z xs ++ l) (joined-pieces z n (drop z xs) (omega (arith, suc-mul n z, length-drop z xs)))
+    ∙ take-append-drop z xs
+
+pub whole-count : (s : Shape) (xs : List ℕ) → length xs % size s ≡ 0 → length xs ≡ recordCount s xs * size s
+whole-count s xs h = omega (arith, div-add-mod' (length xs) (size s))
+
+-- whole records in front are the first records
+pub records-append : (s : Shape) (xs ys : List ℕ) → length xs % size s ≡ 0 → records s (xs ++ ys) ≡ records s xs ++ records s ys
+records-append s xs ys h =
+    ap (λ (n : ℕ). pieces n (size s) (xs ++ ys))
+    (ap (λ (n : ℕ). n / size s) (length-append xs ys ∙ ap (λ (n : ℕ). n + length ys) (whole-count s xs h))
+    ∙ mul-add-div-right (size-pos s) (recordCount s xs) (length ys))
+    ∙ pieces-append (size s) (recordCount s xs) (recordCount s ys) xs ys (whole-count s xs h)
+
+whole-fits : (n z : ℕ) → n % z ≡ 0 → 0 < n → z ≤ n
+whole-fits n z w h = elim (decLe z n) [ yes p ↦ p | no p ↦ let short : n < z = omega arith in absurd (omega (arith, mod-eq-of-lt short)) ]
+
+-- the first of the whole records, and the others
+pub record FirstRecord (s : Shape) (xs : List ℕ) : Type 0 where
+  pub fits : size s ≤ length xs
+  pub is : records s xs ≡ take (size s) xs ∷ records s (drop (size s) xs)
+  pub whole : length (drop (size s) xs) % size s ≡ 0
+
+pub first-record : (s : Shape) (xs : List ℕ) → length xs % size s ≡ 0 → 0 < length xs → FirstRecord s xs
+first-record s xs w h =
+    let fits : size s ≤ length xs = whole-fits (length xs) (size s) w h in
+    record {
+      fits = fits;
+      is =
+          ap (λ (n : ℕ). pieces n (size s) xs)
+          (div-eq-sub-div (size-pos s) fits ∙ add-one ((length xs - size s) / size s) ∙ ap (λ (n : ℕ). suc (n / size s)) (sym (length-drop (size s) xs)));
+      whole = rw (length-drop (size s) xs) (sym (mod-eq-sub-mod fits) ∙ w);
+    }
+
+-- whole records, joined again, are the stream
+pub joined-records : (s : Shape) (xs : List ℕ) → length xs % size s ≡ 0 → joined (records s xs) ≡ xs
+joined-records s xs h = joined-pieces (size s) (recordCount s xs) xs (whole-count s xs h)
+
+pub records-sized : (s : Shape) (xs : List ℕ) → Sized (size s) (records s xs)
+records-sized s xs = pieces-sized (size s) (recordCount s xs) xs (div-mul-le-self (length xs) (size s))
+
+pub length-pieces : (z n : ℕ) (xs : List ℕ) → length (pieces n z xs) ≡ n
+length-pieces z zero xs = refl
+length-pieces z (suc n) xs = ap suc (length-pieces z n (drop z xs))
+
+-- ---- a transfer and its octets
+
+pub odd-mask : (b : Bool) (m : ℕ) → odd (bitOf b + 2 * m) ≡ b
+odd-mask true m = eq-eqb ((1 + 2 * m) % 2) 1 (omega arith)
+odd-mask false m = ne-eqb ((0 + 2 * m) % 2) 1 (omega arith)
+
+pub half-mask : (b : Bool) (m : ℕ) → (bitOf b + 2 * m) / 2 ≡ m
+half-mask true m = omega arith
+half-mask false m = omega arith
+
+-- a lane comes back from its two bits and its octet
+lane-back : (l : Option Kept) → laneOf (laneType (keepBit l) (strbBit l)) (laneOctet l) ≡ l
+lane-back none = refl
+lane-back (some (octet d)) = refl
+lane-back (some position) = refl
+
+lanes-back : (ls : List (Option Kept))
+    → lanesOf (typesOf (length ls) (maskOf (map keepBit ls)) (maskOf (map strbBit ls))) (map laneOctet ls) ≡ ls
+lanes-back [] = refl
+lanes-back (l ∷ ls) =
+    let k = maskOf (map keepBit ls) in
+    let t = maskOf (map strbBit ls) in
+    rw (odd-mask (keepBit l) (maskOf (map keepBit ls)), odd-mask (strbBit l) (maskOf (map strbBit ls)))
+    (rw (half-mask (keepBit l) (maskOf (map keepBit ls)), half-mask (strbBit l) (maskOf (map strbBit ls)))
+    (rw (lane-back l, lanes-back ls) refl))
+
+pub two-octets : (m : ℕ) → m % 256 + 256 * (m / 256) ≡ m
+two-octets m = omega arith
+
+last-back : (b : Bool) → bit 0 (bitOf b) ≡ b
+last-back true = refl
+last-back false = refl
+
+-- a transfer of the shape's width comes back from its octets
+pub transfer-back : (s : Shape) (t : Transfer Kept) → length (t .lanes) ≡ s .width → transferOf s (octetsOf t) ≡ t
+transfer-back s t h =
+    let short : length (map laneOctet (t .lanes)) ≤ s .width = omega (arith, length-map (t .lanes) laneOctet) in
+    rw (last-back (t .last), two-octets (maskOf (map keepBit (t .lanes))), two-octets (maskOf (map strbBit (t .lanes))))
+    (rw (take-all (s .width) (map laneOctet (t .lanes)) short, ← h, lanes-back (t .lanes)) refl)
+
+-- ---- transfers and their octets
+
+length-octetsOf : (s : Shape) (t : Transfer Kept) → length (t .lanes) ≡ s .width → length (octetsOf t) ≡ size s
+unfolding size
+length-octetsOf s t h = omega (arith, length-map (t .lanes) laneOctet)
+
+pub octets-sized : (s : Shape) (ts : List (Transfer Kept)) → Wide (s .width) ts → Sized (size s) (map octetsOf ts)
+octets-sized s [] h = tt
+octets-sized s (t ∷ ts) h = (length-octetsOf s t (h .0), octets-sized s ts (h .1))
+
+pub length-octets : (s : Shape) (ts : List (Transfer Kept)) → Wide (s .width) ts → length (octets ts) ≡ length ts * size s
+length-octets s ts h =
+    length-joined (size s) (map octetsOf ts) (octets-sized s ts h) ∙ ap (λ (n : ℕ). n * size s) (length-map ts octetsOf)
+
+pub octets-append : (ts us : List (Transfer Kept)) → octets (ts ++ us) ≡ octets ts ++ octets us
+octets-append [] us = refl
+octets-append (t ∷ ts) us =
+    ap (λ (l : List ℕ). octetsOf t ++ l) (octets-append ts us) ∙ sym (append-assoc (octetsOf t) (octets ts) (octets us))
+
+transfers-each : (s : Shape) (ts : List (Transfer Kept)) → Wide (s .width) ts → map (transferOf s) (map octetsOf ts) ≡ ts
+transfers-each s [] h = refl
+transfers-each s (t ∷ ts) h = ap₂ {C = List (Transfer Kept)} (λ u us. u ∷ us) (transfer-back s t (h .0)) (transfers-each s ts (h .1))
+
+-- transfers of the shape's width come back from their octets
+pub transfers-back : (s : Shape) (ts : List (Transfer Kept)) → Wide (s .width) ts → transfers s (octets ts) ≡ ts
+transfers-back s ts h =
+    ap (map (transferOf s)) (records-joined s (map octetsOf ts) (octets-sized s ts h)) ∙ transfers-each s ts h
+
+pub streamItems-append : (s : Shape) (xs ys : List ℕ) → length xs % size s ≡ 0 → streamItems s (xs ++ ys) ≡ streamItems s xs ++ streamItems s ys
+streamItems-append s xs ys h =
+    ap (λ (rs : List (List ℕ)). items (map (transferOf s) rs)) (records-append s xs ys h)
+    ∙ ap items (map-append (transferOf s) (records s xs) (records s ys))
+    ∙ items-append (transfers s xs) (transfers s ys)
+
+-- ---- the packed form as octets
+
+pub length-packed : (s : Shape) (v : ℕ) (xs : List ℕ) → length (packed s v xs) ≡ length (packedTransfers s v xs) * size (atWidth s v)
+length-packed s v xs = length-octets (atWidth s v) (packedTransfers s v xs) (wide-pack v (streamItems s xs))
+
+-- "Repacking keeps every data byte with its value, every position byte, every packet end, each with its TID and TDEST, in
+-- order, and adds none": the packed form carries the stream's items.
+pub packed-items : (s : Shape) (v : ℕ) → 0 < v → (xs : List ℕ) → streamItems (atWidth s v) (packed s v xs) ≡ streamItems s xs
+packed-items s v h xs =
+    ap items (transfers-back (atWidth s v) (packedTransfers s v xs) (wide-pack v (streamItems s xs)))
+    ∙ items-pack v h (streamItems s xs)

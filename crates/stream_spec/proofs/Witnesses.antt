@@ -1,0 +1,165 @@
+-- Every promise that has a premise, applied to the worked data of specs/Witnesses: all its premises hold there, and what it
+-- says is what was typed by hand. Assumes nothing.
+use mathlib.Core.Path.{_≡_, refl}
+use mathlib.Core.Bool.{true, false}
+use mathlib.Core.List.{List, [], _++_}
+use mathlib.Core.Logic.{_⊎_}
+use mathlib.Core.Option.{none, some}
+use Prim.Native.Nat.{ℕ, _≤_, _<_}
+use native.Mathlib.Omega.{arith}
+use lib.Dec.{lit<, lit≤}
+use lib.ListN.{length, getD}
+use Rattle.refusal.specs.declared.Refusal.the-variants.{Room, Index}
+use Rattle.stream_spec.specs.Packed.{pack}
+use Rattle.stream_spec.specs.Layout.{size, dataLane, nullLane, laneTypes, records, streamItems, packedTransfers, packed, slicedTransfers}
+use Rattle.stream_spec.specs.Checks.{widthCheck}
+use Rattle.stream_spec.specs.Answers.{repackRefusal, repackAnswer, repackAfter, dataPart}
+use Rattle.stream_spec.specs.Legal.{Legal}
+use Rattle.stream_spec.specs.Promises.{Width, SetAbove, Packs, breaks, IsEarliest}
+use Rattle.stream_spec.specs.Demand3.{acceptedAt, next, afterCalls, whole}
+use Rattle.stream_spec.specs.Tables.{lanes, stream, isLegal}
+use Rattle.stream_spec.specs.Cases.{p1}
+use Rattle.stream_spec.specs.Witnesses.{first, firstItems, atOne, atFour, atSixteen, endless, endlessItems, lends, refusedCalls, mixedCalls, someParts, someNumbers, someJoined, packedOnes, onesBytes, onesEnds, onesItems, p1Slices, p1Items, p1Packed, wide, brokenTake, cleanTake, harvest}
+use Rattle.stream_spec.proofs.Promises.{fieldBits, byteTypes, handsOut, repackingKeeps, packedLegal, packedFull, packedOnly, holds, joins, canonical, laneKeeping, findings, harvestLegal, harvestRepacks}
+use Rattle.stream_spec.proofs.Demand3.{calls, parts}
+use Rattle.stream_spec.proofs.Tables.{widthTested, octets-tested, legalTested, dividesTested}
+
+-- ---- legal streams and widths, by their tests
+
+legal : (w : ℕ) (xs : List ℕ) → isLegal (lanes w) xs ≡ true → Legal (lanes w) xs
+legal w xs e = legalTested (lanes w) xs .1 e
+
+width : (v : ℕ) → widthCheck v .found ≡ false → Width v
+width v e = widthTested v .1 e
+
+legal-first : Legal (first .shape) (first .octets)
+unfolding size
+legal-first = legal 2 (first .octets) refl
+
+-- ---- demand 3
+
+-- after accepted and refused calls, and after refused ones only
+pub mixed : afterCalls first mixedCalls ≡ stream 1 atOne
+unfolding size repackAnswer repackAfter
+mixed = calls first legal-first mixedCalls .stands
+
+pub refused : afterCalls first refusedCalls ≡ first
+unfolding size repackAnswer repackAfter
+refused = calls first legal-first refusedCalls .stands
+
+-- one call straight there, with exactly the room it needs
+pub straight : (acceptedAt first (lends 1 24) ≡ some 3) × (next first (lends 1 24) ≡ stream 1 atOne)
+unfolding size repackAnswer repackAfter
+straight = calls first legal-first mixedCalls .straight (lends 1 24) refl (lit≤ tt)
+
+pub left-legal : Legal (lanes 1) atOne
+unfolding size repackAnswer repackAfter
+left-legal = calls first legal-first mixedCalls .legal
+
+-- parts divided in every way that the condition has, and no part at all
+pub parts-joined : (someJoined ≡ packed (lanes 1) 2 (whole someParts)) × (6 ≡ length (packedTransfers (lanes 1) 2 (whole someParts)))
+unfolding size repackAnswer repackAfter
+parts-joined =
+    let j = parts (lanes 1) 2 someParts someNumbers (legal 1 (whole someParts) refl) refl (dividesTested (lanes 1) someParts .1 refl) in
+    (j .same, j .count)
+
+pub no-parts : ([] ≡ packed (lanes 1) 2 []) × (0 ≡ length (packedTransfers (lanes 1) 2 []))
+unfolding size repackAnswer repackAfter
+no-parts = let j = parts (lanes 1) 2 [] [] (legal 1 [] refl) refl (dividesTested (lanes 1) [] .1 refl) in (j .same, j .count)
+
+-- ---- refusals, byte types, data octets
+
+-- bit 4 is the lowest that must be zero in octet 0 of a cycle record
+pub bit-four : SetAbove 4 16 × (16 ≤ 16)
+bit-four = (fieldBits 4 16 .0 (lit≤ tt), fieldBits 4 16 .1 (record { place = 4; above = lit≤ tt; high = refl }))
+
+pub lane-fifteen : getD (laneTypes (lanes 16) wide) 15 nullLane ≡ dataLane
+lane-fifteen = byteTypes (lanes 16) wide 15 (lit< tt)
+
+-- a record that is there, behind another, and one that is not
+pub present : (length (dataPart (lanes 2) (first .octets) 1) ≡ 2) × (0 < 2)
+unfolding size dataPart
+present = handsOut (lanes 2) (first .octets) 1 .present refl
+
+pub absent : dataPart (lanes 2) (first .octets) 2 ≡ []
+unfolding size
+absent = handsOut (lanes 2) (first .octets) 2 .refused Index refl
+
+-- ---- repacking
+
+-- at the narrowest width and the widest
+pub keeps-one : streamItems (lanes 1) atOne ≡ firstItems
+unfolding size
+keeps-one = repackingKeeps (lanes 2) 1 (first .octets) (width 1 refl)
+
+pub keeps-sixteen : streamItems (lanes 16) atSixteen ≡ firstItems
+unfolding size
+keeps-sixteen = repackingKeeps (lanes 2) 16 (first .octets) (width 16 refl)
+
+pub legal-sixteen : Legal (lanes 16) atSixteen
+unfolding size
+legal-sixteen = packedLegal (lanes 2) 16 (first .octets) (width 16 refl) legal-first
+
+-- the properties of packed transfers, and that they leave no choice
+pub packs : Packs 1 packedOnes
+packs = packedFull 1 (lit< tt) onesItems
+
+pub only : packedOnes ≡ pack 1 onesItems
+only = packedOnly 1 (lit< tt) packedOnes (refl, refl, refl, (refl, refl, refl, (refl, refl, refl, tt)))
+
+-- the first record is certain, the second is held for the end that follows
+pub held : pack 1 (onesBytes ++ onesEnds) ≡ packedOnes
+held = holds 1 (lit< tt) onesBytes onesEnds
+
+-- an end before the division
+pub joined : pack 1 (onesItems ++ firstItems) ≡ packedOnes ++ pack 1 firstItems
+joined = joins 1 onesItems firstItems refl
+
+-- two widths, one content: equal packed forms; without the end they are not equal
+pub same-content : atFour ≡ packed (lanes 1) 4 atOne
+unfolding size
+same-content = canonical (lanes 2) (lanes 1) 4 (first .octets) atOne (width 4 refl) legal-first (legal 1 atOne refl) .1 refl
+
+pub other-content : atFour ≡ packed (lanes 1) 4 endless → ⊥
+unfolding size
+other-content e =
+    let same : firstItems ≡ endlessItems =
+    canonical (lanes 2) (lanes 1) 4 (first .octets) endless (width 4 refl) legal-first (legal 1 endless refl) .0 e in
+    let z : _≡_ {A = ℕ} 0 1 = cc in omega arith
+
+-- ---- lane-keeping downsizing, P1's transfer from 4 to 2
+
+pub slices : (streamItems (lanes 2) p1Slices ≡ p1Items) × Legal (lanes 2) p1Slices × (packed (lanes 2) 4 p1Slices ≡ p1Packed) × (length (slicedTransfers (lanes 4) 2 p1) ≡ 2)
+unfolding size
+slices =
+    let k = laneKeeping (lanes 4) 2 p1 (width 2 refl) refl (legal 4 p1 refl) in
+    (k .same, k .legal, k .packs 4, k .count)
+
+-- ---- findings and harvest
+
+-- the earliest cycle and its lowest rule, against a later rule of that cycle and against the last cycle
+pub earliest : IsEarliest (lanes 1) (records (lanes 1) brokenTake) (record { cycle = 1; rule = 3 })
+unfolding size
+earliest = findings (lanes 1) brokenTake .found (record { cycle = 1; rule = 3 }) refl
+
+pub others : ((1 < 1) ⊎ (_≡_ {A = ℕ} 1 1 × (3 ≤ 4))) × ((1 < 2) ⊎ (_≡_ {A = ℕ} 1 2 × (3 ≤ 1)))
+unfolding size
+others = (earliest .others 1 4 (lit< tt) refl, earliest .others 2 1 (lit< tt) refl)
+
+-- the last cycle of a clean take keeps R3
+pub clean : breaks (lanes 1) (records (lanes 1) cleanTake) 2 3 ≡ false
+unfolding size
+clean = findings (lanes 1) cleanTake .clean refl 2 3 (lit< tt)
+
+-- harvested with exactly the room it needs
+pub harvests : Legal (lanes 1) harvest × (16 ≤ 24)
+unfolding size
+harvests = harvestLegal (lanes 1) cleanTake 16 (octets-tested cleanTake .1 refl) refl
+
+-- and repacked with one octet too few, and with exactly the room it needs
+pub repacks : (repackRefusal (lanes 1) 2 harvest 17 ≡ some Room) × (repackRefusal (lanes 1) 2 harvest 18 ≡ none)
+unfolding size
+repacks = (
+  harvestRepacks (lanes 1) cleanTake 16 2 17 (octets-tested cleanTake .1 refl) refl (width 2 refl),
+  harvestRepacks (lanes 1) cleanTake 16 2 18 (octets-tested cleanTake .1 refl) refl (width 2 refl),
+)

@@ -1,0 +1,257 @@
+-- Worked cases of the definitions: what is asked, and what is told, typed by hand and never computed. The list
+-- `benchCases` has the starred cases S1 to S5 of paper 01; `workedCases` pins what no starred case does. One statement
+-- covers each list (`bench` and `worked` of proofs/Cases).
+use mathlib.Core.Bool.{Bool, true, false}
+use mathlib.Core.List.{List, [], _∷_, _++_}
+use Prim.Native.Nat.{ℕ}
+use lib.ListN.{length}
+use Rattle.stream_spec.specs.declared.Shape.{Shape}
+use Rattle.stream_spec.specs.Answers.{Values, values, verdictValues, writtenValues, lookupValues, judgeAnswer, harvestAnswer, harvestAfter, fillAnswer, fillAfter, dataAnswer, dataPart, dataStart, repackAnswer, repackAfter, downsizeAnswer, downsizeAfter}
+use Rattle.stream_spec.specs.Tables.{lanes, one}
+
+-- A call with its arguments. The last list of `repack`, `downsize` and `harvest` is the lent output.
+pub data Asked : Type 0 where
+  judge : Shape → List ℕ → Asked
+  harvest : Shape → List ℕ → List ℕ → Asked
+  fillIn : Bool → Shape → List ℕ → Asked
+  dataOf : Shape → List ℕ → ℕ → Asked
+  startOf : Shape → List ℕ → ℕ → Asked
+  repack : Shape → ℕ → List ℕ → List ℕ → Asked
+  downsize : Shape → ℕ → List ℕ → List ℕ → Asked
+
+-- The numbers told, and the octets: of lent memory afterwards, or of the part handed out; or where that part starts.
+pub record Told : Type 0 where
+  pub numbers : Values
+  pub octets : List ℕ
+
+pub record Case : Type 0 where
+  pub asked : Asked
+  pub told : Told
+
+abbrev pub tells : Values → List ℕ → Told
+tells numbers octets = record { numbers = numbers; octets = octets }
+
+-- what the definitions tell
+unfoldable pub answer : Asked → Told
+unfolding judgeAnswer harvestAnswer harvestAfter fillAnswer fillAfter dataAnswer dataPart dataStart repackAnswer repackAfter downsizeAnswer downsizeAfter
+answer (judge s xs) = tells (verdictValues (judgeAnswer s xs)) []
+answer (harvest s xs out) = tells (writtenValues (harvestAnswer s xs (length out))) (harvestAfter s xs out)
+answer (fillIn level s xs) = tells (writtenValues (fillAnswer s xs)) (fillAfter level s xs)
+answer (dataOf s xs k) = tells (lookupValues (dataAnswer s xs k)) (dataPart s xs k)
+answer (startOf s xs k) = tells (lookupValues (dataAnswer s xs k)) (dataStart s xs k ∷ [])
+answer (repack s v xs out) = tells (writtenValues (repackAnswer s v xs (length out))) (repackAfter s v xs out)
+answer (downsize s v xs out) = tells (writtenValues (downsizeAnswer s v xs (length out))) (downsizeAfter s v xs out)
+
+-- ---- how cases are written
+
+abbrev gives : Asked → ℕ → List ℕ → Case
+gives asked count octets = record { asked = asked; told = tells (values 0 0 0 count) octets }
+
+-- refused with this number and place; lent memory or the part is as given
+abbrev refuses : Asked → ℕ → ℕ → List ℕ → Case
+refuses asked number place octets = record { asked = asked; told = tells (values number place 0 0) octets }
+
+abbrev breaks : Asked → ℕ → ℕ → Case
+breaks asked cycle rule = record { asked = asked; told = tells (values 0 cycle rule 0) [] }
+
+-- four octets of lent memory that were not written, and eight
+abbrev ee : List ℕ
+ee = 0xEE ∷ 0xEE ∷ 0xEE ∷ 0xEE ∷ []
+
+abbrev eight : List ℕ
+eight = ee ++ ee
+
+-- P1's transfer
+abbrev pub p1 : List ℕ
+p1 = 0x01 ∷ 0x01 ∷ 0x02 ∷ 0x0D ∷ 0x00 ∷ 0x09 ∷ 0x00 ∷ 0x11 ∷ 0x22 ∷ 0x33 ∷ 0x44 ∷ []
+
+-- S3's two records of width 1: AA, and TLAST alone
+abbrev aa : List ℕ
+aa = 0x00 ∷ 0x00 ∷ 0x00 ∷ 0x01 ∷ 0x00 ∷ 0x01 ∷ 0x00 ∷ 0xAA ∷ []
+
+abbrev lastAlone : List ℕ
+lastAlone = 0x01 ∷ 0x00 ∷ 0x00 ∷ 0x00 ∷ 0x00 ∷ 0x00 ∷ 0x00 ∷ 0x00 ∷ []
+
+-- an all-null record of width 1 without TLAST, of the pair (tid, 0)
+abbrev nulls : ℕ → List ℕ
+nulls tid = 0x00 ∷ tid ∷ 0x00 ∷ 0x00 ∷ 0x00 ∷ 0x00 ∷ 0x00 ∷ 0x00 ∷ []
+
+-- ---- paper 01, 'Bench cases': the starred ones on streams, and S6 and S7
+
+-- S1: P1's transfer at width 4
+abbrev pub s1 : Case
+s1 =
+    gives (repack (lanes 4) 4 p1 (eight ++ ee)) 1
+    (0x01 ∷ 0x01 ∷ 0x02 ∷ 0x07 ∷ 0x00 ∷ 0x05 ∷ 0x00 ∷ 0x11 ∷ 0x00 ∷ 0x44 ∷ 0x00 ∷ 0xEE ∷ [])
+
+-- S2: P1's transfer, lane-keeping to 2
+abbrev pub s2 : Case
+s2 =
+    gives (downsize (lanes 4) 2 p1 (eight ++ eight ++ ee)) 2
+    (0x00 ∷ 0x01 ∷ 0x02 ∷ 0x01 ∷ 0x00 ∷ 0x01 ∷ 0x00 ∷ 0x11 ∷ 0x00
+    ∷ 0x01 ∷ 0x01 ∷ 0x02 ∷ 0x03 ∷ 0x00 ∷ 0x02 ∷ 0x00 ∷ 0x00 ∷ 0x44 ∷ 0xEE ∷ 0xEE ∷ [])
+
+-- S3: the end joins the full record before it
+abbrev pub s3 : Case
+s3 =
+    gives (repack (lanes 1) 1 (aa ++ lastAlone) (eight ++ ee)) 1
+    (0x01 ∷ 0x00 ∷ 0x00 ∷ 0x01 ∷ 0x00 ∷ 0x01 ∷ 0x00 ∷ 0xAA ∷ ee)
+
+-- S4: two packets with nothing in them
+abbrev pub s4 : Case
+s4 =
+    gives (repack (lanes 1) 1 (lastAlone ++ lastAlone) (eight ++ eight ++ ee)) 2
+    (0x01 ∷ 0x00 ∷ 0x00 ∷ 0x00 ∷ 0x00 ∷ 0x00 ∷ 0x00 ∷ 0x00
+    ∷ 0x01 ∷ 0x00 ∷ 0x00 ∷ 0x00 ∷ 0x00 ∷ 0x00 ∷ 0x00 ∷ 0x00 ∷ ee)
+
+-- S5: a record with no item vanishes
+abbrev pub s5 : Case
+s5 = gives (repack (lanes 1) 1 (nulls 0) ee) 0 ee
+
+-- S6: empty
+abbrev pub s6 : Case
+s6 = gives (repack (lanes 4) 4 [] ee) 0 ee
+
+-- S7: TIDs 1, 2, 1 are three stretches, here at a width that could hold them all
+abbrev pub s7 : Case
+s7 =
+    gives (repack (lanes 1) 4 (one 0 1 0 1 1 7 ++ one 0 2 0 1 1 8 ++ one 0 1 0 1 1 9) (eight ++ eight ++ eight ++ eight ++ (0xEE ∷ []))) 3
+    (0 ∷ 1 ∷ 0 ∷ 1 ∷ 0 ∷ 1 ∷ 0 ∷ 7 ∷ 0 ∷ 0 ∷ 0 ∷ 0 ∷ 2 ∷ 0 ∷ 1 ∷ 0 ∷ 1 ∷ 0 ∷ 8 ∷ 0 ∷ 0 ∷ 0
+    ∷ 0 ∷ 1 ∷ 0 ∷ 1 ∷ 0 ∷ 1 ∷ 0 ∷ 9 ∷ 0 ∷ 0 ∷ 0 ∷ [])
+
+unfoldable pub benchCases : List Case
+benchCases = s1 ∷ s2 ∷ s3 ∷ s4 ∷ s5 ∷ []
+
+-- ---- what no starred case pins
+
+-- a record of 16 lanes, all data, with this octet 0 and this data in lane 15
+abbrev sixteen : ℕ → ℕ → List ℕ
+sixteen flags octet =
+    flags ∷ 5 ∷ 2 ∷ 0xFF ∷ 0xFF ∷ 0xFF ∷ 0xFF ∷ 0 ∷ 1 ∷ 2 ∷ 3 ∷ 4 ∷ 5 ∷ 6 ∷ 7 ∷ 8 ∷ 9 ∷ 10 ∷ 11 ∷ 12 ∷ 13 ∷ 14 ∷ octet ∷ []
+
+-- two records of width 2; the second has a bad octet 0, which data octets do not read
+abbrev twoByTwo : List ℕ
+twoByTwo = 0 ∷ 0 ∷ 0 ∷ 0 ∷ 0 ∷ 0 ∷ 0 ∷ 1 ∷ 2 ∷ 0xFF ∷ 0 ∷ 0 ∷ 0 ∷ 0 ∷ 0 ∷ 0 ∷ 3 ∷ 4 ∷ []
+
+-- reset ends a wait: TVALID may fall with ARESETn, and what follows is a new transfer
+abbrev pub resetEndsWait : Case
+resetEndsWait =
+    gives (judge (lanes 1) (one 0x0A 5 0 1 1 7 ++ one 0x00 0 0 0 0 0 ++ one 0x08 0 0 0 0 0 ++ one 0x0E 6 0 1 1 8)) 1 []
+
+unfoldable pub workedCases : List Case
+workedCases =
+    -- R1 to R4, each at a cycle after a clean one
+    breaks (judge (lanes 1) (one 0x08 0 0 0 0 0 ++ one 0x02 0 0 0 0 0)) 1 1
+    ∷ breaks (judge (lanes 1) (one 0x0A 0 0 1 1 7 ++ one 0x08 0 0 1 1 7)) 1 2
+    ∷ breaks (judge (lanes 1) (one 0x0A 5 0 1 1 7 ++ one 0x0E 6 0 1 1 7)) 1 3
+    ∷ breaks (judge (lanes 1) (one 0x08 0 0 0 0 0 ++ one 0x0A 0 0 0 1 0)) 1 4
+    -- R3 reads every octet from 1 on (TDEST, TKEEP, TSTRB, data of the last lane) and TLAST, and neither TREADY nor a
+    -- cycle that did not wait
+    ∷ breaks (judge (lanes 1) (one 0x0A 5 2 1 1 7 ++ one 0x0E 5 3 1 1 7)) 1 3
+    ∷ breaks (judge (lanes 1) (one 0x0A 5 2 1 0 7 ++ one 0x0E 5 2 1 0 8)) 1 3
+    ∷ breaks (judge (lanes 1) (one 0x0A 5 2 1 1 7 ++ one 0x0F 5 2 1 1 7)) 1 3
+    ∷ breaks (judge (lanes 1) (one 0x0A 5 2 1 1 7 ++ one 0x0E 5 2 0 0 7)) 1 3
+    ∷ breaks (judge (lanes 1) (one 0x0A 5 2 1 1 7 ++ one 0x0E 5 2 1 0 7)) 1 3
+    ∷ breaks (judge (lanes 2) (0x0A ∷ 5 ∷ 2 ∷ 3 ∷ 0 ∷ 3 ∷ 0 ∷ 7 ∷ 8 ∷ 0x0E ∷ 5 ∷ 2 ∷ 3 ∷ 0 ∷ 3 ∷ 0 ∷ 7 ∷ 9 ∷ [])) 1 3
+    ∷ gives (judge (lanes 1) (one 0x0A 5 2 1 1 7 ++ one 0x0E 5 2 1 1 7 ++ one 0x0E 6 3 0 0 0)) 2 []
+    -- in lane 15 of 16, and where TLAST falls; a wait with TLAST high is kept like any other
+    ∷ breaks (judge (lanes 16) (sixteen 0x0A 15 ++ sixteen 0x0E 16)) 1 3
+    ∷ gives (judge (lanes 16) (sixteen 0x0A 15 ++ sixteen 0x0E 15)) 1 []
+    ∷ breaks (judge (lanes 1) (one 0x0B 5 2 1 1 7 ++ one 0x0E 5 2 1 1 7)) 1 3
+    ∷ gives (judge (lanes 1) (one 0x0B 5 2 1 1 7 ++ one 0x0F 5 2 1 1 7)) 1 []
+    ∷ resetEndsWait
+    -- the first record follows no waiting cycle; a cycle in reset or without TVALID carries nothing
+    ∷ gives (judge (lanes 1) (one 0x0C 0 0 0 1 0 ++ one 0x04 0 0 0 1 0)) 0 []
+    -- R1 at the first record
+    ∷ breaks (judge (lanes 1) (one 0x02 0 0 0 0 0)) 0 1
+    -- two rules in one cycle: the lowest; two cycles: the earliest
+    ∷ breaks (judge (lanes 1) (one 0x0A 5 0 1 1 7 ++ one 0x0A 6 0 0 1 7)) 1 3
+    ∷ breaks (judge (lanes 1) (one 0x0A 0 0 0 1 0 ++ one 0x02 0 0 0 0 0)) 0 4
+    -- 1: a width is 0 or above 16, before everything else
+    ∷ refuses (judge (lanes 0) (0 ∷ [])) 1 0 []
+    ∷ refuses (judge (lanes 17) (0 ∷ [])) 1 0 []
+    ∷ gives (judge (lanes 16) []) 0 []
+    ∷ refuses (repack (lanes 1) 0 (0 ∷ []) ee) 1 0 ee
+    ∷ refuses (repack (lanes 1) 17 (0 ∷ []) ee) 1 0 ee
+    ∷ gives (repack (lanes 1) 16 [] ee) 0 ee
+    ∷ refuses (downsize (lanes 17) 3 (0 ∷ []) ee) 1 0 ee
+    ∷ refuses (downsize (lanes 4) 17 (0 ∷ []) ee) 1 0 ee
+    ∷ refuses (downsize (lanes 4) 0 (0 ∷ []) ee) 1 0 ee
+    -- 6 before 2: v does not divide w
+    ∷ refuses (downsize (lanes 4) 3 (0 ∷ []) ee) 6 0 ee
+    ∷ refuses (downsize (lanes 2) 4 (0 ∷ []) ee) 6 0 ee
+    -- 2 before 13, 3 and 4: no whole number of records
+    ∷ refuses (repack (lanes 1) 1 (one 0x02 0 0 0 1 0 ++ (0 ∷ [])) ee) 2 0 ee
+    ∷ refuses (dataOf (lanes 1) (aa ++ (0 ∷ [])) 9) 2 0 []
+    ∷ refuses (dataOf (lanes 1) (aa ++ (0 ∷ [])) 0) 2 0 []
+    ∷ refuses (fillIn false (lanes 1) (one 0xFF 0 0 0 0 0 ++ (1 ∷ []))) 2 0 (one 0xFF 0 0 0 0 0 ++ (1 ∷ []))
+    -- 13: no such record
+    ∷ refuses (dataOf (lanes 1) aa 1) 13 0 []
+    ∷ gives (dataOf (lanes 2) twoByTwo 1) 0 (3 ∷ 4 ∷ [])
+    -- where the part starts; 0 where the call is refused
+    ∷ gives (startOf (lanes 2) twoByTwo 0) 0 (7 ∷ [])
+    ∷ gives (startOf (lanes 2) twoByTwo 1) 0 (16 ∷ [])
+    ∷ refuses (startOf (lanes 2) twoByTwo 2) 13 0 (0 ∷ [])
+    ∷ refuses (startOf (lanes 17) twoByTwo 1) 1 0 (0 ∷ [])
+    ∷ refuses (startOf (lanes 3) twoByTwo 1) 2 0 (0 ∷ [])
+    -- 3 by each of its bits: octet 0, TDEST, TKEEP, TSTRB; a transfer record has no flag but TLAST
+    ∷ refuses (repack (lanes 1) 1 (aa ++ one 0x02 0 0 0 0 0) ee) 3 1 ee
+    ∷ refuses (repack (lanes 1) 1 (aa ++ one 0x00 0 16 0 0 0) ee) 3 1 ee
+    ∷ refuses (repack (lanes 1) 1 (aa ++ one 0x00 0 15 2 0 0) ee) 3 1 ee
+    ∷ refuses (repack (lanes 1) 1 (aa ++ one 0x00 0 15 0 2 0) ee) 3 1 ee
+    ∷ refuses (repack (lanes 1) 1 (aa ++ (0 ∷ 0 ∷ 0 ∷ 0 ∷ 1 ∷ 0 ∷ 0 ∷ 0 ∷ [])) ee) 3 1 ee
+    ∷ refuses (repack (lanes 1) 1 (aa ++ (0 ∷ 0 ∷ 0 ∷ 0 ∷ 0 ∷ 0 ∷ 1 ∷ 0 ∷ [])) ee) 3 1 ee
+    ∷ refuses (repack (lanes 1) 1 (aa ++ one 0x80 0 0 0 0 0) ee) 3 1 ee
+    ∷ refuses (judge (lanes 1) (one 0x0F 255 15 1 1 255 ++ one 0x80 0 0 0 0 0)) 3 1 []
+    ∷ refuses (judge (lanes 1) (one 0x0F 255 15 1 1 255 ++ one 0x1F 0 0 0 0 0)) 3 1 []
+    -- records in order, 3 before 4 in each; a refused call leaves lent memory as it was
+    ∷ refuses (repack (lanes 1) 1 (one 0x00 0 0 0 1 0 ++ one 0x02 0 0 0 0 0) ee) 4 0 ee
+    ∷ refuses (repack (lanes 1) 1 (aa ++ one 0x02 0 0 0 1 0) ee) 3 1 ee
+    ∷ refuses (downsize (lanes 1) 1 (aa ++ one 0x00 0 0 0 1 0) ee) 4 1 ee
+    -- 3 of any cycle before any rule; judging never gives 4
+    ∷ refuses (judge (lanes 1) (one 0x02 0 0 0 0 0 ++ one 0x10 0 0 0 0 0)) 3 1 []
+    ∷ refuses (harvest (lanes 1) (one 0x02 0 0 0 0 0 ++ one 0x10 0 0 0 0 0) []) 3 1 []
+    -- 14 before 5: the cycle and rule of the finding
+    ∷ record { asked = harvest (lanes 1) (one 0x0E 0 0 1 1 7 ++ one 0x0E 0 0 0 1 0) []; told = tells (values 14 1 4 0) [] }
+    -- 5: one octet short, and the exact room
+    ∷ refuses (harvest (lanes 1) (one 0x0F 1 2 1 1 7) (0 ∷ 0 ∷ 0 ∷ 0 ∷ 0 ∷ 0 ∷ 0 ∷ [])) 5 0 (0 ∷ 0 ∷ 0 ∷ 0 ∷ 0 ∷ 0 ∷ 0 ∷ [])
+    ∷ gives (harvest (lanes 1) (one 0x0F 1 2 1 0 7 ++ one 0x0A 1 2 1 1 8 ++ one 0x0E 1 2 1 1 8) (eight ++ eight ++ ee)) 2
+    (one 0x01 1 2 1 0 7 ++ one 0x00 1 2 1 1 8 ++ ee)
+    ∷ refuses (repack (lanes 1) 1 aa (0 ∷ 0 ∷ 0 ∷ 0 ∷ 0 ∷ 0 ∷ 0 ∷ [])) 5 0 (0 ∷ 0 ∷ 0 ∷ 0 ∷ 0 ∷ 0 ∷ 0 ∷ [])
+    ∷ gives (repack (lanes 1) 1 aa eight) 1 aa
+    ∷ refuses (downsize (lanes 1) 1 aa (0 ∷ [])) 5 0 (0 ∷ [])
+    -- slices with no item need room too: a data lane and a null one
+    ∷ refuses (downsize (lanes 2) 1 (0 ∷ 3 ∷ 4 ∷ 1 ∷ 0 ∷ 1 ∷ 0 ∷ 5 ∷ 6 ∷ []) (eight ++ ee)) 5 0 (eight ++ ee)
+    -- fill-in touches bit 0 of octet 0 of each record, and has no 3
+    ∷ gives (fillIn false (lanes 1) (one 0xFF 255 255 255 255 255 ++ one 0x08 0 0 0 0 0)) 2
+    (one 0xFE 255 255 255 255 255 ++ one 0x08 0 0 0 0 0)
+    ∷ gives (fillIn true (lanes 1) (one 0xFE 255 255 255 255 255 ++ one 0x0F 0 0 0 0 0)) 2
+    (one 0xFF 255 255 255 255 255 ++ one 0x0F 0 0 0 0 0)
+    -- an all-null record of another pair between two of one stretch cuts nothing
+    ∷ gives (repack (lanes 1) 2 (aa ++ nulls 1 ++ one 0x00 0 0 1 1 0xBB) (eight ++ ee)) 1
+    (0x00 ∷ 0x00 ∷ 0x00 ∷ 0x03 ∷ 0x00 ∷ 0x03 ∷ 0x00 ∷ 0xAA ∷ 0xBB ∷ 0xEE ∷ 0xEE ∷ 0xEE ∷ [])
+    ∷ s6
+    -- every TID is kept
+    ∷ gives (repack (lanes 1) 1 (one 0 200 0 1 1 7) eight) 1 (one 0 200 0 1 1 7)
+    -- P1's transfer at width 2: one stretch in two records
+    ∷ gives (repack (lanes 4) 2 p1 (eight ++ eight ++ ee)) 2
+    (0x00 ∷ 0x01 ∷ 0x02 ∷ 0x03 ∷ 0x00 ∷ 0x01 ∷ 0x00 ∷ 0x11 ∷ 0x00
+    ∷ 0x01 ∷ 0x01 ∷ 0x02 ∷ 0x01 ∷ 0x00 ∷ 0x01 ∷ 0x00 ∷ 0x44 ∷ 0x00 ∷ 0xEE ∷ 0xEE ∷ [])
+    -- S3 at a wider record: the end joins the full record before it there too
+    ∷ gives (repack (lanes 1) 2 (aa ++ aa ++ lastAlone) (eight ++ ee)) 1
+    (0x01 ∷ 0x00 ∷ 0x00 ∷ 0x03 ∷ 0x00 ∷ 0x03 ∷ 0x00 ∷ 0xAA ∷ 0xAA ∷ 0xEE ∷ 0xEE ∷ 0xEE ∷ [])
+    -- the high octets of TKEEP and TSTRB: lane 8 data, lane 15 position
+    ∷ gives
+    (repack (lanes 16) 1
+    (0 ∷ 1 ∷ 2 ∷ 0x00 ∷ 0x81 ∷ 0x00 ∷ 0x01 ∷ 0 ∷ 1 ∷ 2 ∷ 3 ∷ 4 ∷ 5 ∷ 6 ∷ 7 ∷ 8 ∷ 9 ∷ 10 ∷ 11 ∷ 12 ∷ 13 ∷ 14 ∷ 15 ∷ []) (eight ++ eight))
+    2 (one 0 1 2 1 1 8 ++ one 0 1 2 1 0 0)
+    -- slices of an all-null record stay
+    ∷ gives (downsize (lanes 2) 1 (1 ∷ 3 ∷ 4 ∷ 0 ∷ 0 ∷ 0 ∷ 0 ∷ 5 ∷ 6 ∷ []) (eight ++ eight)) 2 (one 0 3 4 0 0 0 ++ one 1 3 4 0 0 0)
+    -- another TID cuts, and another TDEST too
+    ∷ s7
+    ∷ gives (repack (lanes 1) 2 (one 0 1 0 1 1 7 ++ one 0 1 3 1 1 8) (eight ++ eight ++ ee)) 2
+    (0 ∷ 1 ∷ 0 ∷ 1 ∷ 0 ∷ 1 ∷ 0 ∷ 7 ∷ 0 ∷ 0 ∷ 1 ∷ 3 ∷ 1 ∷ 0 ∷ 1 ∷ 0 ∷ 8 ∷ 0 ∷ 0xEE ∷ 0xEE ∷ [])
+    -- an end of another pair than the item before it is a packet of its own
+    ∷ gives (repack (lanes 1) 2 (one 0 1 0 1 1 7 ++ one 1 2 0 0 0 0) (eight ++ eight ++ ee)) 2
+    (0 ∷ 1 ∷ 0 ∷ 1 ∷ 0 ∷ 1 ∷ 0 ∷ 7 ∷ 0 ∷ 1 ∷ 2 ∷ 0 ∷ 0 ∷ 0 ∷ 0 ∷ 0 ∷ 0 ∷ 0 ∷ 0xEE ∷ 0xEE ∷ [])
+    ∷ []

@@ -1,0 +1,66 @@
+-- The faults that refuse a stream call (paper 01, 'Refusal numbers'), each as a check: whether the fault is there, and the
+-- refusal it gives. A call lists its checks in 01's order, and the first fault that is there is what it answers.
+use mathlib.Core.Bool.{Bool, not, _||_}
+use mathlib.Core.List.{List, [], _∷_, map}
+use Prim.Native.Nat.{ℕ, suc, _%_, _^_}
+use lib.Dec.{eqb, leb, ltb}
+use lib.ListN.{length}
+use Rattle.refusal.specs.Checks.{Check, check}
+use Rattle.refusal.specs.declared.Refusal.{Refusal}
+use Rattle.refusal.specs.declared.Refusal.the-variants.{Width, Length, Field, Reserved, Room, Ratio, Index}
+use Rattle.stream_spec.specs.declared.Shape.{Shape}
+use Rattle.stream_spec.specs.Layout.{size, flags, pairOf, tkeep, tstrb, laneTypes, anyReserved, recordCount}
+
+-- 1: "a width is 0 or above 16". A call has the width of its input, and perhaps a width of its output.
+abbrev pub widthCheck : ℕ → Check Refusal
+widthCheck w = check (eqb w 0 || ltb 16 w) Width
+
+abbrev pub shapeChecks : Shape → List ℕ → List (Check Refusal)
+shapeChecks s outputs = map widthCheck (s .width ∷ outputs)
+
+-- 6: "downsizing: v doesn't divide w"
+abbrev pub ratioCheck : Shape → ℕ → Check Refusal
+ratioCheck s v = check (not (eqb (s .width % v) 0)) Ratio
+
+-- "A take holds at most 65,536 octets."
+abbrev pub captureMost : ℕ
+captureMost = 65536
+
+-- 2: "input is over 65,536 octets or no whole number of records"
+abbrev pub lengthCheck : Shape → List ℕ → Check Refusal
+lengthCheck s xs = check (ltb captureMost (length xs) || not (eqb (length xs % size s) 0)) Length
+
+-- 13: "no such record"
+abbrev pub indexCheck : Shape → List ℕ → ℕ → Check Refusal
+indexCheck s xs k = check (leb (recordCount s xs) k) Index
+
+-- 3: "a bit that must be zero is set, or TDEST is above 15". Of octet 0 a cycle record uses four flags and "a transfer
+-- record has octet 0 equal to 0 or 1"; of TKEEP and TSTRB "bits at or above w" are zero.
+abbrev pub fieldFault : ℕ → Shape → List ℕ → Bool
+fieldFault used s r =
+    leb (2 ^ used) (flags r) || ltb 15 (pairOf r .tdest) || leb (2 ^ s .width) (tkeep r) || leb (2 ^ s .width) (tstrb r)
+
+abbrev pub cycleFlags : ℕ
+cycleFlags = 4
+
+abbrev pub transferFlags : ℕ
+transferFlags = 1
+
+-- 4: "a transfer record has a reserved lane"
+abbrev pub reservedFault : Shape → List ℕ → Bool
+reservedFault s r = anyReserved (laneTypes s r)
+
+-- "records in order with 3 before 4 in each"; the place is the record, counted from k
+abbrev pub transferChecks : Shape → ℕ → List (List ℕ) → List (Check Refusal)
+transferChecks s k [] = []
+transferChecks s k (r ∷ rs) =
+    check (fieldFault transferFlags s r) (Field k) ∷ check (reservedFault s r) (Reserved k) ∷ transferChecks s (suc k) rs
+
+-- of cycle records only 3: "Judging and harvesting never give 4: that is R4."
+abbrev pub cycleChecks : Shape → ℕ → List (List ℕ) → List (Check Refusal)
+cycleChecks s k [] = []
+cycleChecks s k (r ∷ rs) = check (fieldFault cycleFlags s r) (Field k) ∷ cycleChecks s (suc k) rs
+
+-- 5: "the lent output is shorter than the answer"
+abbrev pub roomCheck : List ℕ → ℕ → Check Refusal
+roomCheck answer room = check (ltb room (length answer)) Room

@@ -1,0 +1,201 @@
+-- The octets of a record (paper 01, 'One record of a take'; Arm IHI 0051A 2.1, 2.4): which octet or bit is
+-- what. Everything else in specs/ goes through the names below, or through transfers and items; Handshake rewrites octet 0.
+use mathlib.Core.Bool.{Bool, true, false, _||_}
+use mathlib.Core.List.{List, [], _∷_, _++_, map}
+use mathlib.Core.Option.{Option, none, some}
+use Prim.Native.Nat.{ℕ, zero, suc, _+_, _*_, _/_, _%_, _^_}
+use lib.Dec.{eqb}
+use lib.ListN.{length, getD, take, drop}
+use Rattle.stream_spec.specs.declared.Shape.{Shape}
+use Rattle.stream_spec.specs.Items.{Pair, Transfer, Item, items}
+use Rattle.stream_spec.specs.Packed.{pack, slices}
+
+-- ---- bits
+
+-- bit x of a number, bit 0 the lowest
+abbrev pub bit : ℕ → ℕ → Bool
+bit x n = eqb (n / 2 ^ x % 2) 1
+
+abbrev pub odd : ℕ → Bool
+odd n = eqb (n % 2) 1
+
+abbrev pub bitOf : Bool → ℕ
+bitOf true = 1
+bitOf false = 0
+
+-- the number whose bits these are, bit 0 first
+abbrev pub maskOf : List Bool → ℕ
+maskOf [] = 0
+maskOf (b ∷ bs) = bitOf b + 2 * maskOf bs
+
+-- ---- a record's octets and fields
+
+-- the octets before a record's data
+abbrev pub headOctets : ℕ
+headOctets = 7
+
+-- "A record has 7 + w octets."
+unfoldable pub size : Shape → ℕ
+size s = headOctets + s .width
+
+-- the same kind of record at another width. (What else a shape will hold stays as it is in s; as yet it is only a width.)
+abbrev pub atWidth : Shape → ℕ → Shape
+atWidth s v = record { width = v }
+
+-- octet 0: "bit 0 TLAST, bit 1 TVALID, bit 2 TREADY, bit 3 ARESETn"
+abbrev pub flags : List ℕ → ℕ
+flags r = getD r 0 0
+
+abbrev pub tlast : List ℕ → Bool
+tlast r = bit 0 (flags r)
+
+abbrev pub tvalid : List ℕ → Bool
+tvalid r = bit 1 (flags r)
+
+abbrev pub tready : List ℕ → Bool
+tready r = bit 2 (flags r)
+
+abbrev pub aresetn : List ℕ → Bool
+aresetn r = bit 3 (flags r)
+
+-- octets 1 and 2: TID and TDEST
+abbrev pub pairOf : List ℕ → Pair
+pairOf r = record { tid = getD r 1 0; tdest = getD r 2 0 }
+
+-- octets 3 and 4: "TKEEP, low octet first"
+abbrev pub tkeep : List ℕ → ℕ
+tkeep r = getD r 3 0 + 256 * getD r 4 0
+
+-- octets 5 and 6: "TSTRB, the same way"
+abbrev pub tstrb : List ℕ → ℕ
+tstrb r = getD r 5 0 + 256 * getD r 6 0
+
+-- octets 7 on: "data of lane 0, lane 1, up to w - 1"
+abbrev pub dataOctets : Shape → List ℕ → List ℕ
+dataOctets s r = take (s .width) (drop headOctets r)
+
+-- everything from octet 1 on: TID, TDEST, TKEEP, TSTRB and data
+abbrev pub body : List ℕ → List ℕ
+body r = drop 1 r
+
+-- ---- byte lanes
+
+-- IHI 0051A table 2-2: "TKEEP and TSTRB high: a data item with its octet. TKEEP high, TSTRB low: a position item, its
+-- octet ignored. Both low: null, no item. TKEEP low, TSTRB high: reserved."
+pub data LaneType : Type 0 where
+  dataLane positionLane nullLane reservedLane : LaneType
+
+abbrev pub laneType : Bool → Bool → LaneType
+laneType true true = dataLane
+laneType true false = positionLane
+laneType false false = nullLane
+laneType false true = reservedLane
+
+-- the types of w lanes: lane 0 has the lowest bit of TKEEP and TSTRB, the lanes above it have the other bits
+abbrev pub typesOf : ℕ → ℕ → ℕ → List LaneType
+typesOf zero keep strb = []
+typesOf (suc w) keep strb = laneType (odd keep) (odd strb) ∷ typesOf w (keep / 2) (strb / 2)
+
+abbrev pub laneTypes : Shape → List ℕ → List LaneType
+laneTypes s r = typesOf (s .width) (tkeep r) (tstrb r)
+
+abbrev pub isReserved : LaneType → Bool
+isReserved dataLane = false
+isReserved positionLane = false
+isReserved nullLane = false
+isReserved reservedLane = true
+
+abbrev pub anyReserved : List LaneType → Bool
+anyReserved [] = false
+anyReserved (t ∷ ts) = isReserved t || anyReserved ts
+
+-- What a kept lane carries: "a data item with its octet", or "a position item, its octet ignored".
+pub data Kept : Type 0 where
+  octet : ℕ → Kept
+  position : Kept
+
+-- what a lane of this type with this data octet carries. A reserved lane is refused before anything reads it.
+abbrev pub laneOf : LaneType → ℕ → Option Kept
+laneOf dataLane d = some (octet d)
+laneOf positionLane d = some position
+laneOf nullLane d = none
+laneOf reservedLane d = none
+
+abbrev pub lanesOf : List LaneType → List ℕ → List (Option Kept)
+lanesOf [] ds = []
+lanesOf (t ∷ ts) [] = laneOf t 0 ∷ lanesOf ts []
+lanesOf (t ∷ ts) (d ∷ ds) = laneOf t d ∷ lanesOf ts ds
+
+-- ---- records and transfers
+
+-- the transfer that a transfer record stands for
+abbrev pub transferOf : Shape → List ℕ → Transfer Kept
+transferOf s r = record { pair = pairOf r; lanes = lanesOf (laneTypes s r) (dataOctets s r); last = tlast r }
+
+abbrev pub strbBit : Option Kept → Bool
+strbBit none = false
+strbBit (some (octet d)) = true
+strbBit (some position) = false
+
+abbrev pub keepBit : Option Kept → Bool
+keepBit none = false
+keepBit (some k) = true
+
+-- "Null and position lanes carry data 00."
+abbrev pub laneOctet : Option Kept → ℕ
+laneOctet none = 0
+laneOctet (some (octet d)) = d
+laneOctet (some position) = 0
+
+-- the two octets of a mask, the low one first
+abbrev pub maskOctets : List Bool → List ℕ
+maskOctets bs = maskOf bs % 256 ∷ maskOf bs / 256 ∷ []
+
+-- the octets of the transfer record that stands for a transfer
+abbrev pub octetsOf : Transfer Kept → List ℕ
+octetsOf t =
+    bitOf (t .last) ∷ t .pair .tid ∷ t .pair .tdest
+    ∷ (maskOctets (map keepBit (t .lanes)) ++ (maskOctets (map strbBit (t .lanes)) ++ map laneOctet (t .lanes)))
+
+-- ---- streams
+
+-- n pieces of so many octets each
+abbrev pub pieces : ℕ → ℕ → List ℕ → List (List ℕ)
+pieces zero octets xs = []
+pieces (suc n) octets xs = take octets xs ∷ pieces n octets (drop octets xs)
+
+-- how many whole records stand in these octets, and the records, one after the other
+abbrev pub recordCount : Shape → List ℕ → ℕ
+recordCount s xs = length xs / size s
+
+abbrev pub records : Shape → List ℕ → List (List ℕ)
+records s xs = pieces (recordCount s xs) (size s) xs
+
+-- octets of records, one record after the other
+abbrev pub joined : List (List ℕ) → List ℕ
+joined [] = []
+joined (r ∷ rs) = r ++ joined rs
+
+abbrev pub transfers : Shape → List ℕ → List (Transfer Kept)
+transfers s xs = map (transferOf s) (records s xs)
+
+abbrev pub octets : List (Transfer Kept) → List ℕ
+octets ts = joined (map octetsOf ts)
+
+-- the items that a stream carries
+abbrev pub streamItems : Shape → List ℕ → List (Item Kept)
+streamItems s xs = items (transfers s xs)
+
+-- the packed form of a stream at width v: its transfers, and their octets
+abbrev pub packedTransfers : Shape → ℕ → List ℕ → List (Transfer Kept)
+packedTransfers s v xs = pack v (streamItems s xs)
+
+abbrev pub packed : Shape → ℕ → List ℕ → List ℕ
+packed s v xs = octets (packedTransfers s v xs)
+
+-- the lane-keeping slices of a stream at width v: its transfers, and their octets
+abbrev pub slicedTransfers : Shape → ℕ → List ℕ → List (Transfer Kept)
+slicedTransfers s v xs = slices (s .width) v (transfers s xs)
+
+abbrev pub sliced : Shape → ℕ → List ℕ → List ℕ
+sliced s v xs = octets (slicedTransfers s v xs)

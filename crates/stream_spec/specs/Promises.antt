@@ -1,0 +1,181 @@
+-- What is proved of the definitions, a statement each. Words in quotes are paper 01's or, where it is said, a demand's.
+-- Demand 3 has a page of its own. The proofs are in proofs/Promises.
+use mathlib.Core.Path.{_≡_}
+use mathlib.Core.Bool.{Bool, true, false, not, _&&_, _||_, cond}
+use mathlib.Core.List.{List, [], _∷_, _++_, map}
+use mathlib.Core.Option.{Option, none, some}
+use Prim.Native.Nat.{ℕ, zero, suc, _*_, _/_, _%_, _^_, _≤_, _<_}
+use mathlib.Core.Logic.{_⊎_, _↔_, _≢_}
+use lib.Dec.{eqb, ltb}
+use lib.ListN.{length, getD}
+use Rattle.refusal.specs.declared.Refusal.{Refusal}
+use Rattle.refusal.specs.declared.Refusal.the-variants.{Room}
+use Rattle.stream_spec.specs.declared.Shape.{Shape}
+use Rattle.stream_spec.specs.Items.{samePair, Transfer, Item, kept, items}
+use Rattle.stream_spec.specs.Packed.{fitted, pack, settled, held, parted}
+use Rattle.stream_spec.specs.Layout.{bit, tkeep, tstrb, size, atWidth, nullLane, laneType, laneTypes, Kept, records, streamItems, packedTransfers, packed, slicedTransfers, sliced}
+use Rattle.stream_spec.specs.Checks.{widthCheck, lengthCheck}
+use Rattle.stream_spec.specs.Handshake.{r1, r2, r3, r4, Finding, firstFinding, harvested}
+use Rattle.stream_spec.specs.Answers.{repackRefusal, harvestRefusal, dataRefusal, dataPart}
+use Rattle.stream_spec.specs.Legal.{Octets, Legal}
+
+-- a width that is not refused
+abbrev pub Width : ℕ → Type 0
+Width v = (1 ≤ v) × (v ≤ 16)
+
+-- ---- refusals
+
+-- 1: "a width is 0 or above 16"
+abbrev pub WidthExactly : Type 0
+WidthExactly = (w : ℕ) → (widthCheck w .found ≡ true) ↔ ((w ≡ 0) ⊎ (16 < w))
+
+-- 2: "input is over 65,536 octets or no whole number of records"
+abbrev pub LengthExactly : Type 0
+LengthExactly = (s : Shape) (xs : List ℕ) → (lengthCheck s xs .found ≡ true) ↔ ((65536 < length xs) ⊎ (length xs % size s ≢ 0))
+
+-- 3: "a bit that must be zero is set". `fieldFault` asks it of octet 0 and of both masks as 2 ^ n ≤ m: that is so exactly
+-- where some bit at or above n is set.
+pub record SetAbove (n m : ℕ) : Type 0 where
+  pub place : ℕ
+  pub above : n ≤ place
+  pub high : bit place m ≡ true
+
+abbrev pub FieldBits : Type 0
+FieldBits = (n m : ℕ) → (2 ^ n ≤ m) ↔ SetAbove n m
+
+-- ---- byte types
+
+-- Table 2-2 bit by bit: the type of lane x is that of bit x of TKEEP and bit x of TSTRB.
+abbrev pub ByteTypes : Type 0
+ByteTypes = (s : Shape) (r : List ℕ) (x : ℕ) → x < s .width → getD (laneTypes s r) x nullLane ≡ laneType (bit x (tkeep r)) (bit x (tstrb r))
+
+-- ---- data octets of a record
+
+-- The part handed out has an octet for each lane, or is empty: it is empty exactly where the call is refused.
+pub record HandsOut (s : Shape) (xs : List ℕ) (k : ℕ) : Type 0 where
+  pub present : dataRefusal s xs k ≡ none → (length (dataPart s xs k) ≡ s .width) × (0 < s .width)
+  pub refused : (r : Refusal) → dataRefusal s xs k ≡ some r → dataPart s xs k ≡ []
+
+abbrev pub DataOctets : Type 0
+DataOctets = (s : Shape) (xs : List ℕ) (k : ℕ) → HandsOut s xs k
+
+-- ---- repacking
+
+-- Demand 2: "Repacking keeps every data byte with its value, every position byte, every packet end, each with its TID and TDEST, in
+-- order, and adds none."
+abbrev pub RepackingKeeps : Type 0
+RepackingKeeps = (s : Shape) (v : ℕ) (xs : List ℕ) → Width v → streamItems (atWidth s v) (packed s v xs) ≡ streamItems s xs
+
+abbrev pub PackedLegal : Type 0
+PackedLegal = (s : Shape) (v : ℕ) (xs : List ℕ) → Width v → Legal s xs → Legal (atWidth s v) (packed s v xs)
+
+-- the packed form's octets are those of its records, size octets each
+abbrev pub PackedLength : Type 0
+PackedLength = (s : Shape) (v : ℕ) (xs : List ℕ) → length (packed s v xs) ≡ length (packedTransfers s v xs) * size (atWidth s v)
+
+-- "filled from lane 0": the kept lanes of a transfer stand below its null lanes
+abbrev pub FromLaneZero : ℕ → Transfer Kept → Type 0
+FromLaneZero v t = t .lanes ≡ fitted v (map some (kept (t .lanes)))
+
+-- whether a transfer keeps a byte in each of v lanes, or in none
+abbrev pub full : ℕ → Transfer Kept → Bool
+full v t = eqb (length (kept (t .lanes))) v
+
+abbrev pub allNull : Transfer Kept → Bool
+allNull t = eqb (length (kept (t .lanes))) 0
+
+-- "all full but perhaps the last" of a stretch, and no needless TLAST-only transfer: a transfer that another one follows
+-- is full and the next one is not all-null, or it has TLAST, or the next one has another pair
+abbrev pub closes : ℕ → Transfer Kept → List (Transfer Kept) → Bool
+closes v t [] = true
+closes v t (u ∷ us) = (full v t && not (allNull u)) || t .last || not (samePair (t .pair) (u .pair))
+
+-- ".. gives one all-null TLAST record": an all-null transfer stands only for an end
+abbrev pub Packs : ℕ → List (Transfer Kept) → Type 0
+Packs v [] = Unit {0}
+Packs v (t ∷ ts) = FromLaneZero v t × ((t .last || not (allNull t)) ≡ true) × (closes v t ts ≡ true) × Packs v ts
+
+abbrev pub PackedFull : Type 0
+PackedFull = (v : ℕ) → 0 < v → (is : List (Item Kept)) → Packs v (pack v is)
+
+-- And these properties leave no choice: transfers that have them are the packed form of their items.
+abbrev pub PackedOnly : Type 0
+PackedOnly = (v : ℕ) → 0 < v → (ts : List (Transfer Kept)) → Packs v ts → ts ≡ pack v (items ts)
+
+-- The hold law: once more items follow, the settled transfers of the packed form are certain, and what is held is packed
+-- again with what follows.
+abbrev pub Hold : Type 0
+Hold =
+    (v : ℕ) → 0 < v → (is js : List (Item Kept))
+    → pack v (is ++ js) ≡ settled (pack v is) ++ pack v (items (held (pack v is)) ++ js)
+
+-- Two streams, packed apart and joined, under demand 3's condition.
+abbrev pub Joins : Type 0
+Joins = (v : ℕ) (is js : List (Item Kept)) → parted is js ≡ true → pack v (is ++ js) ≡ pack v is ++ pack v js
+
+-- The packed form is canonical: two legal streams of any two widths have equal packed forms at a width exactly when they
+-- carry the same items. So comparing two files of packed records octet by octet compares what the streams carry.
+abbrev pub Canonical : Type 0
+Canonical =
+    (s t : Shape) (v : ℕ) (xs ys : List ℕ) → Width v → Legal s xs → Legal t ys
+    → (packed s v xs ≡ packed t v ys) ↔ (streamItems s xs ≡ streamItems t ys)
+
+-- ---- lane-keeping downsizing
+
+-- "Its items equal the input's, so its packed form at any width is the input's." And it is a legal stream.
+pub record Keeps (s : Shape) (v : ℕ) (xs : List ℕ) : Type 0 where
+  pub same : streamItems (atWidth s v) (sliced s v xs) ≡ streamItems s xs
+  pub legal : Legal (atWidth s v) (sliced s v xs)
+  pub packs : (u : ℕ) → packed (atWidth s v) u (sliced s v xs) ≡ packed s u xs
+  pub count : length (slicedTransfers s v xs) ≡ length (records s xs) * (s .width / v)
+
+abbrev pub LaneKeeping : Type 0
+LaneKeeping = (s : Shape) (v : ℕ) (xs : List ℕ) → Width v → s .width % v ≡ 0 → Legal s xs → Keeps s v xs
+
+-- ---- handshake findings
+
+-- rule n, 1 to 4, at a cycle and the cycle before it
+abbrev pub rule : Shape → Option (List ℕ) → List ℕ → ℕ → Bool
+rule s before c zero = false
+rule s before c (suc zero) = r1 before c
+rule s before c (suc (suc zero)) = r2 before c
+rule s before c (suc (suc (suc zero))) = r3 before c
+rule s before c (suc (suc (suc (suc zero)))) = r4 s c
+rule s before c (suc (suc (suc (suc (suc n))))) = false
+
+-- the cycle before cycle k
+abbrev pub cycleBefore : List (List ℕ) → ℕ → Option (List ℕ)
+cycleBefore cs zero = none
+cycleBefore cs (suc k) = some (getD cs k [])
+
+-- cycle k breaks rule n
+abbrev pub breaks : Shape → List (List ℕ) → ℕ → ℕ → Bool
+breaks s cs k n = rule s (cycleBefore cs k) (getD cs k []) n
+
+-- "broken, with the earliest breaking cycle and its lowest rule"
+pub record IsEarliest (s : Shape) (cs : List (List ℕ)) (f : Finding) : Type 0 where
+  pub within : f .cycle < length cs
+  pub broken : breaks s cs (f .cycle) (f .rule) ≡ true
+  pub others : (k n : ℕ) → k < length cs → breaks s cs k n ≡ true → (f .cycle < k) ⊎ ((f .cycle ≡ k) × (f .rule ≤ n))
+
+pub record Judges (s : Shape) (xs : List ℕ) : Type 0 where
+  pub found : (f : Finding) → firstFinding s xs ≡ some f → IsEarliest s (records s xs) f
+  pub clean : firstFinding s xs ≡ none → (k n : ℕ) → k < length (records s xs) → breaks s (records s xs) k n ≡ false
+
+abbrev pub Findings : Type 0
+Findings = (s : Shape) (xs : List ℕ) → Judges s xs
+
+-- ---- harvest
+
+-- What an accepted harvest writes is a legal stream of the same width, no longer than the take.
+abbrev pub HarvestLegal : Type 0
+HarvestLegal =
+    (s : Shape) (xs : List ℕ) (room : ℕ) → Octets xs → harvestRefusal s xs room ≡ none
+    → Legal s (harvested s xs) × (length (harvested s xs) ≤ length xs)
+
+-- So repacking what was harvested is refused for a bad output width or for want of room, and for nothing else: never 2, 3
+-- or 4.
+abbrev pub HarvestRepacks : Type 0
+HarvestRepacks =
+    (s : Shape) (xs : List ℕ) (room v lent : ℕ) → Octets xs → harvestRefusal s xs room ≡ none → Width v
+    → repackRefusal s v (harvested s xs) lent ≡ cond (ltb lent (length (packed s v (harvested s xs)))) (some Room) none

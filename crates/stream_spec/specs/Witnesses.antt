@@ -1,0 +1,124 @@
+-- Worked data for each promise that has a premise: examples that meet all its premises, and what it then says of them,
+-- typed by hand and never computed. proofs/Witnesses applies the proved promise to each, so a premise that lets in less
+-- is refused there. Which streams, divisions and numbers a premise lets in is in Tables.
+use mathlib.Core.Path.{_≡_}
+use mathlib.Core.Bool.{Bool, true, false}
+use mathlib.Core.List.{List, [], _∷_, _++_, map}
+use mathlib.Core.Option.{Option, none, some}
+use Prim.Native.Nat.{ℕ, _*_}
+use lib.ListN.{length, replicate}
+use Rattle.stream_spec.specs.Items.{Transfer, Item, byte, end}
+use Rattle.stream_spec.specs.Layout.{Kept, octet, position}
+use Rattle.stream_spec.specs.Demand3.{Call, Standing, Part, whole, PartsJoin}
+use Rattle.stream_spec.specs.Tables.{lanes, one, stream, pair, part, seven, otherTid, otherTdest, ended, nulls}
+
+-- ---- a stream: two data bytes, a position byte and an end of the pair (1, 2)
+
+abbrev pub first : Standing
+first = stream 2 (0 ∷ 1 ∷ 2 ∷ 3 ∷ 0 ∷ 3 ∷ 0 ∷ 17 ∷ 34 ∷ 1 ∷ 1 ∷ 2 ∷ 2 ∷ 0 ∷ 0 ∷ 0 ∷ 0 ∷ 51 ∷ [])
+
+abbrev pub endlessItems : List (Item Kept)
+endlessItems = byte (pair 1 2) (octet 17) ∷ byte (pair 1 2) (octet 34) ∷ byte (pair 1 2) position ∷ []
+
+abbrev pub firstItems : List (Item Kept)
+firstItems = endlessItems ++ end (pair 1 2) ∷ []
+
+-- its packed form at widths 1, 4 and 16
+abbrev pub atOne : List ℕ
+atOne = one 0 1 2 1 1 17 ++ (one 0 1 2 1 1 34 ++ one 1 1 2 1 0 0)
+
+abbrev pub atFour : List ℕ
+atFour = 1 ∷ 1 ∷ 2 ∷ 7 ∷ 0 ∷ 3 ∷ 0 ∷ 17 ∷ 34 ∷ 0 ∷ 0 ∷ []
+
+abbrev pub atSixteen : List ℕ
+atSixteen = 1 ∷ 1 ∷ 2 ∷ 7 ∷ 0 ∷ 3 ∷ 0 ∷ 17 ∷ 34 ∷ 0 ∷ 0 ∷ 0 ∷ 0 ∷ 0 ∷ 0 ∷ 0 ∷ 0 ∷ 0 ∷ 0 ∷ 0 ∷ 0 ∷ 0 ∷ 0 ∷ []
+
+-- another stream: the same without its end
+abbrev pub endless : List ℕ
+endless = one 0 1 2 1 1 17 ++ (one 0 1 2 1 1 34 ++ one 0 1 2 1 0 0)
+
+-- ---- lists of calls
+
+-- a call to this width with so many octets lent
+abbrev pub lends : ℕ → ℕ → Call
+lends v room = record { width = v; lent = replicate {A = ℕ} room 0xEE }
+
+-- refused for its width, and for want of one octet of room
+abbrev pub refusedCalls : List Call
+refusedCalls = lends 17 40 ∷ lends 1 23 ∷ []
+
+-- the same two, then 4 accepted, 1 refused for want of room, 1 accepted in exactly the room it needs, 0 and 3 refused
+abbrev pub mixedCalls : List Call
+mixedCalls = lends 17 40 ∷ lends 1 23 ∷ lends 4 11 ∷ lends 1 23 ∷ lends 1 24 ∷ lends 0 40 ∷ lends 3 9 ∷ []
+
+-- ---- a list of parts, repacked from width 1 to 2
+
+-- Nothing before a division; an end before it; another TID after it, twice; another TDEST after it; nothing after it.
+abbrev pub someParts : List Part
+someParts =
+    map part
+    ([] ∷ nulls ∷ (seven ++ (seven ++ (seven ++ ended))) ∷ seven ∷ (otherTid ++ otherTid) ∷ seven ∷ otherTdest ∷ nulls ∷ [] ∷ [])
+
+abbrev pub someNumbers : List ℕ
+someNumbers = 0 ∷ 0 ∷ 2 ∷ 1 ∷ 1 ∷ 1 ∷ 1 ∷ 0 ∷ 0 ∷ []
+
+abbrev pub someJoined : List ℕ
+someJoined =
+    0 ∷ 1 ∷ 2 ∷ 3 ∷ 0 ∷ 3 ∷ 0 ∷ 7 ∷ 7 ∷ 1 ∷ 1 ∷ 2 ∷ 1 ∷ 0 ∷ 1 ∷ 0 ∷ 7 ∷ 0 ∷ 0 ∷ 1 ∷ 2 ∷ 1 ∷ 0 ∷ 1 ∷ 0 ∷ 7 ∷ 0
+    ∷ 0 ∷ 3 ∷ 2 ∷ 3 ∷ 0 ∷ 3 ∷ 0 ∷ 8 ∷ 8 ∷ 0 ∷ 1 ∷ 2 ∷ 1 ∷ 0 ∷ 1 ∷ 0 ∷ 7 ∷ 0 ∷ 0 ∷ 1 ∷ 3 ∷ 1 ∷ 0 ∷ 1 ∷ 0 ∷ 9 ∷ 0 ∷ []
+
+-- And any number of parts, so of a whole longer than a take: packets with nothing in them, a record and a part each.
+abbrev pub manyParts : ℕ → List Part
+manyParts n = replicate n (part ended)
+
+pub record ManyJoin (n : ℕ) : Type 0 where
+  pub joins : PartsJoin (lanes 1) 2 (manyParts n) (replicate {A = ℕ} n 1)
+  pub octets : length (whole (manyParts n)) ≡ n * 8
+
+-- ---- items and transfers of the pair (1, 2), for the laws of packing
+
+abbrev pub transfer : List (Option Kept) → Bool → Transfer Kept
+transfer lanes last = record { pair = pair 1 2; lanes = lanes; last = last }
+
+-- two full transfers of width 1, the second with TLAST, and one that is all-null
+abbrev pub packedOnes : List (Transfer Kept)
+packedOnes = transfer (some (octet 17) ∷ []) false ∷ transfer (some position ∷ []) true ∷ transfer (none ∷ []) true ∷ []
+
+abbrev pub onesBytes : List (Item Kept)
+onesBytes = byte (pair 1 2) (octet 17) ∷ byte (pair 1 2) position ∷ []
+
+abbrev pub onesEnds : List (Item Kept)
+onesEnds = end (pair 1 2) ∷ end (pair 1 2) ∷ []
+
+abbrev pub onesItems : List (Item Kept)
+onesItems = onesBytes ++ onesEnds
+
+-- ---- lane-keeping: P1's transfer (p1 of Cases) at width 4, its slices of width 2, and the packed form of both
+
+abbrev pub p1Slices : List ℕ
+p1Slices =
+    0x00 ∷ 0x01 ∷ 0x02 ∷ 0x01 ∷ 0x00 ∷ 0x01 ∷ 0x00 ∷ 0x11 ∷ 0x00
+    ∷ 0x01 ∷ 0x01 ∷ 0x02 ∷ 0x03 ∷ 0x00 ∷ 0x02 ∷ 0x00 ∷ 0x00 ∷ 0x44 ∷ []
+
+abbrev pub p1Items : List (Item Kept)
+p1Items = byte (pair 1 2) (octet 0x11) ∷ byte (pair 1 2) position ∷ byte (pair 1 2) (octet 0x44) ∷ end (pair 1 2) ∷ []
+
+abbrev pub p1Packed : List ℕ
+p1Packed = 0x01 ∷ 0x01 ∷ 0x02 ∷ 0x07 ∷ 0x00 ∷ 0x05 ∷ 0x00 ∷ 0x11 ∷ 0x00 ∷ 0x44 ∷ 0x00 ∷ []
+
+-- lane 15 of width 16 is a data lane, lane 14 a position lane
+abbrev pub wide : List ℕ
+wide = 0 ∷ 1 ∷ 2 ∷ 0 ∷ 0xC0 ∷ 0 ∷ 0x80 ∷ replicate {A = ℕ} 16 7
+
+-- ---- takes of width 1
+
+-- cycle 0 waits, cycle 1 breaks R3 and R4, cycle 2 breaks R1
+abbrev pub brokenTake : List ℕ
+brokenTake = one 0x0A 5 0 1 1 7 ++ (one 0x0E 6 0 0 1 7 ++ one 0x02 0 0 0 0 0)
+
+-- a position byte with TLAST, a cycle that waits, and the data byte it waited for
+abbrev pub cleanTake : List ℕ
+cleanTake = one 0x0F 1 2 1 0 7 ++ (one 0x0A 1 2 1 1 8 ++ one 0x0E 1 2 1 1 8)
+
+abbrev pub harvest : List ℕ
+harvest = one 1 1 2 1 0 7 ++ one 0 1 2 1 1 8
