@@ -1,6 +1,6 @@
 // The report as a C function. Reading the sheet and the take from files, and printing, is the program, crate report.
-use report_call::Verdict;
 use refusal::Refusal;
+use report_call::Verdict;
 ghost use lib.ListN.{length};
 ghost use Rattle.report_call.specs.declared.Verdict.the-variants.{Refused};
 ghost use Rattle.capi.specs.Reports.{ShowsVerdict, ShowsReport, reportAsked};

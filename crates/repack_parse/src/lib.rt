@@ -2,10 +2,10 @@
 // read in usual.rt. Nothing is written to the caller's memory here.
 mod usual;
 
-use stream_record::Fault;
-use stream_record::Header;
 use refusal::Refusal;
 use repack_scratch::Open;
+use stream_record::Fault;
+use stream_record::Header;
 use stream_spec::Shape;
 ghost use mathlib.Core.Path.{_≡_};
 ghost use mathlib.Core.Bool.{false};

@@ -6,9 +6,9 @@
 // `main` reads those two files into cleared buffers and hands that on, and that a clean result is saved, then the text printed.
 mod files;
 
+use files::Input;
 use report_call::Summary;
 use report_call::Verdict;
-use files::Input;
 ghost use Prim.Native.Nat.{_≤_};
 ghost use mathlib.Core.Path.{_≡_};
 ghost use lib.ListN.{length};

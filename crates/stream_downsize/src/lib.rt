@@ -1,7 +1,7 @@
 // The public call `downsize`: lane-keeping downsizing of a take of transfer records to a width that divides its own, or
 // a refusal. Which octet of a record is what is in the crate stream_record; the packed form is not made here, but in stream_repack.
-use stream_record::Header;
 use refusal::Refusal;
+use stream_record::Header;
 use stream_spec::Shape;
 use stream_spec::Written;
 ghost use mathlib.Core.Path.{_≡_};

@@ -1,8 +1,8 @@
 // Judging a take of cycle records against the handshake rules. A record's octets are read by the crate stream_record; what the
 // rules say is in stream_spec's Handshake.
+use refusal::Refusal;
 use stream_record::Header;
 use stream_record::Zeros;
-use refusal::Refusal;
 use stream_spec::Shape;
 use stream_spec::Verdict;
 ghost use mathlib.Core.Path.{_≡_};
