@@ -1,6 +1,7 @@
 -- Paper 01's cases B1 to B6 and worked entries for each refusal, each bound and the top of memory: what is asked of which
--- burst, and the row that must be answered. One statement covers the whole list (proofs/Cases). B1 to B6 are typed from the
--- paper, the other entries worked by hand; of the definitions only the kind of a kind's number is used here.
+-- burst, and the row that must be answered. One statement covers the whole list (proofs/Cases). Entries that are not
+-- 01's have an id (W01 and on) that docs/PROMISES.md cites: a new one takes the next free id, and none is given twice.
+-- B1 to B6 are typed from the paper, the other entries worked by hand; of the definitions only `kindOf` is used here.
 use mathlib.Core.List.{List, [], _∷_, _++_, map}
 use Prim.Native.Nat.{ℕ}
 use lib.IntN.{ℤ, pos, negsuc}
@@ -97,33 +98,107 @@ b6 =
 -- Each refusal, some where a later one would be given too, and each bound from outside.
 abbrev pub refusals : List Case
 refusals =
-    refuses (burstOf 0xFF1 256 8 3 3) 7 ∷ refuses (burstOf 0 0 0 1 0) 7 ∷ refuses (burstOf 0 0 0 1 256) 7
-    ∷ refuses (burstOf 0xFF1 256 8 3 4) 8 ∷ refuses (burstOf 0xFF1 256 3 3 4) 8 ∷ refuses (burstOf 0 0 8 1 128) 8
-    ∷ refuses (burstOf 0xFF1 256 2 3 4) 9 ∷ refuses (burstOf 0 0 0 3 1) 9 ∷ refuses (burstOf 0 0 0 7 1) 9
-    ∷ refuses (burstOf 0 0 0 4 1) 9 ∷ refuses (burstOf 0 0 0 5 1) 9 ∷ refuses (burstOf 0 0 0 6 1) 9
-    ∷ refuses (burstOf 0 0 0 1 512) 7 ∷ refuses (burstOf 0 0 0 2 1) 10 ∷ refuses (burstOf 0xFF1 2 2 2 4) 10 ∷ refuses (burstOf 0xFF1 256 0 1 1) 10
+    -- W01: 7 before everything else: bus 3
+    refuses (burstOf 0xFF1 256 8 3 3) 7
+    -- W02: 7: bus 0
+    ∷ refuses (burstOf 0 0 0 1 0) 7
+    -- W03: 7: bus 256
+    ∷ refuses (burstOf 0 0 0 1 256) 7
+    -- W04: 8 before 9 to 12: AxSIZE 8
+    ∷ refuses (burstOf 0xFF1 256 8 3 4) 8
+    -- W05: 8: a beat wider than the bus
+    ∷ refuses (burstOf 0xFF1 256 3 3 4) 8
+    -- W06: 8: AxSIZE 8 on the widest bus
+    ∷ refuses (burstOf 0 0 8 1 128) 8
+    -- W07: 9 before 10 to 12
+    ∷ refuses (burstOf 0xFF1 256 2 3 4) 9
+    -- W08: 9: kind 3
+    ∷ refuses (burstOf 0 0 0 3 1) 9
+    -- W09: 9: kind 7
+    ∷ refuses (burstOf 0 0 0 7 1) 9
+    -- W10: 9: kind 4
+    ∷ refuses (burstOf 0 0 0 4 1) 9
+    -- W11: 9: kind 5
+    ∷ refuses (burstOf 0 0 0 5 1) 9
+    -- W12: 9: kind 6
+    ∷ refuses (burstOf 0 0 0 6 1) 9
+    -- W13: 7: bus 512
+    ∷ refuses (burstOf 0 0 0 1 512) 7
+    -- W14: 10: WRAP of one beat
+    ∷ refuses (burstOf 0 0 0 2 1) 10
+    -- W15: 10 before 11 and 12: WRAP of 3
+    ∷ refuses (burstOf 0xFF1 2 2 2 4) 10
+    -- W16: 10 before 12: AxLEN 256
+    ∷ refuses (burstOf 0xFF1 256 0 1 1) 10
+    -- W17: 11 before 12
     ∷ refuses (burstOf 0xFF6 3 2 2 4) 11
-    ∷ noBeat (burstOf 0xFF2 4 2 1 4) 5 12 ∷ noStep (burstOf 0xFF2 4 2 1 4) 4 12
-    ∷ noBeat (burstOf 0x1002 2 2 1 4) 3 13 ∷ noStep (burstOf 0x1002 2 2 1 4) 2 13 ∷ noStep (burstOf 0 0 0 1 1) 0 13
+    -- W18: 12 before 13, of a beat
+    ∷ noBeat (burstOf 0xFF2 4 2 1 4) 5 12
+    -- W19: 12 before 13, of a step
+    ∷ noStep (burstOf 0xFF2 4 2 1 4) 4 12
+    -- W20: 13: no such beat
+    ∷ noBeat (burstOf 0x1002 2 2 1 4) 3 13
+    -- W21: 13: no next beat
+    ∷ noStep (burstOf 0x1002 2 2 1 4) 2 13
+    -- W22: 13: one beat has no step
+    ∷ noStep (burstOf 0 0 0 1 1) 0 13
     ∷ []
 
 -- Each bus and each size is allowed somewhere, and so is each start that is aligned to its own beat.
 abbrev pub allowed : List Case
 allowed =
-    accepts (burstOf 0 1 4 1 16) ∷ accepts (burstOf 0 1 5 1 32) ∷ accepts (burstOf 0 1 6 1 64) ∷ accepts (burstOf 0 1 7 1 128)
-    ∷ accepts (burstOf 0 1 0 1 1) ∷ accepts (burstOf 0 1 1 1 2) ∷ accepts (burstOf 0 1 3 1 8) ∷ accepts (burstOf 2 1 1 2 2)
+    -- W23: bus 16, beats of 16 bytes
+    accepts (burstOf 0 1 4 1 16)
+    -- W24: bus 32, beats of 32 bytes
+    ∷ accepts (burstOf 0 1 5 1 32)
+    -- W25: bus 64, beats of 64 bytes
+    ∷ accepts (burstOf 0 1 6 1 64)
+    -- W26: bus 128, beats of 128 bytes
+    ∷ accepts (burstOf 0 1 7 1 128)
+    -- W27: bus 1
+    ∷ accepts (burstOf 0 1 0 1 1)
+    -- W28: bus 2
+    ∷ accepts (burstOf 0 1 1 1 2)
+    -- W29: bus 8
+    ∷ accepts (burstOf 0 1 3 1 8)
+    -- W30: WRAP of two beats, aligned to a beat of 2 bytes
+    ∷ accepts (burstOf 2 1 1 2 2)
     ∷ []
 
 -- The ends of what is allowed: beats by kind, the step's -1,920 and 128, a burst that fills a block, and bursts that end at
 -- the very last address of 32-bit memory.
 abbrev pub ends : List Case
 ends =
-    accepts (burstOf 5 0 0 0 1) ∷ accepts (burstOf 0 255 0 1 128) ∷ accepts (burstOf 4 1 1 2 2)
-    ∷ accepts (burstOf 64 7 3 2 8) ∷ hasStep (burstOf 1920 15 7 2 128) 0 (negsuc 1919)
-    ∷ hasStep (burstOf 0 1 7 1 128) 0 (pos 128) ∷ hasStep (burstOf 3 1 2 1 4) 0 (pos 1) ∷ hasStep (burstOf 3 1 2 0 4) 0 (pos 0)
-    ∷ accepts (burstOf 0xFFE 15 2 0 4) ∷ accepts (burstOf 0 31 7 1 128) ∷ refuses (burstOf 128 31 7 1 128) 12
-    ∷ hasBeat (burstOf 0xFFFF_FFF1 3 2 1 4) 3 0xFFFF_FFFC 0 3 ∷ refuses (burstOf 0xFFFF_FFF1 4 2 1 4) 12
-    ∷ hasBeat (burstOf 0xFFFF_FFFC 3 2 2 8) 1 0xFFFF_FFF0 0 3 ∷ hasStep (burstOf 0xFFFF_FFFC 3 2 2 8) 0 (negsuc 11)
+    -- W31: FIXED of one beat
+    accepts (burstOf 5 0 0 0 1)
+    -- W32: INCR of 256 beats
+    ∷ accepts (burstOf 0 255 0 1 128)
+    -- W33: WRAP of two beats
+    ∷ accepts (burstOf 4 1 1 2 2)
+    -- W34: WRAP of 8 beats
+    ∷ accepts (burstOf 64 7 3 2 8)
+    -- W35: the lowest step, -1,920
+    ∷ hasStep (burstOf 1920 15 7 2 128) 0 (negsuc 1919)
+    -- W36: the highest step, 128
+    ∷ hasStep (burstOf 0 1 7 1 128) 0 (pos 128)
+    -- W37: the first step of an unaligned INCR
+    ∷ hasStep (burstOf 3 1 2 1 4) 0 (pos 1)
+    -- W38: the step of FIXED is 0
+    ∷ hasStep (burstOf 3 1 2 0 4) 0 (pos 0)
+    -- W39: FIXED at the end of a block
+    ∷ accepts (burstOf 0xFFE 15 2 0 4)
+    -- W40: a burst that fills a block
+    ∷ accepts (burstOf 0 31 7 1 128)
+    -- W41: one beat further on: the next block
+    ∷ refuses (burstOf 128 31 7 1 128) 12
+    -- W42: the last beat of memory
+    ∷ hasBeat (burstOf 0xFFFF_FFF1 3 2 1 4) 3 0xFFFF_FFFC 0 3
+    -- W43: past the last address of memory
+    ∷ refuses (burstOf 0xFFFF_FFF1 4 2 1 4) 12
+    -- W44: WRAP in the last bytes of memory
+    ∷ hasBeat (burstOf 0xFFFF_FFFC 3 2 2 8) 1 0xFFFF_FFF0 0 3
+    -- W45: its step at the wrap
+    ∷ hasStep (burstOf 0xFFFF_FFFC 3 2 2 8) 0 (negsuc 11)
     ∷ []
 
 abbrev pub burstCases : List Case

@@ -1,5 +1,6 @@
 -- Worked cases of the report: P1 of paper 01, and what pins the order of the refusals and each number of the text. What is
 -- told was typed by hand and never computed. One statement covers the list (`worked` of proofs/Cases).
+-- Each has an id (W01 and on) that docs/PROMISES.md cites: a new case takes the next free one, and none is given twice.
 use mathlib.Core.List.{List, [], _∷_, _++_}
 use mathlib.Core.Option.{Option, none, some}
 use Prim.Native.Nat.{ℕ}
@@ -69,36 +70,42 @@ waits = cycle 0x0A 0 1 1
 
 unfoldable pub cases : List Case
 cases =
-    -- case P1
+    -- W01: case P1
     tells p1Sheet (some p1Take) 65536 (shows saysClean 0 0 0 1 1 2) "verdict=clean\ntransfers=1\npackets=1\nrecords=2\n" p1Result
-    -- the same take sliced, as in S2
+    -- W02: the same take sliced, as in S2
     ∷ tells (says "width_in=4\nwidth_out=2\nmode=lanes\ntlast=wired\n") (some p1Take) 18 (shows saysClean 0 0 0 1 1 2) "verdict=clean\ntransfers=1\npackets=1\nrecords=2\n"
     (0x00 ∷ 0x01 ∷ 0x02 ∷ 0x01 ∷ 0x00 ∷ 0x01 ∷ 0x00 ∷ 0x11 ∷ 0x00 ∷ 0x01 ∷ 0x01 ∷ 0x02 ∷ 0x03 ∷ 0x00 ∷ 0x02 ∷ 0x00 ∷ 0x00 ∷ 0x44 ∷ [])
-    -- ROOM: one octet short
+    -- W03: ROOM: one octet short
     ∷ tells p1Sheet (some p1Take) 17 (shows saysRefused 5 0 0 0 0 0) "verdict=refused\nrefusal=5\nat=0\n" []
-    -- SHEET comes first of all: unreadable, or not as 01 has it
+    -- W04: SHEET: neither file can be read
     ∷ tells none none 0 (shows saysRefused 15 0 0 0 0 0) "verdict=refused\nrefusal=15\nat=0\n" []
+    -- W05: SHEET: the sheet can't be read
     ∷ tells none (some p1Take) 65536 (shows saysRefused 15 0 0 0 0 0) "verdict=refused\nrefusal=15\nat=0\n" []
+    -- W06: SHEET before WIDTH: a word that is none
     ∷ tells (says "width_in=17\nwidth_out=0\nmode=pack\ntlast=wire\n") none 0 (shows saysRefused 15 0 0 0 0 0) "verdict=refused\nrefusal=15\nat=0\n" []
-    -- WIDTH of either width, before RATIO and LENGTH
+    -- W07: WIDTH of the input before RATIO and LENGTH
     ∷ tells (says "width_in=17\nwidth_out=2\nmode=lanes\ntlast=none\n") none 0 (shows saysRefused 1 0 0 0 0 0) "verdict=refused\nrefusal=1\nat=0\n" []
+    -- W08: WIDTH of the output before RATIO and LENGTH
     ∷ tells (says "width_in=4\nwidth_out=0\nmode=lanes\ntlast=none\n") none 0 (shows saysRefused 1 0 0 0 0 0) "verdict=refused\nrefusal=1\nat=0\n" []
-    -- RATIO in lanes mode only, before LENGTH
+    -- W09: RATIO in lanes mode, before LENGTH
     ∷ tells (says "width_in=4\nwidth_out=3\nmode=lanes\ntlast=wired\n") none 0 (shows saysRefused 6 0 0 0 0 0) "verdict=refused\nrefusal=6\nat=0\n" []
+    -- W10: no RATIO in pack mode; a take that can't be read is LENGTH
     ∷ tells (says "width_in=4\nwidth_out=3\nmode=pack\ntlast=wired\n") none 0 (shows saysRefused 2 0 0 0 0 0) "verdict=refused\nrefusal=2\nat=0\n" []
-    -- LENGTH: no whole number of records; an empty take is clean
+    -- W11: LENGTH: no whole number of records
     ∷ tells (says "width_in=1\nwidth_out=1\nmode=pack\ntlast=none\n") (some (cycle 0xFF 0 0 0 ++ (0 ∷ []))) 0 (shows saysRefused 2 0 0 0 0 0) "verdict=refused\nrefusal=2\nat=0\n" []
+    -- W12: an empty take is clean
     ∷ tells (says "width_in=1\nwidth_out=1\nmode=pack\ntlast=wired\n") (some []) 0 (shows saysClean 0 0 0 0 0 0) "verdict=clean\ntransfers=0\npackets=0\nrecords=0\n" []
-    -- FIELD of any record comes before a broken verdict of an earlier cycle
+    -- W13: FIELD of any record comes before a broken verdict of an earlier cycle
     ∷ tells (says "width_in=1\nwidth_out=1\nmode=pack\ntlast=wired\n") (some (cycle 0x02 0 0 0 ++ cycle 0x08 16 0 0)) 0 (shows saysRefused 3 1 0 0 0 0) "verdict=refused\nrefusal=3\nat=1\n" []
-    -- broken comes before ROOM; a reserved lane is rule 4 and no refusal
+    -- W14: broken comes before ROOM; a reserved lane is rule 4 and no refusal
     ∷ tells (says "width_in=1\nwidth_out=1\nmode=pack\ntlast=wired\n") (some (last ++ cycle 0x0E 0 0 1)) 0 (shows saysBroken 0 1 4 0 0 0) "verdict=broken\ncycle=1\nrule=4\n" []
-    -- TLAST turns while a transfer waits: broken, but not where it is filled in first
+    -- W15: TLAST turns while a transfer waits: broken
     ∷ tells (says "width_in=1\nwidth_out=2\nmode=pack\ntlast=wired\n") (some (plain ++ waits ++ last)) 9 (shows saysBroken 0 2 3 0 0 0) "verdict=broken\ncycle=2\nrule=3\n" []
+    -- W16: the same take with tlast=none: filled in first, so it is clean
     ∷ tells (says "width_in=1\nwidth_out=2\nmode=pack\ntlast=none\n") (some (plain ++ waits ++ last)) 9
     (shows saysClean 0 0 0 2 0 1) "verdict=clean\ntransfers=2\npackets=0\nrecords=1\n"
     (0x00 ∷ 0x00 ∷ 0x00 ∷ 0x03 ∷ 0x00 ∷ 0x03 ∷ 0x00 ∷ 0x07 ∷ 0x07 ∷ [])
-    -- three transfers, two packets, and records of twice the width
+    -- W17: three transfers, two packets, and records of twice the width
     ∷ tells (says "width_in=1\nwidth_out=2\nmode=pack\ntlast=wired\n") (some (plain ++ last ++ last)) 18
     (shows saysClean 0 0 0 3 2 2) "verdict=clean\ntransfers=3\npackets=2\nrecords=2\n"
     (0x01 ∷ 0x00 ∷ 0x00 ∷ 0x03 ∷ 0x00 ∷ 0x03 ∷ 0x00 ∷ 0x07 ∷ 0x07 ∷ 0x01 ∷ 0x00 ∷ 0x00 ∷ 0x01 ∷ 0x00 ∷ 0x01 ∷ 0x00 ∷ 0x07 ∷ 0x00 ∷ [])

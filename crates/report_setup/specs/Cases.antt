@@ -1,5 +1,6 @@
 -- Worked cases of the grammar: sheets, and what they say, typed from paper 01 and never computed. One statement covers the
 -- list (`worked` of proofs/Cases). A text ends where its quote does: every LF is written out.
+-- Each has an id (W01 and on) that docs/PROMISES.md cites: a new case takes the next free one, and none is given twice.
 use mathlib.Core.List.{List, [], _∷_}
 use Prim.Native.Nat.{ℕ}
 use Prim.Native.String.{String}
@@ -33,39 +34,62 @@ refused sheet = record { sheet = sheet; says = record { answer = Refused; shows 
 
 unfoldable pub workedCases : List Case
 workedCases =
-    -- P1's sheet, and every word
+    -- W01: P1's sheet
     reads "width_in=4\nwidth_out=2\nmode=pack\ntlast=wired\n" 4 2 Pack "pack" Wired "wired"
+    -- W02: the other words
     ∷ reads "width_in=16\nwidth_out=8\nmode=lanes\ntlast=none\n" 16 8 Lanes "lanes" Absent "none"
-    -- the ends of the range; a width that no call takes is no fault of the sheet
+    -- W03: the ends of the range; a width that no call takes is no fault of the sheet
     ∷ reads "width_in=0\nwidth_out=99\nmode=lanes\ntlast=wired\n" 0 99 Lanes "lanes" Wired "wired"
+    -- W04: width 17 is read too
     ∷ reads "width_in=10\nwidth_out=17\nmode=pack\ntlast=none\n" 10 17 Pack "pack" Absent "none"
-    -- leading zeros, too many digits, no digit, other signs (/ and : stand beside the digits)
+    -- W05: a leading zero
     ∷ refused "width_in=07\nwidth_out=2\nmode=pack\ntlast=wired\n"
+    -- W06: two zeros
     ∷ refused "width_in=4\nwidth_out=00\nmode=pack\ntlast=wired\n"
+    -- W07: three digits
     ∷ refused "width_in=100\nwidth_out=2\nmode=pack\ntlast=wired\n"
+    -- W08: no digit
     ∷ refused "width_in=\nwidth_out=2\nmode=pack\ntlast=wired\n"
+    -- W09: a sign below the digits
     ∷ refused "width_in=4\nwidth_out=/\nmode=pack\ntlast=wired\n"
+    -- W10: a sign above the digits
     ∷ refused "width_in=:\nwidth_out=2\nmode=pack\ntlast=wired\n"
+    -- W11: such a sign behind a digit
     ∷ refused "width_in=1:\nwidth_out=2\nmode=pack\ntlast=wired\n"
+    -- W12: a space behind the number
     ∷ refused "width_in=4 \nwidth_out=2\nmode=pack\ntlast=wired\n"
+    -- W13: a sign in front of the number
     ∷ refused "width_in=+4\nwidth_out=2\nmode=pack\ntlast=wired\n"
-    -- CR in front of LF, no last LF, no LF at all
+    -- W14: CR in front of each LF
     ∷ refused "width_in=4\r\nwidth_out=2\r\nmode=pack\r\ntlast=wired\r\n"
+    -- W15: CR in front of the last LF
     ∷ refused "width_in=4\nwidth_out=2\nmode=pack\ntlast=wired\r\n"
+    -- W16: no last LF
     ∷ refused "width_in=4\nwidth_out=2\nmode=pack\ntlast=wired"
+    -- W17: nothing at all
     ∷ refused ""
-    -- a fifth line, an empty line, a line too few, lines in another order
+    -- W18: a fifth line
     ∷ refused "width_in=4\nwidth_out=2\nmode=pack\ntlast=wired\nuser=0\n"
+    -- W19: an empty fifth line
     ∷ refused "width_in=4\nwidth_out=2\nmode=pack\ntlast=wired\n\n"
+    -- W20: an empty line between
     ∷ refused "width_in=4\nwidth_out=2\n\nmode=pack\ntlast=wired\n"
+    -- W21: a line too few
     ∷ refused "width_in=4\nwidth_out=2\nmode=pack\n"
+    -- W22: widths in the other order
     ∷ refused "width_out=2\nwidth_in=4\nmode=pack\ntlast=wired\n"
+    -- W23: mode and tlast in the other order
     ∷ refused "width_in=4\nwidth_out=2\ntlast=wired\nmode=pack\n"
-    -- other keys and words, and words with more behind them
+    -- W24: a capital in a key
     ∷ refused "Width_in=4\nwidth_out=2\nmode=pack\ntlast=wired\n"
+    -- W25: a space in front of a key
     ∷ refused " width_in=4\nwidth_out=2\nmode=pack\ntlast=wired\n"
+    -- W26: a word with more behind it
     ∷ refused "width_in=4\nwidth_out=2\nmode=packed\ntlast=wired\n"
+    -- W27: a word cut short
     ∷ refused "width_in=4\nwidth_out=2\nmode=lane\ntlast=wired\n"
+    -- W28: a word that is none
     ∷ refused "width_in=4\nwidth_out=2\nmode=pack\ntlast=low\n"
+    -- W29: no word
     ∷ refused "width_in=4\nwidth_out=2\nmode=pack\ntlast=\n"
     ∷ []

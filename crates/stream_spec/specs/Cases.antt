@@ -1,6 +1,7 @@
 -- Worked cases of the definitions: what is asked, and what is told, typed by hand and never computed. The list
--- `benchCases` has the starred cases S1 to S5 of paper 01; `workedCases` pins what no starred case does. One statement
--- covers each list (`bench` and `worked` of proofs/Cases).
+-- `benchCases` has the starred cases S1 to S5 of paper 01; `workedCases` pins what no starred case does, each with an id
+-- (W01 and on) that docs/PROMISES.md cites: a new case takes the next free one, wherever it stands, and none is given twice.
+-- One statement covers each list (`bench` and `worked` of proofs/Cases).
 use mathlib.Core.Bool.{Bool, true, false}
 use mathlib.Core.List.{List, [], _∷_, _++_}
 use Prim.Native.Nat.{ℕ}
@@ -140,118 +141,166 @@ resetEndsWait =
 
 unfoldable pub workedCases : List Case
 workedCases =
-    -- R1 to R4, each at a cycle after a clean one
+    -- W01: R1 behind a clean cycle
     breaks (judge (lanes 1) (one 0x08 0 0 0 0 0 ++ one 0x02 0 0 0 0 0)) 1 1
+    -- W02: R2 behind a clean cycle
     ∷ breaks (judge (lanes 1) (one 0x0A 0 0 1 1 7 ++ one 0x08 0 0 1 1 7)) 1 2
+    -- W03: R3 behind a clean cycle: TID
     ∷ breaks (judge (lanes 1) (one 0x0A 5 0 1 1 7 ++ one 0x0E 6 0 1 1 7)) 1 3
+    -- W04: R4 behind a clean cycle
     ∷ breaks (judge (lanes 1) (one 0x08 0 0 0 0 0 ++ one 0x0A 0 0 0 1 0)) 1 4
-    -- R3 reads every octet from 1 on (TDEST, TKEEP, TSTRB, data of the last lane) and TLAST, and neither TREADY nor a
-    -- cycle that did not wait
+    -- W05: R3 reads TDEST
     ∷ breaks (judge (lanes 1) (one 0x0A 5 2 1 1 7 ++ one 0x0E 5 3 1 1 7)) 1 3
+    -- W06: R3 reads a position lane's data too
     ∷ breaks (judge (lanes 1) (one 0x0A 5 2 1 0 7 ++ one 0x0E 5 2 1 0 8)) 1 3
+    -- W07: R3 reads TLAST
     ∷ breaks (judge (lanes 1) (one 0x0A 5 2 1 1 7 ++ one 0x0F 5 2 1 1 7)) 1 3
+    -- W08: R3 reads TKEEP and TSTRB
     ∷ breaks (judge (lanes 1) (one 0x0A 5 2 1 1 7 ++ one 0x0E 5 2 0 0 7)) 1 3
+    -- W09: R3 reads TSTRB
     ∷ breaks (judge (lanes 1) (one 0x0A 5 2 1 1 7 ++ one 0x0E 5 2 1 0 7)) 1 3
+    -- W10: R3 reads the data of the last lane
     ∷ breaks (judge (lanes 2) (0x0A ∷ 5 ∷ 2 ∷ 3 ∷ 0 ∷ 3 ∷ 0 ∷ 7 ∷ 8 ∷ 0x0E ∷ 5 ∷ 2 ∷ 3 ∷ 0 ∷ 3 ∷ 0 ∷ 7 ∷ 9 ∷ [])) 1 3
+    -- W11: R3 reads neither TREADY nor a cycle that did not wait; two transfers are counted
     ∷ gives (judge (lanes 1) (one 0x0A 5 2 1 1 7 ++ one 0x0E 5 2 1 1 7 ++ one 0x0E 6 3 0 0 0)) 2 []
-    -- in lane 15 of 16, and where TLAST falls; a wait with TLAST high is kept like any other
+    -- W12: R3 in lane 15 of 16
     ∷ breaks (judge (lanes 16) (sixteen 0x0A 15 ++ sixteen 0x0E 16)) 1 3
+    -- W13: sixteen lanes that hold
     ∷ gives (judge (lanes 16) (sixteen 0x0A 15 ++ sixteen 0x0E 15)) 1 []
+    -- W14: R3 where TLAST falls
     ∷ breaks (judge (lanes 1) (one 0x0B 5 2 1 1 7 ++ one 0x0E 5 2 1 1 7)) 1 3
+    -- W15: a wait with TLAST high is kept like any other
     ∷ gives (judge (lanes 1) (one 0x0B 5 2 1 1 7 ++ one 0x0F 5 2 1 1 7)) 1 []
+    -- W16: reset ends a wait
     ∷ resetEndsWait
-    -- the first record follows no waiting cycle; a cycle in reset or without TVALID carries nothing
+    -- W17: the first record follows no waiting cycle; a cycle in reset or without TVALID carries nothing
     ∷ gives (judge (lanes 1) (one 0x0C 0 0 0 1 0 ++ one 0x04 0 0 0 1 0)) 0 []
-    -- R1 at the first record
+    -- W18: R1 at the first record
     ∷ breaks (judge (lanes 1) (one 0x02 0 0 0 0 0)) 0 1
-    -- two rules in one cycle: the lowest; two cycles: the earliest
+    -- W19: two rules in one cycle: the lowest
     ∷ breaks (judge (lanes 1) (one 0x0A 5 0 1 1 7 ++ one 0x0A 6 0 0 1 7)) 1 3
+    -- W20: two cycles: the earliest
     ∷ breaks (judge (lanes 1) (one 0x0A 0 0 0 1 0 ++ one 0x02 0 0 0 0 0)) 0 4
-    -- 1: a width is 0 or above 16, before everything else
+    -- W21: 1 before everything else: width 0
     ∷ refuses (judge (lanes 0) (0 ∷ [])) 1 0 []
+    -- W22: 1: width 17
     ∷ refuses (judge (lanes 17) (0 ∷ [])) 1 0 []
+    -- W23: width 16 is taken
     ∷ gives (judge (lanes 16) []) 0 []
+    -- W24: 1 of the output's width: 0
     ∷ refuses (repack (lanes 1) 0 (0 ∷ []) ee) 1 0 ee
+    -- W25: 1 of the output's width: 17
     ∷ refuses (repack (lanes 1) 17 (0 ∷ []) ee) 1 0 ee
+    -- W26: output width 16 is taken
     ∷ gives (repack (lanes 1) 16 [] ee) 0 ee
+    -- W27: 1 before 6: the input's width
     ∷ refuses (downsize (lanes 17) 3 (0 ∷ []) ee) 1 0 ee
+    -- W28: 1 before 6: the output's width
     ∷ refuses (downsize (lanes 4) 17 (0 ∷ []) ee) 1 0 ee
+    -- W29: 1 before 6: an output width of 0
     ∷ refuses (downsize (lanes 4) 0 (0 ∷ []) ee) 1 0 ee
-    -- 6 before 2: v does not divide w
+    -- W30: 6 before 2: v does not divide w
     ∷ refuses (downsize (lanes 4) 3 (0 ∷ []) ee) 6 0 ee
+    -- W31: 6: v is above w
     ∷ refuses (downsize (lanes 2) 4 (0 ∷ []) ee) 6 0 ee
-    -- 2 before 13, 3 and 4: no whole number of records
+    -- W32: 2 before 3 and 4: no whole number of records
     ∷ refuses (repack (lanes 1) 1 (one 0x02 0 0 0 1 0 ++ (0 ∷ [])) ee) 2 0 ee
+    -- W33: 2 before 13
     ∷ refuses (dataOf (lanes 1) (aa ++ (0 ∷ [])) 9) 2 0 []
+    -- W34: 2 for a record that is there
     ∷ refuses (dataOf (lanes 1) (aa ++ (0 ∷ [])) 0) 2 0 []
+    -- W35: 2 of fill-in, which leaves the take as it was
     ∷ refuses (fillIn false (lanes 1) (one 0xFF 0 0 0 0 0 ++ (1 ∷ []))) 2 0 (one 0xFF 0 0 0 0 0 ++ (1 ∷ []))
-    -- 13: no such record
+    -- W36: 13: no such record
     ∷ refuses (dataOf (lanes 1) aa 1) 13 0 []
+    -- W37: the data octets of record 1; bad flag bits are not read
     ∷ gives (dataOf (lanes 2) twoByTwo 1) 0 (3 ∷ 4 ∷ [])
-    -- where the part starts; 0 where the call is refused
+    -- W38: where record 0's part starts
     ∷ gives (startOf (lanes 2) twoByTwo 0) 0 (7 ∷ [])
+    -- W39: where record 1's part starts
     ∷ gives (startOf (lanes 2) twoByTwo 1) 0 (16 ∷ [])
+    -- W40: 13, and the start is 0
     ∷ refuses (startOf (lanes 2) twoByTwo 2) 13 0 (0 ∷ [])
+    -- W41: 1, and the start is 0
     ∷ refuses (startOf (lanes 17) twoByTwo 1) 1 0 (0 ∷ [])
+    -- W42: 2, and the start is 0
     ∷ refuses (startOf (lanes 3) twoByTwo 1) 2 0 (0 ∷ [])
-    -- 3 by each of its bits: octet 0, TDEST, TKEEP, TSTRB; a transfer record has no flag but TLAST
+    -- W43: 3: a transfer record has no flag but TLAST
     ∷ refuses (repack (lanes 1) 1 (aa ++ one 0x02 0 0 0 0 0) ee) 3 1 ee
+    -- W44: 3: TDEST 16
     ∷ refuses (repack (lanes 1) 1 (aa ++ one 0x00 0 16 0 0 0) ee) 3 1 ee
+    -- W45: 3: TKEEP at or above w; TDEST 15 is taken
     ∷ refuses (repack (lanes 1) 1 (aa ++ one 0x00 0 15 2 0 0) ee) 3 1 ee
+    -- W46: 3: TSTRB at or above w
     ∷ refuses (repack (lanes 1) 1 (aa ++ one 0x00 0 15 0 2 0) ee) 3 1 ee
+    -- W47: 3: TKEEP's high octet
     ∷ refuses (repack (lanes 1) 1 (aa ++ (0 ∷ 0 ∷ 0 ∷ 0 ∷ 1 ∷ 0 ∷ 0 ∷ 0 ∷ [])) ee) 3 1 ee
+    -- W48: 3: TSTRB's high octet
     ∷ refuses (repack (lanes 1) 1 (aa ++ (0 ∷ 0 ∷ 0 ∷ 0 ∷ 0 ∷ 0 ∷ 1 ∷ 0 ∷ [])) ee) 3 1 ee
+    -- W49: 3: bit 7 of octet 0
     ∷ refuses (repack (lanes 1) 1 (aa ++ one 0x80 0 0 0 0 0) ee) 3 1 ee
+    -- W50: 3: bit 7 of a cycle's octet 0; TID 255 and TDEST 15 are taken
     ∷ refuses (judge (lanes 1) (one 0x0F 255 15 1 1 255 ++ one 0x80 0 0 0 0 0)) 3 1 []
+    -- W51: 3: bit 4 of a cycle's octet 0
     ∷ refuses (judge (lanes 1) (one 0x0F 255 15 1 1 255 ++ one 0x1F 0 0 0 0 0)) 3 1 []
-    -- records in order, 3 before 4 in each; a refused call leaves lent memory as it was
+    -- W52: records in order: 4 of record 0 before 3 of record 1
     ∷ refuses (repack (lanes 1) 1 (one 0x00 0 0 0 1 0 ++ one 0x02 0 0 0 0 0) ee) 4 0 ee
+    -- W53: 3 before 4 in one record
     ∷ refuses (repack (lanes 1) 1 (aa ++ one 0x02 0 0 0 1 0) ee) 3 1 ee
+    -- W54: 4 with its record; a refused call leaves lent memory as it was
     ∷ refuses (downsize (lanes 1) 1 (aa ++ one 0x00 0 0 0 1 0) ee) 4 1 ee
-    -- 3 of any cycle before any rule; judging never gives 4
+    -- W55: 3 of any cycle before any rule
     ∷ refuses (judge (lanes 1) (one 0x02 0 0 0 0 0 ++ one 0x10 0 0 0 0 0)) 3 1 []
+    -- W56: the same of harvesting
     ∷ refuses (harvest (lanes 1) (one 0x02 0 0 0 0 0 ++ one 0x10 0 0 0 0 0) []) 3 1 []
-    -- 14 before 5: the cycle and rule of the finding
+    -- W57: 14 before 5, with the cycle and the rule of the finding; a reserved lane is R4 and not 4
     ∷ record { asked = harvest (lanes 1) (one 0x0E 0 0 1 1 7 ++ one 0x0E 0 0 0 1 0) []; told = tells (values 14 1 4 0) [] }
-    -- 5: one octet short, and the exact room
+    -- W58: 5 of harvesting: one octet short
     ∷ refuses (harvest (lanes 1) (one 0x0F 1 2 1 1 7) (0 ∷ 0 ∷ 0 ∷ 0 ∷ 0 ∷ 0 ∷ 0 ∷ [])) 5 0 (0 ∷ 0 ∷ 0 ∷ 0 ∷ 0 ∷ 0 ∷ 0 ∷ [])
+    -- W59: what is harvested: octet 0 holds TLAST alone, a waiting cycle is left out, the octets after it stay
     ∷ gives (harvest (lanes 1) (one 0x0F 1 2 1 0 7 ++ one 0x0A 1 2 1 1 8 ++ one 0x0E 1 2 1 1 8) (eight ++ eight ++ ee)) 2
     (one 0x01 1 2 1 0 7 ++ one 0x00 1 2 1 1 8 ++ ee)
+    -- W60: 5 of repacking: one octet short
     ∷ refuses (repack (lanes 1) 1 aa (0 ∷ 0 ∷ 0 ∷ 0 ∷ 0 ∷ 0 ∷ 0 ∷ [])) 5 0 (0 ∷ 0 ∷ 0 ∷ 0 ∷ 0 ∷ 0 ∷ 0 ∷ [])
+    -- W61: the exact room is enough
     ∷ gives (repack (lanes 1) 1 aa eight) 1 aa
+    -- W62: 5 of downsizing
     ∷ refuses (downsize (lanes 1) 1 aa (0 ∷ [])) 5 0 (0 ∷ [])
-    -- slices with no item need room too: a data lane and a null one
+    -- W63: slices with no item need room too: a data lane and a null one
     ∷ refuses (downsize (lanes 2) 1 (0 ∷ 3 ∷ 4 ∷ 1 ∷ 0 ∷ 1 ∷ 0 ∷ 5 ∷ 6 ∷ []) (eight ++ ee)) 5 0 (eight ++ ee)
-    -- fill-in touches bit 0 of octet 0 of each record, and has no 3
+    -- W64: fill-in touches bit 0 of octet 0 of each record, and has no 3
     ∷ gives (fillIn false (lanes 1) (one 0xFF 255 255 255 255 255 ++ one 0x08 0 0 0 0 0)) 2
     (one 0xFE 255 255 255 255 255 ++ one 0x08 0 0 0 0 0)
+    -- W65: fill-in at the other level
     ∷ gives (fillIn true (lanes 1) (one 0xFE 255 255 255 255 255 ++ one 0x0F 0 0 0 0 0)) 2
     (one 0xFF 255 255 255 255 255 ++ one 0x0F 0 0 0 0 0)
-    -- an all-null record of another pair between two of one stretch cuts nothing
+    -- W66: an all-null record of another pair between two of one stretch cuts nothing
     ∷ gives (repack (lanes 1) 2 (aa ++ nulls 1 ++ one 0x00 0 0 1 1 0xBB) (eight ++ ee)) 1
     (0x00 ∷ 0x00 ∷ 0x00 ∷ 0x03 ∷ 0x00 ∷ 0x03 ∷ 0x00 ∷ 0xAA ∷ 0xBB ∷ 0xEE ∷ 0xEE ∷ 0xEE ∷ [])
+    -- W67: S6
     ∷ s6
-    -- every TID is kept
+    -- W68: every TID is kept
     ∷ gives (repack (lanes 1) 1 (one 0 200 0 1 1 7) eight) 1 (one 0 200 0 1 1 7)
-    -- P1's transfer at width 2: one stretch in two records
+    -- W69: P1's transfer at width 2: one stretch in two records
     ∷ gives (repack (lanes 4) 2 p1 (eight ++ eight ++ ee)) 2
     (0x00 ∷ 0x01 ∷ 0x02 ∷ 0x03 ∷ 0x00 ∷ 0x01 ∷ 0x00 ∷ 0x11 ∷ 0x00
     ∷ 0x01 ∷ 0x01 ∷ 0x02 ∷ 0x01 ∷ 0x00 ∷ 0x01 ∷ 0x00 ∷ 0x44 ∷ 0x00 ∷ 0xEE ∷ 0xEE ∷ [])
-    -- S3 at a wider record: the end joins the full record before it there too
+    -- W70: S3 at a wider record: the end joins the full record before it there too
     ∷ gives (repack (lanes 1) 2 (aa ++ aa ++ lastAlone) (eight ++ ee)) 1
     (0x01 ∷ 0x00 ∷ 0x00 ∷ 0x03 ∷ 0x00 ∷ 0x03 ∷ 0x00 ∷ 0xAA ∷ 0xAA ∷ 0xEE ∷ 0xEE ∷ 0xEE ∷ [])
-    -- the high octets of TKEEP and TSTRB: lane 8 data, lane 15 position
+    -- W71: the high octets of TKEEP and TSTRB: lane 8 data, lane 15 position
     ∷ gives
     (repack (lanes 16) 1
     (0 ∷ 1 ∷ 2 ∷ 0x00 ∷ 0x81 ∷ 0x00 ∷ 0x01 ∷ 0 ∷ 1 ∷ 2 ∷ 3 ∷ 4 ∷ 5 ∷ 6 ∷ 7 ∷ 8 ∷ 9 ∷ 10 ∷ 11 ∷ 12 ∷ 13 ∷ 14 ∷ 15 ∷ []) (eight ++ eight))
     2 (one 0 1 2 1 1 8 ++ one 0 1 2 1 0 0)
-    -- slices of an all-null record stay
+    -- W72: slices of an all-null record stay
     ∷ gives (downsize (lanes 2) 1 (1 ∷ 3 ∷ 4 ∷ 0 ∷ 0 ∷ 0 ∷ 0 ∷ 5 ∷ 6 ∷ []) (eight ++ eight)) 2 (one 0 3 4 0 0 0 ++ one 1 3 4 0 0 0)
-    -- another TID cuts, and another TDEST too
+    -- W73: S7: another TID cuts
     ∷ s7
+    -- W74: another TDEST cuts too
     ∷ gives (repack (lanes 1) 2 (one 0 1 0 1 1 7 ++ one 0 1 3 1 1 8) (eight ++ eight ++ ee)) 2
     (0 ∷ 1 ∷ 0 ∷ 1 ∷ 0 ∷ 1 ∷ 0 ∷ 7 ∷ 0 ∷ 0 ∷ 1 ∷ 3 ∷ 1 ∷ 0 ∷ 1 ∷ 0 ∷ 8 ∷ 0 ∷ 0xEE ∷ 0xEE ∷ [])
-    -- an end of another pair than the item before it is a packet of its own
+    -- W75: an end of another pair than the item before it is a packet of its own
     ∷ gives (repack (lanes 1) 2 (one 0 1 0 1 1 7 ++ one 1 2 0 0 0 0) (eight ++ eight ++ ee)) 2
     (0 ∷ 1 ∷ 0 ∷ 1 ∷ 0 ∷ 1 ∷ 0 ∷ 7 ∷ 0 ∷ 1 ∷ 2 ∷ 0 ∷ 0 ∷ 0 ∷ 0 ∷ 0 ∷ 0 ∷ 0 ∷ 0xEE ∷ 0xEE ∷ [])
     ∷ []
