@@ -9,6 +9,7 @@ pub mod Each
 pub mod Records
 pub mod Legal
 pub mod Repack
+pub mod Walk
 pub mod Demand3
 pub mod Full
 pub mod Only

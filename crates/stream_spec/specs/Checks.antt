@@ -1,7 +1,7 @@
 -- The faults that refuse a stream call (paper 01, 'Refusal numbers'), each as a check: whether the fault is there, and the
 -- refusal it gives. A call lists its checks in 01's order, and the first fault that is there is what it answers.
 use mathlib.Core.Bool.{Bool, not, _||_}
-use mathlib.Core.List.{List, [], _∷_, map}
+use mathlib.Core.List.{List, [], _∷_, _++_, map}
 use Prim.Native.Nat.{ℕ, suc, _%_, _^_}
 use lib.Dec.{eqb, leb, ltb}
 use lib.ListN.{length}
@@ -11,9 +11,13 @@ use Rattle.refusal.specs.declared.Refusal.the-variants.{Width, Length, Field, R
 use Rattle.stream_spec.specs.declared.Shape.{Shape}
 use Rattle.stream_spec.specs.Layout.{size, flags, pairOf, tkeep, tstrb, laneTypes, anyReserved, recordCount}
 
+-- a record has 1 to 16 byte lanes
+abbrev pub widthMost : ℕ
+widthMost = 16
+
 -- 1: "a width is 0 or above 16". A call has the width of its input, and perhaps a width of its output.
 abbrev pub widthCheck : ℕ → Check Refusal
-widthCheck w = check (eqb w 0 || ltb 16 w) Width
+widthCheck w = check (eqb w 0 || ltb widthMost w) Width
 
 abbrev pub shapeChecks : Shape → List ℕ → List (Check Refusal)
 shapeChecks s outputs = map widthCheck (s .width ∷ outputs)
@@ -29,6 +33,10 @@ captureMost = 65536
 -- 2: "input is over 65,536 octets or no whole number of records"
 abbrev pub lengthCheck : Shape → List ℕ → Check Refusal
 lengthCheck s xs = check (ltb captureMost (length xs) || not (eqb (length xs % size s) 0)) Length
+
+-- the checks in front of every call that reads a take and has no other width
+abbrev pub takeChecks : Shape → List ℕ → List (Check Refusal)
+takeChecks s xs = shapeChecks s [] ++ lengthCheck s xs ∷ []
 
 -- 13: "no such record"
 abbrev pub indexCheck : Shape → List ℕ → ℕ → Check Refusal

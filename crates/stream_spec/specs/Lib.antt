@@ -4,6 +4,7 @@ pub mod Items
 pub mod Packed
 pub mod Layout
 pub mod Checks
+pub mod Walk
 pub mod Handshake
 pub mod Answers
 pub mod Legal
