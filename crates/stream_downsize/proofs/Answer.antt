@@ -82,12 +82,12 @@ module _ (s : Shape) (v : ℕ) (xs : List ℕ) (c : Cuts s (record { width = v }
 module _ (s : Shape) (v : ℕ) (xs out : List ℕ) where
   refused : (f : Refusal) → downsizeRefusal s v xs (length out) ≡ some f → Downsized s v xs out out (Refused f)
   unfolding downsizeAnswer downsizeAfter
-  refused f e = record { is = rw e refl; says = rw e refl; leaves = rw e refl }
+  refused f e = record { is = rw e refl; shows = rw e refl; leaves = rw e refl }
 
   accepted : (n : ℕ) (after : List ℕ) → downsizeRefusal s v xs (length out) ≡ none → n ≡ length (slicedTransfers s v xs)
       → after ≡ sliced s v xs ++ drop (length (sliced s v xs)) out → Downsized s v xs out after (Records n)
   unfolding downsizeAnswer downsizeAfter
-  accepted n after e f g = record { is = rw (e, f) refl; says = rw (e, f) refl; leaves = rw e g }
+  accepted n after e f g = record { is = rw (e, f) refl; shows = rw (e, f) refl; leaves = rw e g }
 
   pub bad-width : widthCheck (s .width) .found ≡ true → Downsized s v xs out out (Refused Width)
   bad-width h = refused Width (rw h refl)

@@ -162,7 +162,7 @@ module _ (level : Bool) (s : Shape) (xs : List ℕ) where
   answered r after e f =
       record {
         is = ap (λ (x : Option Refusal). written x (recordCount s xs)) (sym e);
-        says = ap (λ (x : Option Refusal). writtenValues (written x (recordCount s xs))) (sym e);
+        shows = ap (λ (x : Option Refusal). writtenValues (written x (recordCount s xs))) (sym e);
         leaves = f ∙ ap (λ (x : Option Refusal). lentAfter x (filledIn level s xs) xs) (sym e);
       }
 

@@ -116,7 +116,7 @@ module _ (s : Shape) (xs : List ℕ) (v : Verdict) (judged : v ≡ judgeAnswer s
   module _ (before : List ℕ) where
     refused-by : (r : Refusal) → harvestRefusal s xs (length before) ≡ some r → Harvested s xs before before (NotWritten r)
     unfolding harvestAnswer harvestAfter
-    refused-by r e = record { is = rw e refl; says = rw e refl; leaves = rw e refl }
+    refused-by r e = record { is = rw e refl; shows = rw e refl; leaves = rw e refl }
 
     pub harvest-refused : (r : Refusal) → v ≡ Refused r → Harvested s xs before before (NotWritten r)
     harvest-refused r e = refused-by r (left (length before) ∙ ap (λ (x : Verdict). refusalOf x (first (roomCheck (harvested s xs) (length before) ∷ []))) e)
@@ -165,4 +165,4 @@ module _ (s : Shape) (xs : List ℕ) (v : Verdict) (judged : v ≡ judgeAnswer s
             let fits : length (harvested s xs) ≤ length before = omega (arith, long-is) in
             let taken : harvestRefusal s xs (length before) ≡ none = by-room ∙ rw (le-ltb (length before) (length (harvested s xs)) fits) refl in
             let told = ap {B = Written} Records (passed .count) in
-            record { is = rw taken told; says = rw taken (ap writtenValues told); leaves = rw taken e }
+            record { is = rw taken told; shows = rw taken (ap writtenValues told); leaves = rw taken e }

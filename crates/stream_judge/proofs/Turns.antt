@@ -284,7 +284,7 @@ module _ (s : Shape) (xs : List ℕ) where
       record { low = f .low; width = f .high; whole = n .1; short = n .0 }
 
   judged : (v : Verdict) → v ≡ judgeAnswer s xs → Judged s xs v
-  judged v e = record { is = e; says = ap verdictValues e }
+  judged v e = record { is = e; shows = ap verdictValues e }
 
   pub judged-width : widthCheck (s .width) .found ≡ true → Judged s xs (Refused Width)
   unfolding judgeAnswer

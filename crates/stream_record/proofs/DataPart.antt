@@ -21,7 +21,7 @@ use Rattle.stream_spec.proofs.Promises.{data-there, record-there}
 module _ (s : Shape) (xs : List ℕ) (k : ℕ) where
   looked : (r : Option Refusal) → dataRefusal s xs k ≡ r → LookedUp s xs k (lookup r)
   unfolding dataAnswer
-  looked r e = record { is = ap lookup (sym e); says = ap (λ (r : Option Refusal). lookupValues (lookup r)) (sym e) }
+  looked r e = record { is = ap lookup (sym e); shows = ap (λ (r : Option Refusal). lookupValues (lookup r)) (sym e) }
 
   pub looked-width : widthCheck (s .width) .found ≡ true → LookedUp s xs k (Refused Width)
   looked-width w = looked (some Width) (rw w refl)

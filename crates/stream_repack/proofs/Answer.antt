@@ -28,12 +28,12 @@ module _ (s : Shape) (v : ℕ) (input out : List ℕ) where
   -- the answer and the memory of a refusal, and of any outcome
   pub refused : (f : Refusal) → repackRefusal s v input (length out) ≡ some f → Repacked s v input out out (Refused f)
   unfolding repackAnswer repackAfter
-  refused f e = record { is = rw e refl; leaves = rw e refl; says = rw e refl }
+  refused f e = record { is = rw e refl; leaves = rw e refl; shows = rw e refl }
 
   pub answered : (o : Option Refusal) (after : List ℕ) (r : Written) → repackRefusal s v input (length out) ≡ o
       → r ≡ written o (length (packedTransfers s v input)) → after ≡ lentAfter o (packed s v input) out → Repacked s v input out after r
   unfolding repackAnswer repackAfter
-  answered o after r e f g = record { is = rw e f; leaves = rw e g; says = rw (e, f) refl }
+  answered o after r e f g = record { is = rw e f; leaves = rw e g; shows = rw (e, f) refl }
 
   pub bad-width : widthCheck (s .width) .found ≡ true → Repacked s v input out out (Refused Width)
   bad-width h = refused Width (rw h refl)

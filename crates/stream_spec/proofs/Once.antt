@@ -11,11 +11,11 @@ use Rattle.stream_spec.specs.declared.Lookup.{Lookup}
 use Rattle.stream_spec.specs.Answers.{verdictValues, writtenValues, lookupValues, Judged, LookedUp, Harvested, FilledIn, Repacked, Downsized}
 
 pub judged-once : (s : Shape) (xs : List ℕ) (r q : Verdict) → Judged s xs r → Judged s xs q → (r ≡ q) × (verdictValues r ≡ verdictValues q)
-judged-once s xs r q a b = (a .is ∙ sym (b .is), a .says ∙ sym (b .says))
+judged-once s xs r q a b = (a .is ∙ sym (b .is), a .shows ∙ sym (b .shows))
 
 pub looked-up-once : (s : Shape) (xs : List ℕ) (k : ℕ) (r q : Lookup) → LookedUp s xs k r → LookedUp s xs k q
     → (r ≡ q) × (lookupValues r ≡ lookupValues q)
-looked-up-once s xs k r q a b = (a .is ∙ sym (b .is), a .says ∙ sym (b .says))
+looked-up-once s xs k r q a b = (a .is ∙ sym (b .is), a .shows ∙ sym (b .shows))
 
 -- two answers of a call that writes, and what each left of the memory lent
 abbrev Same : Written → Written → List ℕ → List ℕ → Type 0
@@ -23,16 +23,16 @@ Same r q left left' = (r ≡ q) × (writtenValues r ≡ writtenValues q) × (lef
 
 pub harvested-once : (s : Shape) (xs lent left left' : List ℕ) (r q : Written) → Harvested s xs lent left r → Harvested s xs lent left' q
     → Same r q left left'
-harvested-once s xs lent left left' r q a b = (a .is ∙ sym (b .is), a .says ∙ sym (b .says), a .leaves ∙ sym (b .leaves))
+harvested-once s xs lent left left' r q a b = (a .is ∙ sym (b .is), a .shows ∙ sym (b .shows), a .leaves ∙ sym (b .leaves))
 
 pub filled-in-once : (level : Bool) (s : Shape) (lent left left' : List ℕ) (r q : Written) → FilledIn level s lent left r → FilledIn level s lent left' q
     → Same r q left left'
-filled-in-once level s lent left left' r q a b = (a .is ∙ sym (b .is), a .says ∙ sym (b .says), a .leaves ∙ sym (b .leaves))
+filled-in-once level s lent left left' r q a b = (a .is ∙ sym (b .is), a .shows ∙ sym (b .shows), a .leaves ∙ sym (b .leaves))
 
 pub repacked-once : (s : Shape) (v : ℕ) (xs lent left left' : List ℕ) (r q : Written) → Repacked s v xs lent left r → Repacked s v xs lent left' q
     → Same r q left left'
-repacked-once s v xs lent left left' r q a b = (a .is ∙ sym (b .is), a .says ∙ sym (b .says), a .leaves ∙ sym (b .leaves))
+repacked-once s v xs lent left left' r q a b = (a .is ∙ sym (b .is), a .shows ∙ sym (b .shows), a .leaves ∙ sym (b .leaves))
 
 pub downsized-once : (s : Shape) (v : ℕ) (xs lent left left' : List ℕ) (r q : Written) → Downsized s v xs lent left r → Downsized s v xs lent left' q
     → Same r q left left'
-downsized-once s v xs lent left left' r q a b = (a .is ∙ sym (b .is), a .says ∙ sym (b .says), a .leaves ∙ sym (b .leaves))
+downsized-once s v xs lent left left' r q a b = (a .is ∙ sym (b .is), a .shows ∙ sym (b .shows), a .leaves ∙ sym (b .leaves))

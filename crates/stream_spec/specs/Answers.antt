@@ -170,28 +170,28 @@ lookupValues (NoPart r) = refusalValues r
 
 pub record Judged (s : Shape) (capture : List ℕ) (r : Verdict) : Type 0 where
   pub is : r ≡ judgeAnswer s capture
-  pub says : verdictValues r ≡ verdictValues (judgeAnswer s capture)
+  pub shows : verdictValues r ≡ verdictValues (judgeAnswer s capture)
 
 pub record LookedUp (s : Shape) (capture : List ℕ) (k : ℕ) (r : Lookup) : Type 0 where
   pub is : r ≡ dataAnswer s capture k
-  pub says : lookupValues r ≡ lookupValues (dataAnswer s capture k)
+  pub shows : lookupValues r ≡ lookupValues (dataAnswer s capture k)
 
 pub record Harvested (s : Shape) (capture before after : List ℕ) (r : Written) : Type 0 where
   pub is : r ≡ harvestAnswer s capture (length before)
-  pub says : writtenValues r ≡ writtenValues (harvestAnswer s capture (length before))
+  pub shows : writtenValues r ≡ writtenValues (harvestAnswer s capture (length before))
   pub leaves : after ≡ harvestAfter s capture before
 
 pub record FilledIn (level : Bool) (s : Shape) (before after : List ℕ) (r : Written) : Type 0 where
   pub is : r ≡ fillAnswer s before
-  pub says : writtenValues r ≡ writtenValues (fillAnswer s before)
+  pub shows : writtenValues r ≡ writtenValues (fillAnswer s before)
   pub leaves : after ≡ fillAfter level s before
 
 pub record Repacked (s : Shape) (v : ℕ) (input before after : List ℕ) (r : Written) : Type 0 where
   pub is : r ≡ repackAnswer s v input (length before)
-  pub says : writtenValues r ≡ writtenValues (repackAnswer s v input (length before))
+  pub shows : writtenValues r ≡ writtenValues (repackAnswer s v input (length before))
   pub leaves : after ≡ repackAfter s v input before
 
 pub record Downsized (s : Shape) (v : ℕ) (input before after : List ℕ) (r : Written) : Type 0 where
   pub is : r ≡ downsizeAnswer s v input (length before)
-  pub says : writtenValues r ≡ writtenValues (downsizeAnswer s v input (length before))
+  pub shows : writtenValues r ≡ writtenValues (downsizeAnswer s v input (length before))
   pub leaves : after ≡ downsizeAfter s v input before

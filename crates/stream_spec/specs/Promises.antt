@@ -158,12 +158,12 @@ pub record IsEarliest (s : Shape) (cs : List (List ℕ)) (f : Finding) : Type 0 
   pub broken : breaks s cs (f .cycle) (f .rule) ≡ true
   pub others : (k n : ℕ) → k < length cs → breaks s cs k n ≡ true → (f .cycle < k) ⊎ ((f .cycle ≡ k) × (f .rule ≤ n))
 
-pub record Judges (s : Shape) (xs : List ℕ) : Type 0 where
+pub record FindsEarliest (s : Shape) (xs : List ℕ) : Type 0 where
   pub found : (f : Finding) → firstFinding s xs ≡ some f → IsEarliest s (records s xs) f
   pub clean : firstFinding s xs ≡ none → (k n : ℕ) → k < length (records s xs) → breaks s (records s xs) k n ≡ false
 
 abbrev pub Findings : Type 0
-Findings = (s : Shape) (xs : List ℕ) → Judges s xs
+Findings = (s : Shape) (xs : List ℕ) → FindsEarliest s xs
 
 -- ---- harvest
 
