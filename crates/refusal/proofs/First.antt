@@ -9,7 +9,7 @@ use native.Mathlib.Omega.{arith}
 use Rattle.refusal.specs.Checks.{Check, first, FoundAt, FirstInOrder}
 
 module _ {X : Type 0} where
-  cond-none : (b : Bool) (x : X) (y : Option X) → cond b (some x) y ≡ none → (b ≡ false) × (y ≡ none)
+  pub cond-none : (b : Bool) (x : X) (y : Option X) → cond b (some x) y ≡ none → (b ≡ false) × (y ≡ none)
   cond-none true x y e = let z : _≡_ {A = ℕ} 0 1 = cc in absurd (omega arith)
   cond-none false x y e = (refl, e)
 
