@@ -7,6 +7,7 @@ pub mod Pack
 pub mod Hold
 pub mod Each
 pub mod Records
+pub mod RecordChecks
 pub mod Legal
 pub mod Repack
 pub mod Walk

@@ -58,16 +58,25 @@ transferFlags = 1
 abbrev pub reservedFault : Shape → List ℕ → Bool
 reservedFault s r = anyReserved (laneTypes s r)
 
--- "records in order with 3 before 4 in each"; the place is the record, counted from k
-abbrev pub transferChecks : Shape → ℕ → List (List ℕ) → List (Check Refusal)
-transferChecks s k [] = []
-transferChecks s k (r ∷ rs) =
-    check (fieldFault transferFlags s r) (Field k) ∷ check (reservedFault s r) (Reserved k) ∷ transferChecks s (suc k) rs
+-- the checks of each record, the records in order; the place is the record, counted from k. A fault that a later request
+-- gives to records is one more check in the list of one record; the laws are in proofs/RecordChecks.
+abbrev pub each : (ℕ → List ℕ → List (Check Refusal)) → ℕ → List (List ℕ) → List (Check Refusal)
+each checks k [] = []
+each checks k (r ∷ rs) = checks k r ++ each checks (suc k) rs
 
--- of cycle records only 3: "Judging and harvesting never give 4: that is R4."
+-- one transfer record at place k, and all: "records in order with 3 before 4 in each"
+abbrev pub transferFaults : Shape → ℕ → List ℕ → List (Check Refusal)
+transferFaults s k r = check (fieldFault transferFlags s r) (Field k) ∷ check (reservedFault s r) (Reserved k) ∷ []
+
+abbrev pub transferChecks : Shape → ℕ → List (List ℕ) → List (Check Refusal)
+transferChecks s k rs = each (transferFaults s) k rs
+
+-- one cycle record at place k, and all; only 3: "Judging and harvesting never give 4: that is R4."
+abbrev pub cycleFaults : Shape → ℕ → List ℕ → List (Check Refusal)
+cycleFaults s k r = check (fieldFault cycleFlags s r) (Field k) ∷ []
+
 abbrev pub cycleChecks : Shape → ℕ → List (List ℕ) → List (Check Refusal)
-cycleChecks s k [] = []
-cycleChecks s k (r ∷ rs) = check (fieldFault cycleFlags s r) (Field k) ∷ cycleChecks s (suc k) rs
+cycleChecks s k rs = each (cycleFaults s) k rs
 
 -- 5: "the lent output is shorter than the answer"
 abbrev pub roomCheck : List ℕ → ℕ → Check Refusal
