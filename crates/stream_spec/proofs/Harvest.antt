@@ -22,6 +22,7 @@ use Rattle.stream_spec.specs.Promises.{HarvestLegal, HarvestRepacks}
 use Rattle.stream_spec.proofs.Bools.{and-left, neither}
 use Rattle.refusal.proofs.First.{first-none, none-first, append-none, append-passed}
 use Rattle.stream_spec.proofs.Records.{size-pos, Sized, length-pieces, length-joined, records-joined, records-sized}
+use Rattle.stream_spec.proofs.Fields.{fields-of, of-fields}
 use Rattle.stream_spec.proofs.Legal.{bit-octet, bit-low, octets-append, octets-drop, EachOctets, pieces-octets, Faultless, of-faultless}
 use Rattle.stream_spec.proofs.Repack.{width-fits, fits-width, length-fits}
 use Rattle.stream_spec.proofs.Findings.{none-here}
@@ -50,14 +51,9 @@ unclean-none (f ∷ fs) e = let h = first-none (uncleanCheck f) (map uncleanChec
 field-kept : (s : Shape) (c : List ℕ) → fieldFault cycleFlags s c ≡ false → fieldFault transferFlags s (asTransfer c) ≡ false
 field-kept s [] e = e
 field-kept s (f ∷ r) e =
-    let a = leb (2 ^ cycleFlags) f in
-    let b = ltb 15 (pairOf (f ∷ r) .tdest) in
-    let k = leb (2 ^ s .width) (tkeep (f ∷ r)) in
-    let t = leb (2 ^ s .width) (tstrb (f ∷ r)) in
-    let h3 = neither (a || b || k) t e in
-    let h2 = neither (a || b) k (h3 .0) in
-    let h1 = neither a b (h2 .0) in
-    rw (bit-low (tlast (f ∷ r)), h1 .1, h2 .1, h3 .1) refl
+    let k = fields-of cycleFlags s (f ∷ r) e in
+    of-fields transferFlags s (asTransfer (f ∷ r))
+    (record { flags = bit-low (tlast (f ∷ r)); tdest = k .tdest; keep = k .keep; strb = k .strb })
 
 -- a transferred cycle has ARESETn and TVALID high, so R4 reads its lanes
 r4-reads : (s : Shape) (c : List ℕ) → transferred c ≡ true → r4 s c ≡ false → anyReserved (laneTypes s c) ≡ false

@@ -18,7 +18,7 @@ use Rattle.refusal.specs.declared.Refusal.the-variants.{Field, Reserved}
 use Rattle.refusal.specs.Checks.{check, first}
 use Rattle.stream_spec.specs.Checks.{fieldFault, reservedFault, transferFlags, transferChecks}
 use Rattle.stream_spec.specs.Legal.{Octets, Legal}
-use Rattle.stream_spec.proofs.Bools.{neither}
+use Rattle.stream_spec.proofs.Fields.{fields-of, of-fields}
 use Rattle.stream_spec.proofs.Pack.{Wide, wide-pack, wide-slices}
 use Rattle.stream_spec.proofs.Each.{EachLane, EachTransfer, each-items, each-pack, each-slices}
 use Rattle.refusal.proofs.First.{first-none}
@@ -78,17 +78,6 @@ of-faultless s k (r ∷ rs) h = rw (h .0, h .1) (of-faultless s (suc k) rs (h .2
 
 -- ---- from a legal stream to its transfers
 
-tdest-fits : (s : Shape) (r : List ℕ) → fieldFault transferFlags s r ≡ false → pairOf r .tdest ≤ 15
-tdest-fits s r e =
-    let flagsHigh = leb (2 ^ transferFlags) (flags r) in
-    let destHigh = ltb 15 (pairOf r .tdest) in
-    let keepHigh = leb (2 ^ s .width) (tkeep r) in
-    let strbHigh = leb (2 ^ s .width) (tstrb r) in
-    let d = neither (flagsHigh || destHigh || keepHigh) strbHigh e in
-    let c = neither (flagsHigh || destHigh) keepHigh (d .0) in
-    let b = neither flagsHigh destHigh (c .0) in
-    ltb-false 15 (pairOf r .tdest) (b .1)
-
 lane-fits : (t : LaneType) (d : ℕ) (ls : List (Option Kept)) → d < 256 → EachLane PairFits ByteFits ls
     → EachLane PairFits ByteFits (laneOf t d ∷ ls)
 lane-fits dataLane d ls h k = (h, k)
@@ -112,7 +101,7 @@ pieces-octets (suc n) z xs h = (octets-take z xs h, pieces-octets n z (drop z xs
 records-sound : (s : Shape) (rs : List (List ℕ)) → EachOctets rs → Faultless s rs → Sound (map (transferOf s) rs)
 records-sound s [] h f = tt
 records-sound s (r ∷ rs) h f = (
-  record { tid = octet-at r 1 (h .0); tdest = tdest-fits s r (f .0) },
+  record { tid = octet-at r 1 (h .0); tdest = fields-of transferFlags s r (f .0) .tdest },
   lanes-fit (laneTypes s r) (dataOctets s r) (octets-take (s .width) (drop 7 r) (octets-drop 7 r (h .0))),
   records-sound s rs (h .1) (f .2),
 )
@@ -193,19 +182,20 @@ record-unreserved : (s : Shape) (t : Transfer Kept) → length (t .lanes) ≡ s 
 record-unreserved s t h =
     rw (two-octets (maskOf (map keepBit (t .lanes))), two-octets (maskOf (map strbBit (t .lanes))), ← h) (lanes-unreserved (t .lanes))
 
-pub bit-low : (b : Bool) → leb (2 ^ transferFlags) (bitOf b) ≡ false
-bit-low true = refl
-bit-low false = refl
+pub bit-low : (b : Bool) → bitOf b < 2 ^ transferFlags
+bit-low true = omega arith
+bit-low false = omega arith
 
 record-fields : (s : Shape) (t : Transfer Kept) → length (t .lanes) ≡ s .width → PairFits (t .pair) → fieldFault transferFlags s (octetsOf t) ≡ false
 record-fields s t h p =
-    rw (two-octets (maskOf (map keepBit (t .lanes))), two-octets (maskOf (map strbBit (t .lanes))), ← h)
-    (rw (
-      bit-low (t .last),
-      le-ltb 15 (t .pair .tdest) (p .tdest),
-      lt-leb (2 ^ length (t .lanes)) (maskOf (map keepBit (t .lanes))) (rw length-map at (mask-fits (map keepBit (t .lanes)))),
-      lt-leb (2 ^ length (t .lanes)) (maskOf (map strbBit (t .lanes))) (rw length-map at (mask-fits (map strbBit (t .lanes)))),
-    ) refl)
+    of-fields transferFlags s (octetsOf t)
+    (rw (two-octets (maskOf (map keepBit (t .lanes))), two-octets (maskOf (map strbBit (t .lanes))), ← h)
+    (record {
+      flags = bit-low (t .last);
+      tdest = p .tdest;
+      keep = rw length-map at (mask-fits (map keepBit (t .lanes)));
+      strb = rw length-map at (mask-fits (map strbBit (t .lanes)));
+    }))
 
 transfers-faultless : (s : Shape) (ts : List (Transfer Kept)) → Wide (s .width) ts → Sound ts → Faultless s (map octetsOf ts)
 transfers-faultless s [] h k = tt

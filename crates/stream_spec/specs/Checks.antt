@@ -2,7 +2,7 @@
 -- refusal it gives. A call lists its checks in 01's order, and the first fault that is there is what it answers.
 use mathlib.Core.Bool.{Bool, not, _||_}
 use mathlib.Core.List.{List, [], _∷_, _++_, map}
-use Prim.Native.Nat.{ℕ, suc, _%_, _^_}
+use Prim.Native.Nat.{ℕ, suc, _%_, _^_, _≤_, _<_}
 use lib.Dec.{eqb, leb, ltb}
 use lib.ListN.{length}
 use Rattle.refusal.specs.Checks.{Check, check}
@@ -42,11 +42,28 @@ takeChecks s xs = shapeChecks s [] ++ lengthCheck s xs ∷ []
 abbrev pub indexCheck : Shape → List ℕ → ℕ → Check Refusal
 indexCheck s xs k = check (leb (recordCount s xs) k) Index
 
+-- the highest TDEST
+abbrev pub tdestMost : ℕ
+tdestMost = 15
+
 -- 3: "a bit that must be zero is set, or TDEST is above 15". Of octet 0 a cycle record uses four flags and "a transfer
--- record has octet 0 equal to 0 or 1"; of TKEEP and TSTRB "bits at or above w" are zero.
+-- record has octet 0 equal to 0 or 1"; of TKEEP and TSTRB "bits at or above w" are zero. Told of the numbers in a record's
+-- head, which are octet 0, TDEST, TKEEP and TSTRB, and of a record.
+abbrev pub headFault : ℕ → Shape → ℕ → ℕ → ℕ → ℕ → Bool
+headFault used s f d k t = leb (2 ^ used) f || ltb tdestMost d || leb (2 ^ s .width) k || leb (2 ^ s .width) t
+
 abbrev pub fieldFault : ℕ → Shape → List ℕ → Bool
-fieldFault used s r =
-    leb (2 ^ used) (flags r) || ltb 15 (pairOf r .tdest) || leb (2 ^ s .width) (tkeep r) || leb (2 ^ s .width) (tstrb r)
+fieldFault used s r = headFault used s (flags r) (pairOf r .tdest) (tkeep r) (tstrb r)
+
+-- the same as facts: what numbers without that fault are. Both ways in proofs/Fields.
+pub record HeadFits (used : ℕ) (s : Shape) (f d k t : ℕ) : Type 0 where
+  pub flags : f < 2 ^ used
+  pub tdest : d ≤ tdestMost
+  pub keep : k < 2 ^ s .width
+  pub strb : t < 2 ^ s .width
+
+abbrev pub Fields : ℕ → Shape → List ℕ → Type 0
+Fields used s r = HeadFits used s (flags r) (pairOf r .tdest) (tkeep r) (tstrb r)
 
 abbrev pub cycleFlags : ℕ
 cycleFlags = 4
