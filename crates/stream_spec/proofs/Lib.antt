@@ -6,6 +6,7 @@ pub mod Cut
 pub mod Pack
 pub mod Hold
 pub mod Each
+pub mod Size
 pub mod Fields
 pub mod Records
 pub mod RecordChecks

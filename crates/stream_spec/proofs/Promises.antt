@@ -19,6 +19,7 @@ use Rattle.stream_spec.specs.Layout.{bit, odd, size, tkeep, tstrb, atWid
 use Rattle.stream_spec.specs.Checks.{widthCheck, lengthCheck, indexCheck}
 use Rattle.stream_spec.specs.Answers.{dataRefusal, dataPart}
 use Rattle.stream_spec.specs.Promises.{SetAbove, FieldBits, DataOctets, WidthExactly, LengthExactly, ByteTypes, RepackingKeeps, PackedLegal, PackedLength, PackedFull, PackedOnly, Hold, Joins, Canonical, LaneKeeping, Findings, HarvestLegal, HarvestRepacks}
+use Rattle.stream_spec.proofs.Size.{data-long}
 use Rattle.stream_spec.proofs.Bools.{or-split}
 use Rattle.refusal.proofs.First.{first-none}
 use Rattle.stream_spec.proofs.Repack.{WidthFits, width-fits}
@@ -100,11 +101,8 @@ pub record-there : (s : Shape) (xs : List ℕ) (k : ℕ) → k < recordCount s x
 record-there s xs k h =
     omega (arith, suc-mul k (size s), mul-le-mul-right (size s) h, div-mul-le-self (length xs) (size s))
 
-data-long : (s : Shape) (xs : List ℕ) (k : ℕ) → k < recordCount s xs → length (dataOctets s (drop (k * size s) xs)) ≡ s .width
-unfolding size
-data-long s xs k h =
-    length-take-le (s .width) (drop 7 (drop (k * size s) xs))
-    (omega (arith, length-drop 7 (drop (k * size s) xs), length-drop (k * size s) xs, record-there s xs k h))
+data-of : (s : Shape) (xs : List ℕ) (k : ℕ) → k < recordCount s xs → length (dataOctets s (drop (k * size s) xs)) ≡ s .width
+data-of s xs k h = data-long s (drop (k * size s) xs) (omega (arith, length-drop (k * size s) xs, record-there s xs k h))
 
 pub data-there : (s : Shape) (xs : List ℕ) (k : ℕ) → dataRefusal s xs k ≡ none → WidthFits (s .width) × (k < recordCount s xs)
 data-there s xs k e =
@@ -115,7 +113,7 @@ data-there s xs k e =
 
 pub handsOut : DataOctets
 unfolding dataPart
-handsOut s xs k = record { present = λ e. let h = data-there s xs k e in rw e (data-long s xs k (h .1), h .0 .low); refused = λ r e. rw e refl }
+handsOut s xs k = record { present = λ e. let h = data-there s xs k e in rw e (data-of s xs k (h .1), h .0 .low); refused = λ r e. rw e refl }
 
 -- ---- repacking
 

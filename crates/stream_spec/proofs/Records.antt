@@ -15,11 +15,9 @@ use lib.Seq.{length-take-le, take-all, take-at, drop-at, take-append-le, drop-ap
 use Rattle.stream_spec.specs.declared.Shape.{Shape}
 use Rattle.stream_spec.specs.Items.{Transfer, items}
 use Rattle.stream_spec.specs.Layout.{bit, odd, bitOf, maskOf, size, atWidth, typesOf, laneType, laneOf, lanesOf, Kept, octet, position, keepBit, strbBit, laneOctet, transferOf, octetsOf, pieces, recordCount, records, joined, transfers, octets, streamItems, packedTransfers, packed}
+pub use Rattle.stream_spec.proofs.Size.{size-pos}
+use Rattle.stream_spec.proofs.Size.{length-octetsOf}
 use Rattle.stream_spec.proofs.Pack.{map-append, items-append, items-pack, wide-pack, Wide}
-
-pub size-pos : (s : Shape) → 0 < size s
-unfolding size
-size-pos s = omega arith
 
 -- ---- pieces
 
@@ -148,10 +146,6 @@ transfer-back s t h =
     (rw (take-all (s .width) (map laneOctet (t .lanes)) short, ← h, lanes-back (t .lanes)) refl)
 
 -- ---- transfers and their octets
-
-length-octetsOf : (s : Shape) (t : Transfer Kept) → length (t .lanes) ≡ s .width → length (octetsOf t) ≡ size s
-unfolding size
-length-octetsOf s t h = omega (arith, length-map (t .lanes) laneOctet)
 
 pub octets-sized : (s : Shape) (ts : List (Transfer Kept)) → Wide (s .width) ts → Sized (size s) (map octetsOf ts)
 octets-sized s [] h = tt

@@ -9,11 +9,7 @@ use Rattle.refusal.specs.Checks.{Check, check}
 use Rattle.refusal.specs.declared.Refusal.{Refusal}
 use Rattle.refusal.specs.declared.Refusal.the-variants.{Width, Length, Field, Reserved, Room, Ratio, Index}
 use Rattle.stream_spec.specs.declared.Shape.{Shape}
-use Rattle.stream_spec.specs.Layout.{size, flags, pairOf, tkeep, tstrb, laneTypes, anyReserved, recordCount}
-
--- a record has 1 to 16 byte lanes
-abbrev pub widthMost : ℕ
-widthMost = 16
+use Rattle.stream_spec.specs.Layout.{widthMost, size, flags, pairOf, tkeep, tstrb, laneTypes, anyReserved, recordCount}
 
 -- 1: "a width is 0 or above 16". A call has the width of its input, and perhaps a width of its output.
 abbrev pub widthCheck : ℕ → Check Refusal

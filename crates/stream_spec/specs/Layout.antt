@@ -30,13 +30,24 @@ maskOf (b ∷ bs) = bitOf b + 2 * maskOf bs
 
 -- ---- a record's octets and fields
 
+-- a record has 1 to 16 byte lanes
+abbrev pub widthMost : ℕ
+widthMost = 16
+
 -- the octets before a record's data
 abbrev pub headOctets : ℕ
 headOctets = 7
 
--- "A record has 7 + w octets."
+-- "A record has 7 + w octets." Its laws are in proofs/Size, and nothing else takes it apart.
 unfoldable pub size : Shape → ℕ
 size s = headOctets + s .width
+
+-- the sizes of the narrowest and the widest record
+abbrev pub sizeLeast : ℕ
+sizeLeast = 8
+
+abbrev pub sizeMost : ℕ
+sizeMost = 23
 
 -- the same kind of record at another width. (What else a shape will hold stays as it is in s; as yet it is only a width.)
 abbrev pub atWidth : Shape → ℕ → Shape

@@ -5,8 +5,8 @@ use mathlib.Core.List.{List}
 use Prim.Native.Nat.{ℕ, _+_, _-_, _%_, _≤_}
 use lib.ListN.{length, take, drop}
 use Rattle.stream_spec.specs.declared.Shape.{Shape}
-use Rattle.stream_spec.specs.Layout.{size}
-use Rattle.stream_spec.specs.Checks.{widthMost, captureMost}
+use Rattle.stream_spec.specs.Layout.{widthMost, size}
+use Rattle.stream_spec.specs.Checks.{captureMost}
 
 -- the shape and the length have passed their tests
 pub record Passed (s : Shape) (xs : List ℕ) : Type 0 where
