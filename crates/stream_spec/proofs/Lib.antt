@@ -13,6 +13,7 @@ pub mod RecordChecks
 pub mod Legal
 pub mod Repack
 pub mod Walk
+pub mod Memory
 pub mod Demand3
 pub mod Full
 pub mod Only

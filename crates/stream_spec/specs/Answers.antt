@@ -20,6 +20,7 @@ use Rattle.stream_spec.specs.declared.Lookup.the-variants.{Present, Refu
 use Rattle.stream_spec.specs.Layout.{size, headOctets, records, recordCount, dataOctets, packedTransfers, packed, slicedTransfers, sliced}
 use Rattle.refusal.specs.Checks.{Check, check, first}
 use Rattle.stream_spec.specs.Checks.{shapeChecks, ratioCheck, lengthCheck, indexCheck, transferChecks, cycleChecks, roomCheck}
+use Rattle.stream_spec.specs.Memory.{inFront}
 use Rattle.stream_spec.specs.Handshake.{Finding, findings, firstFinding, transferCount, harvested, filledIn, baseLevel}
 
 -- ---- how an answer is made of the first refusal, if there is one
@@ -37,7 +38,7 @@ written none n = Records n
 -- ".. and leaves the output after them unchanged"; refused, "lent memory keeps its content"
 abbrev pub lentAfter : Option Refusal → List ℕ → List ℕ → List ℕ
 lentAfter (some r) result lent = lent
-lentAfter none result lent = result ++ drop (length result) lent
+lentAfter none result lent = inFront result lent
 
 abbrev pub lookup : Option Refusal → Lookup
 lookup (some r) = NoPart r

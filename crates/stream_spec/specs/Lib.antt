@@ -5,6 +5,7 @@ pub mod Packed
 pub mod Layout
 pub mod Checks
 pub mod Walk
+pub mod Memory
 pub mod Handshake
 pub mod Answers
 pub mod Legal
