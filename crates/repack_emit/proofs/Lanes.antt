@@ -14,7 +14,7 @@ use lib.Seq.{slice, slice-cons, length-slice}
 use Rattle.stream_spec.specs.Packed.{fitted}
 use Rattle.stream_spec.specs.Layout.{bitOf, maskOf, Kept, octet, position, keepBit, strbBit, laneOctet}
 use Rattle.stream_spec.proofs.Legal.{mask-fits}
-use Rattle.words.specs.Words.{front}
+use Rattle.words.specs.Words.{padded}
 use Rattle.repack_scratch.specs.Codes.{dataCode, heldCode, heldCodes, keptOf}
 use Rattle.repack_scratch.proofs.Held.{length-held}
 use Rattle.repack_emit.specs.Write.{itemOctet, itemStrobe}
@@ -135,12 +135,12 @@ data-octet d h =
 pub data-strobe : (d : ℕ) → d < 256 → bitOf (itemStrobe (dataCode d)) ≡ 1
 data-strobe d h = let high : (d + 256) / 256 ≡ 1 = omega arith in sym (strobe-is (d + 256)) ∙ rw high refl
 
-no-octets : (k : ℕ) (xs : List ℕ) → front k zero xs ≡ replicate {A = ℕ} k 0
+no-octets : (k : ℕ) (xs : List ℕ) → padded k zero xs ≡ replicate {A = ℕ} k 0
 no-octets zero xs = refl
 no-octets (suc k) xs = ap {B = List ℕ} (λ l. 0 ∷ l) (no-octets k (drop 1 xs))
 
 pub data-octets : (v n : ℕ) (ds : List ℕ) → ((i : ℕ) → getD ds i 0 < 256) → n ≤ v → n ≤ length ds
-    → front v n ds ≡ map itemOctet (take n (map dataCode ds)) ++ replicate {A = ℕ} (v - n) 0
+    → padded v n ds ≡ map itemOctet (take n (map dataCode ds)) ++ replicate {A = ℕ} (v - n) 0
 data-octets zero zero ds b h l = refl
 data-octets zero (suc n) ds b h l = absurd (omega arith)
 data-octets (suc v) zero ds b h l = no-octets (suc v) ds ∙ (let all : suc v - 0 ≡ suc v = omega arith in rw all refl)

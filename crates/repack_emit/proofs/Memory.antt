@@ -5,8 +5,9 @@ use Prim.Native.Nat.{ℕ, zero, suc, _+_, _-_, _/_, _%_, _^_, _≤_, _<_}
 use native.Mathlib.Omega.{arith}
 use lib.ListN.{length, getD, take, drop, replicate, length-append, length-drop, length-map, drop-of-length-le}
 use lib.Seq.{take-all, take-at, drop-at, drop-drop, drop-append-add, length-take-le}
-use Rattle.words.specs.Words.{front, placed as placedAt}
-use Rattle.words.proofs.Words.{length-front}
+use Rattle.words.specs.Splice.{splice}
+use Rattle.words.specs.Words.{padded}
+use Rattle.words.proofs.Words.{length-padded}
 use Rattle.stream_spec.specs.declared.Shape.{Shape}
 use Rattle.stream_spec.specs.Layout.{size, odd, bitOf, maskOf, octetsOf}
 use Rattle.stream_record.specs.Write.{headerOctets}
@@ -131,7 +132,7 @@ record-written t out out1 out2 out3 items n pair last keep strb k i h p l ke se 
 pub plain-written : (t : Shape) (out out1 out2 ds : List ℕ) (n pair last : ℕ) → n ≤ t .width → 1 ≤ t .width → t .width ≤ length ds
     → pair < 65536 → last ≤ 1 → ((i : ℕ) → getD ds i 0 < 256)
     → out1 ≡ headerOctets last (pair % 256) (pair / 256) (2 ^ n - 1) (2 ^ n - 1) ++ (0 ∷ drop 8 out)
-    → out2 ≡ placedAt 7 (front (t .width) n ds) out1
+    → out2 ≡ splice 7 (padded (t .width) n ds) out1
     → out2 ≡ octetsOf (recordOf (t .width) (pairFrom pair) (take n (map dataCode ds)) (odd last)) ++ drop (size t) out
 unfolding size
 plain-written t out out1 out2 ds n pair last k w d p l b e f =
@@ -145,7 +146,7 @@ plain-written t out out1 out2 ds n pair last k w d p l b e f =
     let rest : drop (t .width) (0 ∷ drop 8 out) ≡ drop (7 + t .width) out =
     ap (λ (m : ℕ). drop m (0 ∷ drop 8 out)) one ∙ drop-drop (t .width - 1) 8 out ∙ rw there refl in
     let back : drop (7 + t .width) (hdr ++ (0 ∷ drop 8 out)) ≡ drop (7 + t .width) out = drop-append-add hdr (0 ∷ drop 8 out) (t .width) ∙ rest in
-    f ∙ rw (e, length-front (t .width) n ds, back, data-octets (t .width) n ds b k (omega arith))
+    f ∙ rw (e, length-padded (t .width) n ds, back, data-octets (t .width) n ds b k (omega arith))
     (ap (λ (xs : List ℕ). hdr ++ xs) (append-assoc octs (replicate {A = ℕ} (t .width - n) 0) (drop (7 + t .width) out))
     ∙ (rw (low, high, data-strb n ds b (omega arith), long) at
     (record-octets t pair last (take n (map dataCode ds)) (drop (7 + t .width) out) (omega (arith, long)) p l)))

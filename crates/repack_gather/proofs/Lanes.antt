@@ -12,8 +12,10 @@ use lib.Pow.{pow-pos, mod-pow-add, shr-shr}
 use lib.ListN.{length-drop, length, getD, take, drop, set, length-append, length-set}
 use lib.Seq.{take-all, take-suc-set, take-set-le, getD-drop, drop-drop, length-take-le, take-append-add, take-append-le}
 use Rattle.stream_spec.specs.Layout.{odd}
-use Rattle.words.specs.Words.{front, placed}
-use Rattle.words.proofs.Words.{length-front, take-front, length-placed}
+use Rattle.words.specs.Splice.{splice}
+use Rattle.words.specs.Words.{padded}
+use Rattle.words.proofs.Splice.{splice-long}
+use Rattle.words.proofs.Words.{length-padded, take-padded}
 use Rattle.repack_scratch.specs.Codes.{dataCode, heldCodes, sifted}
 use Rattle.repack_scratch.proofs.Held.{length-held, held-more}
 use Rattle.repack_gather.specs.Gather.{keptOctet, keptOctets, Collected, Gathered, Clear}
@@ -75,17 +77,17 @@ kept-bits (suc w) k ds =
     rw (more, split, low, high, kept-bits w (k / 2) (drop 1 ds)) refl
 
 -- lanes that are filled up with zeros
-pub kept-front : (v w k : ℕ) (ds : List ℕ) → w ≤ v → k < 2 ^ w → keptOctets v k (front v w ds) ≡ keptOctets w k ds
-kept-front zero zero k ds h l = refl
-kept-front zero (suc w) k ds h l = absurd (omega arith)
-kept-front (suc v) zero k ds h l =
+pub kept-padded : (v w k : ℕ) (ds : List ℕ) → w ≤ v → k < 2 ^ w → keptOctets v k (padded v w ds) ≡ keptOctets w k ds
+kept-padded zero zero k ds h l = refl
+kept-padded zero (suc w) k ds h l = absurd (omega arith)
+kept-padded (suc v) zero k ds h l =
     let none : k ≡ 0 = omega arith in
-    rw none (kept-front v zero 0 (drop 1 ds) (omega arith) (omega arith))
-kept-front (suc v) (suc w) k ds h l =
-    ap (λ (r : List ℕ). keptOctet k (getD ds 0 0) ++ r) (kept-front v w (k / 2) (drop 1 ds) (omega arith) (omega (arith, pow-suc 2 w)))
+    rw none (kept-padded v zero 0 (drop 1 ds) (omega arith) (omega arith))
+kept-padded (suc v) (suc w) k ds h l =
+    ap (λ (r : List ℕ). keptOctet k (getD ds 0 0) ++ r) (kept-padded v w (k / 2) (drop 1 ds) (omega arith) (omega (arith, pow-suc 2 w)))
 
 -- a mask of all ones keeps every lane
-kept-full : (w : ℕ) (ds : List ℕ) → keptOctets w (2 ^ w - 1) ds ≡ front w w ds
+kept-full : (w : ℕ) (ds : List ℕ) → keptOctets w (2 ^ w - 1) ds ≡ padded w w ds
 kept-full zero ds = refl
 kept-full (suc w) ds =
     let low : (2 ^ suc w - 1) % 2 ≡ 1 = omega (arith, pow-suc 2 w, pow-pos w) in
@@ -121,31 +123,31 @@ collected-on a b c k k' keep at n r xs ys ds o o1 o2 h e f g =
 
 -- the first n of some octets that were stored
 pub stored-kept : (c keep at n : ℕ) (ds xs o after : List ℕ) → at + length xs ≤ length o → n ≤ length xs → take n xs ≡ keptOctets c keep ds
-    → after ≡ placed at xs o → Collected c keep ds o at after (at + n)
+    → after ≡ splice at xs o → Collected c keep ds o at after (at + n)
 stored-kept c keep at n ds xs o after h l k e =
     let before : length (take at o) ≡ at = length-take-le at o (omega arith) in
-    let front : take (at + n) (placed at xs o) ≡ take at o ++ take n (xs ++ drop (at + length xs) o) =
+    let before : take (at + n) (splice at xs o) ≡ take at o ++ take n (xs ++ drop (at + length xs) o) =
     rw before at (take-append-add (take at o) (xs ++ drop (at + length xs) o) n) in
-    collected c keep at (at + n) ds o after (ap length e ∙ length-placed o at xs h) (omega arith) (omega arith)
-    (ap (take (at + n)) e ∙ front ∙ rw (take-append-le n xs (drop (at + length xs) o) l, k) refl)
+    collected c keep at (at + n) ds o after (ap length e ∙ splice-long at xs o h) (omega arith) (omega arith)
+    (ap (take (at + n)) e ∙ before ∙ rw (take-append-le n xs (drop (at + length xs) o) l, k) refl)
 
 -- a part of a take up to its end
 pub part-rest : (from : ℕ) (input : List ℕ) → take (length input - from) (drop from input) ≡ drop from input
 part-rest from input = take-all (length input - from) (drop from input) (omega (arith, length-drop from input))
 
 -- a row of which as many octets are wanted as there are, or more
-front-enough : (k n : ℕ) (xs : List ℕ) → k ≤ n → front k n xs ≡ front k k xs
-front-enough zero n xs h = refl
-front-enough (suc k) zero xs h = absurd (omega arith)
-front-enough (suc k) (suc n) xs h = ap {B = List ℕ} (λ l. getD xs 0 0 ∷ l) (front-enough k n (drop 1 xs) (omega arith))
+padded-enough : (k n : ℕ) (xs : List ℕ) → k ≤ n → padded k n xs ≡ padded k k xs
+padded-enough zero n xs h = refl
+padded-enough (suc k) zero xs h = absurd (omega arith)
+padded-enough (suc k) (suc n) xs h = ap {B = List ℕ} (λ l. getD xs 0 0 ∷ l) (padded-enough k n (drop 1 xs) (omega arith))
 
 -- all w lanes in bulk, of m octets that were stored
 pub all-kept : (w m : ℕ) (lanes octets after : List ℕ) (at : ℕ) → w ≤ m → at + m ≤ length octets
-    → after ≡ placed at (front m m lanes) octets → Collected w (2 ^ w - 1) lanes octets at after (at + w)
+    → after ≡ splice at (padded m m lanes) octets → Collected w (2 ^ w - 1) lanes octets at after (at + w)
 all-kept w m lanes octets after at l h e =
-    let long = length-front m m lanes in
-    stored-kept w (2 ^ w - 1) at w lanes (front m m lanes) octets after (omega (arith, long)) (omega (arith, long))
-    (take-front w m m lanes l ∙ front-enough w m lanes l ∙ sym (kept-full w lanes)) e
+    let long = length-padded m m lanes in
+    stored-kept w (2 ^ w - 1) at w lanes (padded m m lanes) octets after (omega (arith, long)) (omega (arith, long))
+    (take-padded w m m lanes l ∙ padded-enough w m lanes l ∙ sym (kept-full w lanes)) e
 
 -- one lane of a take
 pub one-kept : (w from keep at r : ℕ) (input o after : List ℕ) → w ≡ 1 → at + 1 ≤ length o → Collected 1 keep (getD input from 0 ∷ []) o at after r

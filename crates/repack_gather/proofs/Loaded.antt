@@ -7,12 +7,12 @@ use native.Mathlib.Omega.{arith}
 use lib.Pow.{shr-shr}
 use lib.ListN.{getD, drop}
 use lib.Seq.{getD-drop, drop-drop}
-use Rattle.words.specs.Words.{wordAt, octetsOfWord, front}
+use Rattle.words.specs.Words.{wordAt, octetsOfWord, padded}
 use Rattle.words.proofs.Words.{zero-octets, shifted}
 
 module _ (s : List ℕ) (octets : (j : ℕ) → getD s j 0 < 256) where
   -- a word of n octets as one of more
-  wider : (k n i : ℕ) → n ≤ k → octetsOfWord k (wordAt n s i) ≡ front k n (drop i s)
+  wider : (k n i : ℕ) → n ≤ k → octetsOfWord k (wordAt n s i) ≡ padded k n (drop i s)
   wider k zero i h = zero-octets k (drop i s)
   wider zero (suc n) i h = absurd (omega arith)
   wider (suc k) (suc n) i h =
@@ -36,7 +36,7 @@ module _ (s : List ℕ) (octets : (j : ℕ) → getD s j 0 < 256) where
 
   -- the last n of the k octets before place e
   pub last-octets : (top k n e x : ℕ) → 1 ≤ n → n ≤ k → k ≤ e → 8 * k ≤ top → x ≡ wordAt k s (e - k)
-      → octetsOfWord k (x / (1 * 2 ^ (8 * (k - n)) % 2 ^ top)) ≡ front k n (drop (e - n) s)
+      → octetsOfWord k (x / (1 * 2 ^ (8 * (k - n)) % 2 ^ top)) ≡ padded k n (drop (e - n) s)
   last-octets top k n e x l h r t f =
       let all : k - n + n ≡ k = omega arith in
       let there : e - k + (k - n) ≡ e - n = omega arith in

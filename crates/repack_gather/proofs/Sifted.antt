@@ -6,11 +6,12 @@ use native.Mathlib.Omega.{arith}
 use lib.Pow.{pow-add}
 use lib.ListN.{length, getD, drop}
 use lib.Seq.{drop-drop}
-use Rattle.words.specs.Words.{wordAt, octetsOfWord, front, placed}
+use Rattle.words.specs.Splice.{splice}
+use Rattle.words.specs.Words.{wordAt, octetsOfWord, padded}
 use Rattle.words.proofs.Words.{low-octets, word-octets}
 use Rattle.repack_gather.specs.Gather.{keptOctets, Collected}
 use Rattle.repack_gather.specs.Sieve.{closing, sieveRows}
-use Rattle.repack_gather.proofs.Lanes.{kept-split, kept-bits, kept-front, collected-as, collected-on, stored-kept}
+use Rattle.repack_gather.proofs.Lanes.{kept-split, kept-bits, kept-padded, collected-as, collected-on, stored-kept}
 use Rattle.repack_gather.proofs.Masks.{Row, rows, closing-less, closing-halves, four-closed}
 
 -- ---- by a row of the sieve
@@ -24,13 +25,13 @@ rows-long s e = ap length e
 
 -- four lanes
 half : (at x y keep kept odd far n : ℕ) (o after : List ℕ) → Row (keep % 16) kept odd far n → at + 4 ≤ length o → x < 4294967296
-    → y ≡ closing x kept odd far → after ≡ placed at (octetsOfWord 4 y) o → Collected 4 keep (octetsOfWord 4 x) o at after (at + n)
+    → y ≡ closing x kept odd far → after ≡ splice at (octetsOfWord 4 y) o → Collected 4 keep (octetsOfWord 4 x) o at after (at + n)
 half at x y keep kept odd far n o after r h l e f =
     stored-kept 4 keep at n (octetsOfWord 4 x) (octetsOfWord 4 y) o after h (r .count)
     (rw e (four-closed x (keep % 16) kept odd far n l r) ∙ kept-bits 4 keep (octetsOfWord 4 x)) f
 
 pub sifted4 : (at x y keep kept odd far n : ℕ) (o after : List ℕ) → Row (keep % 16) kept odd far n → at + 4 ≤ length o → x < 4294967296
-    → y ≡ closing x kept odd far → after ≡ placed at (octetsOfWord 4 (y % 4294967296)) o
+    → y ≡ closing x kept odd far → after ≡ splice at (octetsOfWord 4 (y % 4294967296)) o
     → Collected 4 keep (octetsOfWord 4 x) o at after (at + n)
 sifted4 at x y keep kept odd far n o after r h l e f =
     half at x (y % 4294967296) keep kept odd far n o after r h l (omega (arith, e, closing-less x kept odd far)) f
@@ -47,8 +48,8 @@ kept-halves x keep =
 -- eight lanes
 pub sifted8 : (at x y keep kept odd far n kept' odd' far' n' a b c : ℕ) (o o1 o2 : List ℕ) → Row (keep % 16) kept odd far n
     → Row (keep / 16 % 16) kept' odd' far' n' → at + 8 ≤ length o → x < 2 ^ 64 → a ≡ kept + 4294967296 * kept' → b ≡ odd + 4294967296 * odd'
-    → c ≡ far + 4294967296 * far' → y ≡ closing x a b c → o1 ≡ placed at (octetsOfWord 4 (y % 4294967296)) o
-    → o2 ≡ placed (at + n) (octetsOfWord 4 (y / 4294967296)) o1 → Collected 8 keep (octetsOfWord 8 x) o at o2 (at + n + n')
+    → c ≡ far + 4294967296 * far' → y ≡ closing x a b c → o1 ≡ splice at (octetsOfWord 4 (y % 4294967296)) o
+    → o2 ≡ splice (at + n) (octetsOfWord 4 (y / 4294967296)) o1 → Collected 8 keep (octetsOfWord 8 x) o at o2 (at + n + n')
 sifted8 at x y keep kept odd far n kept' odd' far' n' a b c o o1 o2 r s h l ea eb ec ey f g =
     let whole : x ≡ x % 4294967296 + 4294967296 * (x / 4294967296) = omega arith in
     let two : y ≡ closing (x % 4294967296) kept odd far + 4294967296 * closing (x / 4294967296) kept' odd' far' =
@@ -66,15 +67,15 @@ sifted8 at x y keep kept odd far n kept' odd' far' n' a b c o o1 o2 r s h l ea e
 
 -- up to k lanes, which end where the word's octets end
 pub few-lanes : (k w from keep at r x : ℕ) (input o after : List ℕ) → w ≤ k → at + k ≤ length o → keep < 2 ^ w
-    → octetsOfWord k x ≡ front k w (drop (from + w - w) input) → Collected k keep (octetsOfWord k x) o at after r
+    → octetsOfWord k x ≡ padded k w (drop (from + w - w) input) → Collected k keep (octetsOfWord k x) o at after r
     → Collected w keep (drop from input) o at after r
 few-lanes k w from keep at r x input o after h l m e f =
     let there : from + w - w ≡ from = omega arith in
-    collected-as k w keep keep at r (octetsOfWord k x) (drop from input) o after l (sym (rw (e, there) (kept-front k w keep (drop from input) h m))) f
+    collected-as k w keep keep at r (octetsOfWord k x) (drop from input) o after l (sym (rw (e, there) (kept-padded k w keep (drop from input) h m))) f
 
 -- eight lanes and up to eight more
 pub many-lanes : (w from keep at n r x y : ℕ) (input o o1 o2 : List ℕ) → ((j : ℕ) → getD input j 0 < 256) → 8 ≤ w → w ≤ 16
-    → at + 16 ≤ length o → keep < 2 ^ w → x ≡ wordAt 8 input from → octetsOfWord 8 y ≡ front 8 (w - 8) (drop (from + w - (w - 8)) input)
+    → at + 16 ≤ length o → keep < 2 ^ w → x ≡ wordAt 8 input from → octetsOfWord 8 y ≡ padded 8 (w - 8) (drop (from + w - (w - 8)) input)
     → Collected 8 (keep % 256) (octetsOfWord 8 x) o at o1 n → Collected 8 (keep / 256) (octetsOfWord 8 y) o1 n o2 r
     → Collected w keep (drop from input) o at o2 r
 many-lanes w from keep at n r x y input o o1 o2 octets h h' l m ex ey f g =
@@ -84,10 +85,10 @@ many-lanes w from keep at n r x y input o o1 o2 octets h h' l m ex ey f g =
     let less : keep / 256 < 2 ^ (w - 8) = omega (arith, rw all at power, m) in
     let low : keptOctets 8 (keep % 256) (octetsOfWord 8 x) ≡ keptOctets 8 keep (drop from input) =
     ap (keptOctets 8 (keep % 256)) (ap (octetsOfWord 8) ex ∙ word-octets 8 input from octets)
-    ∙ kept-front 8 8 (keep % 256) (drop from input) (omega arith) (omega arith)
+    ∙ kept-padded 8 8 (keep % 256) (drop from input) (omega arith) (omega arith)
     ∙ kept-bits 8 keep (drop from input) in
     let high : keptOctets 8 (keep / 256) (octetsOfWord 8 y) ≡ keptOctets (w - 8) (keep / 256) (drop (from + 8) input) =
-    ap (keptOctets 8 (keep / 256)) (rw there at ey) ∙ kept-front 8 (w - 8) (keep / 256) (drop (from + 8) input) (omega arith) less in
+    ap (keptOctets 8 (keep / 256)) (rw there at ey) ∙ kept-padded 8 (w - 8) (keep / 256) (drop (from + 8) input) (omega arith) less in
     let split : keptOctets w keep (drop from input) ≡ keptOctets 8 keep (drop from input) ++ keptOctets (w - 8) (keep / 256) (drop (from + 8) input) =
     rw all at (rw (drop-drop 8 from input) at (kept-split 8 (w - 8) keep (drop from input))) in
     collected-on 8 8 w (keep % 256) (keep / 256) keep at n r (octetsOfWord 8 x) (octetsOfWord 8 y) (drop from input) o o1 o2 (omega arith)

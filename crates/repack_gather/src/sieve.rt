@@ -4,7 +4,7 @@
 ghost use mathlib.Core.Path.{_≡_};
 ghost use Prim.Native.Nat.{_+_, _-_, _*_, _^_, _≤_, _<_};
 ghost use lib.ListN.{length, drop};
-ghost use Rattle.words.specs.Words.{octetsOfWord, front};
+ghost use Rattle.words.specs.Words.{octetsOfWord, padded};
 ghost use Rattle.repack_gather.specs.Gather.{Collected};
 ghost use Rattle.repack_gather.specs.Sieve.{sieveRows, closing};
 
@@ -135,7 +135,7 @@ fn sift8(octets: &mut [u8], at: usize, x: u64, keep: u32, sieve: &[u64]) -> usiz
 // The n octets before place `end` as a word of four, zeros above them. Four octets are read.
 fn last4(input: &[u8], end: usize, n: usize) -> u64
     requires { ⌜ (1 ≤ n) × (n ≤ 4) × (4 ≤ end) × (end ≤ length (now input)) ⌝ }
-    ensures { λ r. ⌜ (r < 4294967296) × (octetsOfWord 4 r ≡ front 4 n (drop (end - n) (now (input .entry)))) ⌝ }
+    ensures { λ r. ⌜ (r < 4294967296) × (octetsOfWord 4 r ≡ padded 4 n (drop (end - n) (now (input .entry)))) ⌝ }
 {
     (words::load4(input, end - 4) / (1u32 << (8 * (4 - n)))) as u64
 }
@@ -143,7 +143,7 @@ fn last4(input: &[u8], end: usize, n: usize) -> u64
 // The same as a word of eight. Eight octets are read.
 fn last8(input: &[u8], end: usize, n: usize) -> u64
     requires { ⌜ (1 ≤ n) × (n ≤ 8) × (8 ≤ end) × (end ≤ length (now input)) ⌝ }
-    ensures { λ r. ⌜ octetsOfWord 8 r ≡ front 8 n (drop (end - n) (now (input .entry))) ⌝ }
+    ensures { λ r. ⌜ octetsOfWord 8 r ≡ padded 8 n (drop (end - n) (now (input .entry))) ⌝ }
 {
     words::load8(input, end - 8) / (1u64 << (8 * (8 - n)))
 }

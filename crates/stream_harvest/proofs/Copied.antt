@@ -12,8 +12,9 @@ use lib.Seq.{take-all, length-take-le, drop-drop}
 use Rattle.stream_spec.specs.Layout.{bit, bitOf}
 use Rattle.stream_spec.specs.Handshake.{asTransfer}
 use Rattle.stream_spec.proofs.Harvest.{length-kept}
-use Rattle.words.specs.Words.{front, placed}
-use Rattle.words.proofs.Words.{placed-over}
+use Rattle.words.specs.Splice.{splice}
+use Rattle.words.specs.Words.{padded}
+use Rattle.words.proofs.Splice.{splice-over}
 
 -- TLAST as a number is the lowest bit of octet 0
 pub low-bit : (n : ℕ) → bitOf (bit 0 n) ≡ n % 2
@@ -27,10 +28,10 @@ pub same-length : (rec : List ℕ) → 0 < length rec → length (asTransfer rec
 same-length rec h = length-kept (length rec) rec h refl
 
 -- the first k octets of a row, all of which are wanted
-front-take : (k : ℕ) (xs : List ℕ) → k ≤ length xs → front k k xs ≡ take k xs
-front-take zero xs h = refl
-front-take (suc k) [] h = absurd (omega arith)
-front-take (suc k) (x ∷ xs) h = ap {B = List ℕ} (λ l. x ∷ l) (front-take k xs (omega arith))
+padded-take : (k : ℕ) (xs : List ℕ) → k ≤ length xs → padded k k xs ≡ take k xs
+padded-take zero xs h = refl
+padded-take (suc k) [] h = absurd (omega arith)
+padded-take (suc k) (x ∷ xs) h = ap {B = List ℕ} (λ l. x ∷ l) (padded-take k xs (omega arith))
 
 -- a part of a record up to its end
 part-all : (i : ℕ) (rec : List ℕ) → take (length rec - i) (drop i rec) ≡ drop i rec
@@ -38,7 +39,7 @@ part-all i rec = take-all (length rec - i) (drop i rec) (omega (arith, length-dr
 
 -- octet 0, and all others behind it
 tail-put : (rec out : List ℕ) → 0 < length rec → length rec ≤ length out
-    → placed 1 (drop 1 rec) (set out 0 (getD rec 0 0 % 2)) ≡ asTransfer rec ++ drop (length rec) out
+    → splice 1 (drop 1 rec) (set out 0 (getD rec 0 0 % 2)) ≡ asTransfer rec ++ drop (length rec) out
 tail-put [] out h l = absurd (omega arith)
 tail-put (x ∷ rec) [] h l = absurd (omega arith)
 tail-put (x ∷ rec) (y ∷ out) h l =
@@ -50,29 +51,29 @@ pub part-long : (i : ℕ) (rec : List ℕ) → i ≤ length rec → length (take
 part-long i rec h = rw (part-all i rec) (length-drop i rec)
 
 module _ (rec out : List ℕ) (low : 8 ≤ length rec) (room : length rec ≤ length out) (after : List ℕ)
-    (e : after ≡ placed 1 (front 7 7 (take (length rec - 1) (drop 1 rec))) (set out 0 (getD rec 0 0 % 2))) where
-  seven : front 7 7 (take (length rec - 1) (drop 1 rec)) ≡ take 7 (drop 1 rec)
-  seven = rw (part-all 1 rec) (front-take 7 (drop 1 rec) (omega (arith, length-drop 1 rec)))
+    (e : after ≡ splice 1 (padded 7 7 (take (length rec - 1) (drop 1 rec))) (set out 0 (getD rec 0 0 % 2))) where
+  seven : padded 7 7 (take (length rec - 1) (drop 1 rec)) ≡ take 7 (drop 1 rec)
+  seven = rw (part-all 1 rec) (padded-take 7 (drop 1 rec) (omega (arith, length-drop 1 rec)))
 
   -- a record of eight octets is put ..
   pub short-put : length rec ≤ 8 → after ≡ asTransfer rec ++ drop (length rec) out
   short-put h =
       let all : take 7 (drop 1 rec) ≡ drop 1 rec = take-all 7 (drop 1 rec) (omega (arith, length-drop 1 rec)) in
-      e ∙ ap (λ (xs : List ℕ). placed 1 xs (set out 0 (getD rec 0 0 % 2))) (seven ∙ all) ∙ tail-put rec out (omega arith) room
+      e ∙ ap (λ (xs : List ℕ). splice 1 xs (set out 0 (getD rec 0 0 % 2))) (seven ∙ all) ∙ tail-put rec out (omega arith) room
 
   -- .. and a longer one, by a second group
   pub long-put : 8 < length rec → (last : List ℕ)
-      → last ≡ placed 8 (front (length rec - 8) (length rec - 8) (take (length rec - 8) (drop 8 rec))) after
+      → last ≡ splice 8 (padded (length rec - 8) (length rec - 8) (take (length rec - 8) (drop 8 rec))) after
       → last ≡ asTransfer rec ++ drop (length rec) out
   long-put h last f =
       let first-long : length (take 7 (drop 1 rec)) ≡ 7 = length-take-le 7 (drop 1 rec) (omega (arith, length-drop 1 rec)) in
-      let rest : front (length rec - 8) (length rec - 8) (take (length rec - 8) (drop 8 rec)) ≡ drop 8 rec =
-      rw (part-all 8 rec) (front-take (length rec - 8) (drop 8 rec) (omega (arith, length-drop 8 rec)) ∙ part-all 8 rec) in
+      let rest : padded (length rec - 8) (length rec - 8) (take (length rec - 8) (drop 8 rec)) ≡ drop 8 rec =
+      rw (part-all 8 rec) (padded-take (length rec - 8) (drop 8 rec) (omega (arith, length-drop 8 rec)) ∙ part-all 8 rec) in
       let joined : take 7 (take 7 (drop 1 rec)) ++ drop 8 rec ≡ drop 1 rec =
       rw (take-all 7 (take 7 (drop 1 rec)) (omega arith), ← drop-drop 7 1 rec) (take-append-drop 7 (drop 1 rec)) in
       f
-      ∙ ap₂ (λ (xs o : List ℕ). placed 8 xs o) rest (e ∙ ap (λ (xs : List ℕ). placed 1 xs (set out 0 (getD rec 0 0 % 2))) seven)
-      ∙ placed-over (set out 0 (getD rec 0 0 % 2)) 1 (take 7 (drop 1 rec)) (drop 8 rec) 7 (omega arith) (omega arith)
+      ∙ ap₂ (λ (xs o : List ℕ). splice 8 xs o) rest (e ∙ ap (λ (xs : List ℕ). splice 1 xs (set out 0 (getD rec 0 0 % 2))) seven)
+      ∙ splice-over 1 7 (take 7 (drop 1 rec)) (drop 8 rec) (set out 0 (getD rec 0 0 % 2)) (omega arith) (omega arith)
       (omega (arith, length-drop 8 rec, length-set out 0 (getD rec 0 0 % 2)))
-      ∙ ap (λ (xs : List ℕ). placed 1 xs (set out 0 (getD rec 0 0 % 2))) joined
+      ∙ ap (λ (xs : List ℕ). splice 1 xs (set out 0 (getD rec 0 0 % 2))) joined
       ∙ tail-put rec out (omega arith) room

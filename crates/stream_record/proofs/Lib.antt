@@ -1,3 +1,4 @@
+pub mod Flags
 pub mod Field
 pub mod DataPart
 pub mod Fill

@@ -6,7 +6,8 @@ use native.Mathlib.Nat.{one-mul, mod-eq-of-lt}
 use native.Mathlib.Omega.{arith}
 use lib.ListN.{drop}
 use lib.Pow.{pow-pos, pow-mono}
-use Rattle.words.specs.Words.{octetsOfWord, placed}
+use Rattle.words.specs.Splice.{splice}
+use Rattle.words.specs.Words.{octetsOfWord}
 use Rattle.stream_record.specs.Write.{headerOctets}
 
 pub header-word : (last pair m : ℕ) → last ≤ 1 → pair < 65536 → m < 65536
@@ -34,7 +35,7 @@ pub lanes-few : (n : ℕ) → n ≤ 16 → 2 ^ n - 1 < 65536
 lanes-few n h = omega (arith, pow-mono h, pow-pos n)
 
 pub header-placed : (out out1 : List ℕ) (last pair n m : ℕ) → last ≤ 1 → pair < 65536 → n ≤ 16 → m ≡ 2 ^ n - 1
-    → out1 ≡ placed 0 (octetsOfWord 8 (last + 256 * pair + 1099528404992 * m)) out
+    → out1 ≡ splice 0 (octetsOfWord 8 (last + 256 * pair + 1099528404992 * m)) out
     → out1 ≡ headerOctets last (pair % 256) (pair / 256) (2 ^ n - 1) (2 ^ n - 1) ++ (0 ∷ drop 8 out)
 header-placed out out1 last pair n m l p h e f =
     f ∙ rw e (ap (λ (xs : List ℕ). xs ++ drop 8 out) (header-word last pair (2 ^ n - 1) l p (lanes-few n h)))
@@ -61,6 +62,6 @@ one-word pair lane p h =
     rw (o0, x1, o1, x2, o2, x3, o3, x4, o4, x5, o5, x6, o6, x7, o7) refl
 
 pub one-placed : (out out1 : List ℕ) (pair lane : ℕ) → pair < 65536 → lane < 256
-    → out1 ≡ placed 0 (octetsOfWord 8 (256 * pair + 1099528404992 + 72057594037927936 * lane)) out
+    → out1 ≡ splice 0 (octetsOfWord 8 (256 * pair + 1099528404992 + 72057594037927936 * lane)) out
     → out1 ≡ headerOctets 0 (pair % 256) (pair / 256) 1 1 ++ (lane ∷ drop 8 out)
 one-placed out out1 pair lane p h f = f ∙ ap (λ (xs : List ℕ). xs ++ drop 8 out) (one-word pair lane p h)

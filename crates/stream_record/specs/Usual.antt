@@ -13,16 +13,16 @@ use Rattle.stream_record.specs.Header.{headerOf}
 -- TLAST and TKEEP are read from its two words.
 pub record Usual (lo hi pair full : ℕ) (h : Header) : Type 0 where
   pub flags : h .flags ≡ lo % 2
-  pub paired : h .tid + 256 * h .tdest ≡ pair
-  pub keep : h .keep ≡ hi % 65536
-  pub strb : h .strb ≡ hi % 65536
-  pub within : hi % 65536 ≤ full
+  pub paired : h .tid + 0x100 * h .tdest ≡ pair
+  pub keep : h .keep ≡ hi % 0x10000
+  pub strb : h .strb ≡ hi % 0x10000
+  pub within : hi % 0x10000 ≤ full
 
 -- The test of two words: without TLAST the low one is the pair and the low octet of TKEEP, the high one has TKEEP twice, and
 -- no lane beyond the full mask is kept.
 abbrev pub usualTest : ℕ → ℕ → ℕ → ℕ → Bool
 usualTest lo hi pair full =
-    eqb (lo - lo % 2) (256 * pair + 16777216 * (hi % 256)) && (eqb hi (65537 * (hi % 65536)) && leb (hi % 65536) full)
+    eqb (lo - lo % 2) (0x100 * pair + 0x1000000 * (hi % 0x100)) && (eqb hi (0x10001 * (hi % 0x10000)) && leb (hi % 0x10000) full)
 
 -- the header of every record whose octets 0 to 3 and 3 to 6 are these two words
 abbrev pub UsualWords : ℕ → ℕ → ℕ → ℕ → Type 0

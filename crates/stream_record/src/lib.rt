@@ -1,11 +1,21 @@
 // A record's octets in code: its size, its header's fields, the faults of a width, a length and a record. What each octet is
-// stands in stream_spec's Layout; the words and masks in specs/ here, and the loops of the crates above, which know places too
-// (octet 0, data from octet 7 on), are proved against it. Functions with a `requires` are for those crates, which test first.
+// stands in stream_spec's Layout, against which everything here and in the crates above is proved; the numbers of the layout
+// have their names in `layout`. Functions with a `requires` are for the crates above, which test first.
+pub mod layout;
 mod lookup;
 mod masks;
 mod usual;
 pub mod write;
 
+use layout::CAPTURE_MOST;
+use layout::FLAGS;
+pub use layout::HEAD_OCTETS;
+use layout::TDEST;
+use layout::TDEST_MOST;
+use layout::TID;
+use layout::TKEEP;
+use layout::TSTRB;
+use layout::WIDEST;
 pub use lookup::data_octets;
 pub use lookup::data_start;
 pub use lookup::find_data;
@@ -13,11 +23,12 @@ pub use masks::breaks;
 pub use masks::must_be_zero;
 use stream_spec::Shape;
 pub use usual::is_usual;
+use words::widen4;
 ghost use mathlib.Core.Path.{_≡_};
-ghost use Prim.Native.Nat.{ℕ, _≤_, _<_, _^_};
-ghost use lib.ListN.{length};
-ghost use Rattle.stream_spec.specs.Layout.{size, typesOf, anyReserved};
-ghost use Rattle.stream_spec.specs.Checks.{widthCheck, lengthCheck};
+ghost use Prim.Native.Nat.{ℕ, _+_, _*_, _≤_, _<_, _^_};
+ghost use lib.ListN.{length, getD};
+ghost use Rattle.stream_spec.specs.Layout.{headOctets, size, typesOf, anyReserved};
+ghost use Rattle.stream_spec.specs.Checks.{widthMost, widthCheck, lengthCheck};
 ghost use Rattle.stream_record.specs.Header.{headerOf, headerFault};
 
 // The fields of a record before its data.
@@ -42,12 +53,6 @@ pub enum Fault {
     Reserved,
 }
 
-fn wide(x: u8) -> u32
-    ensures { λ r. ⌜ (r ≡ x) × (r < 256) ⌝ }
-{
-    x as u32
-}
-
 // Whether a width is refused.
 pub fn bad_width(w: usize) -> bool
     ensures { λ r. ⌜ r ≡ widthCheck w .found ⌝ }
@@ -55,53 +60,61 @@ pub fn bad_width(w: usize) -> bool
     if w == 0 {
         return true;
     }
-    16 < w
+    WIDEST < w
 }
 
 // The octets of a record. The width has passed its test.
 pub fn record_size(s: Shape) -> usize
-    requires { ⌜ s .width ≤ 16 ⌝ }
+    requires { ⌜ s .width ≤ widthMost ⌝ }
     ensures { λ r. ⌜ r ≡ size s ⌝ }
 {
-    7 + s.width
+    HEAD_OCTETS + s.width
 }
 
 // Whether the length of an input is refused. The width has passed its test.
 pub fn bad_length(s: Shape, input: &[u8]) -> bool
-    requires { ⌜ s .width ≤ 16 ⌝ }
+    requires { ⌜ s .width ≤ widthMost ⌝ }
     ensures { λ r. ⌜ r ≡ lengthCheck s (now (input .entry)) .found ⌝ }
 {
     let n = input.len();
-    if 65536 < n {
+    if CAPTURE_MOST < n {
         return true;
     }
     n % record_size(s) != 0
 }
 
+// The mask of two octets from octet i on, low octet first.
+fn read_mask(rec: &[u8], i: usize) -> u32
+    requires { ⌜ i + 2 ≤ length (now rec) ⌝ }
+    ensures { λ r. ⌜ r ≡ getD (now (rec .entry)) i 0 + 256 * getD (now (rec .entry)) (i + 1) 0 ⌝ }
+{
+    widen4(rec[i]) + 0x100 * widen4(rec[i + 1])
+}
+
 // The header of the record at the front of `rec`.
 pub fn read_header(rec: &[u8]) -> Header
-    requires { ⌜ 7 ≤ length (now rec) ⌝ }
+    requires { ⌜ headOctets ≤ length (now rec) ⌝ }
     ensures { λ r. ⌜ r ≡ headerOf (now (rec .entry)) ⌝ }
 {
     Header {
-        flags: wide(rec[0]),
-        tid: rec[1],
-        tdest: rec[2],
-        keep: wide(rec[3]) + 256 * wide(rec[4]),
-        strb: wide(rec[5]) + 256 * wide(rec[6]),
+        flags: widen4(rec[FLAGS]),
+        tid: rec[TID],
+        tdest: rec[TDEST],
+        keep: read_mask(rec, TKEEP),
+        strb: read_mask(rec, TSTRB),
     }
 }
 
 // Whether a bit that must be zero is set, or TDEST is above 15; `used` flags of octet 0 are in use.
 pub fn field_fault(h: Header, used: u32, s: Shape) -> bool
-    requires { ⌜ (s .width ≤ 16) × (used ≤ 8) ⌝ }
+    requires { ⌜ (s .width ≤ widthMost) × (used ≤ 8) ⌝ }
     ensures { λ r. ⌜ r ≡ headerFault used s h ⌝ }
 {
     let limit = 1u32 << s.width;
     if 1u32 << used <= h.flags {
         return true;
     }
-    if 15 < h.tdest {
+    if TDEST_MOST < h.tdest {
         return true;
     }
     if limit <= h.keep {

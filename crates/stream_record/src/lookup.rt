@@ -1,5 +1,6 @@
 // The data octets of record k of a take, handed out as that very part of the caller's slice, and the refusal where there
 // is no such part. Two calls of one definition, since no enum can hold a part.
+use crate::HEAD_OCTETS;
 use crate::bad_length;
 use crate::bad_width;
 use crate::record_size;
@@ -33,7 +34,7 @@ pub fn data_start(s: Shape, capture: &[u8], k: usize) -> usize
     let Lookup::Present = find_data(s, capture, k) else {
         return 0;
     };
-    k * record_size(s) + 7
+    k * record_size(s) + HEAD_OCTETS
 }
 
 // The data octets of record k: the part of the take that starts at data_start, or an empty part where find_data refuses. No

@@ -8,14 +8,14 @@ ghost use Rattle.stream_record.specs.Usual.{usualTest, UsualWords};
 // Octets 0 to 3 of a header are `lo`, octets 3 to 6 are `hi`; `full` is the mask of all lanes. Without TLAST the low word
 // is the pair and the low octet of TKEEP, and the high word's upper half, TSTRB, is TKEEP again.
 pub fn is_usual(lo: u32, hi: u32, pair: u32, full: u32) -> bool
-    requires { ⌜ pair < 4096 ⌝ }
+    requires { ⌜ pair < 0x1000 ⌝ }
     ensures { λ r. ⌜ (r ≡ usualTest lo hi pair full) × (r ≡ true → UsualWords lo hi pair full) ⌝ }
 {
-    if lo - lo % 2 != 256 * pair + 16777216 * (hi % 256) {
+    if lo - lo % 2 != 0x100 * pair + 0x100_0000 * (hi % 0x100) {
         return false;
     }
-    if hi != 65537 * (hi % 65536) {
+    if hi != 0x1_0001 * (hi % 0x1_0000) {
         return false;
     }
-    hi % 65536 <= full
+    hi % 0x1_0000 <= full
 }

@@ -1,23 +1,39 @@
 // Writing a record's octets, as stream_spec's Layout has them: its header, and its null lanes. The lanes that carry something
 // are written by the crates above, which know what they carry.
+use crate::layout::FLAGS;
+use crate::layout::HEAD_OCTETS;
+use crate::layout::TDEST;
+use crate::layout::TID;
+use crate::layout::TKEEP;
+use crate::layout::TKEEP_HIGH;
+use crate::layout::TSTRB;
+use crate::layout::TSTRB_HIGH;
 ghost use mathlib.Core.Path.{_≡_};
 ghost use mathlib.Core.List.{_∷_, _++_};
 ghost use Prim.Native.Nat.{ℕ, _+_, _-_, _/_, _%_, _^_, _≤_, _<_};
 ghost use lib.ListN.{length, take, drop, replicate};
 ghost use Rattle.stream_record.specs.Write.{headerOctets};
 
+// A header and the octet behind it as one number: the pair from octet 1 on (bit 8), a mask as TKEEP from octet 3 on (bit 24)
+// and as TSTRB from octet 5 on (bit 40), lane 0 in octet 7 (bit 56).
+const PAIR: u64 = 0x100;
+
+const BOTH_MASKS: u64 = 0x100_0100_0000;
+
+const LANE_0: u64 = 0x100_0000_0000_0000;
+
 // The header of the record at the front of `out`.
 pub fn write_header(out: &mut [u8], last: u8, tid: u8, tdest: u8, keep: u32, strb: u32)
     requires { ⌜ (7 ≤ length (now out)) × (keep < 65536) × (strb < 65536) ⌝ }
     ensures { λ _. ⌜ now (out .exit) ≡ headerOctets last tid tdest keep strb ++ drop 7 (now (out .entry)) ⌝ }
 {
-    out[0] = last;
-    out[1] = tid;
-    out[2] = tdest;
-    out[3] = (keep % 256) as u8;
-    out[4] = (keep / 256 % 256) as u8;
-    out[5] = (strb % 256) as u8;
-    out[6] = (strb / 256 % 256) as u8;
+    out[FLAGS] = last;
+    out[TID] = tid;
+    out[TDEST] = tdest;
+    out[TKEEP] = (keep % 0x100) as u8;
+    out[TKEEP_HIGH] = (keep / 0x100 % 0x100) as u8;
+    out[TSTRB] = (strb % 0x100) as u8;
+    out[TSTRB_HIGH] = (strb / 0x100 % 0x100) as u8;
 }
 
 // The header of a record with data on its first n lanes, as one word: eight octets are written, the last of which is 0.
@@ -29,7 +45,7 @@ pub fn write_data_header(out: &mut [u8], last: u32, pair: u32, n: usize)
     words::store8(
         out,
         0,
-        (last as u64) + 256 * (pair as u64) + 1099528404992 * lanes,
+        (last as u64) + PAIR * (pair as u64) + BOTH_MASKS * lanes,
     );
 }
 
@@ -41,7 +57,7 @@ pub fn write_one(out: &mut [u8], pair: u32, lane: u8)
     words::store8(
         out,
         0,
-        256 * (pair as u64) + 1099528404992 + 72057594037927936 * (lane as u64),
+        PAIR * (pair as u64) + BOTH_MASKS + LANE_0 * (lane as u64),
     );
 }
 
@@ -53,6 +69,6 @@ pub fn write_nulls(out: &mut [u8], n: usize, v: usize)
     let mut j = v;
     while n < j {
         j -= 1;
-        out[7 + j] = 0;
+        out[HEAD_OCTETS + j] = 0;
     }
 }

@@ -8,44 +8,46 @@ use native.Mathlib.Omega.{arith}
 use lib.Pow.{mod-pow-add, pow-pos, pow-lt}
 use lib.ListN.{length, getD, take, drop, set, length-append, length-drop}
 use lib.Seq.{take-append-le, drop-drop, getD-drop, length-take-le, drop-append-add, take-append-add, sets-eq, set-split}
-use Rattle.words.specs.Words.{wordAt, octetsOfWord, front, placed}
+use Rattle.words.specs.Splice.{splice}
+use Rattle.words.specs.Words.{wordAt, octetsOfWord, padded}
+use Rattle.words.proofs.Splice.{splice-over}
 
 -- ---- words and octets
 
-pub word-octets : (k : ℕ) (s : List ℕ) (i : ℕ) → ((j : ℕ) → getD s j 0 < 256) → octetsOfWord k (wordAt k s i) ≡ front k k (drop i s)
+pub word-octets : (k : ℕ) (s : List ℕ) (i : ℕ) → ((j : ℕ) → getD s j 0 < 256) → octetsOfWord k (wordAt k s i) ≡ padded k k (drop i s)
 word-octets zero s i h = refl
 word-octets (suc k) s i h =
     let low : (getD s i 0 + 256 * wordAt k s (i + 1)) % 256 ≡ getD s i 0 = omega (arith, h i) in
     let high : (getD s i 0 + 256 * wordAt k s (i + 1)) / 256 ≡ wordAt k s (i + 1) = omega (arith, h i) in
     rw (low, high, word-octets k s (i + 1) h, getD-drop i s 0 0, add-zero i, drop-drop 1 i s) refl
 
-pub length-front : (k n : ℕ) (xs : List ℕ) → length (front k n xs) ≡ k
-length-front zero n xs = refl
-length-front (suc k) zero xs = ap suc (length-front k zero (drop 1 xs))
-length-front (suc k) (suc n) xs = ap suc (length-front k n (drop 1 xs))
+pub length-padded : (k n : ℕ) (xs : List ℕ) → length (padded k n xs) ≡ k
+length-padded zero n xs = refl
+length-padded (suc k) zero xs = ap suc (length-padded k zero (drop 1 xs))
+length-padded (suc k) (suc n) xs = ap suc (length-padded k n (drop 1 xs))
 
 pub length-octets : (k x : ℕ) → length (octetsOfWord k x) ≡ k
 length-octets zero x = refl
 length-octets (suc k) x = ap suc (length-octets k (x / 256))
 
 -- what is left away was not looked at
-pub front-front : (k n : ℕ) (xs : List ℕ) → front k n (front k k xs) ≡ front k n xs
-front-front zero n xs = refl
-front-front (suc k) zero xs = ap {B = List ℕ} (λ l. 0 ∷ l) (front-front k zero (drop 1 xs))
-front-front (suc k) (suc n) xs = ap {B = List ℕ} (λ l. getD xs 0 0 ∷ l) (front-front k n (drop 1 xs))
+pub padded-padded : (k n : ℕ) (xs : List ℕ) → padded k n (padded k k xs) ≡ padded k n xs
+padded-padded zero n xs = refl
+padded-padded (suc k) zero xs = ap {B = List ℕ} (λ l. 0 ∷ l) (padded-padded k zero (drop 1 xs))
+padded-padded (suc k) (suc n) xs = ap {B = List ℕ} (λ l. getD xs 0 0 ∷ l) (padded-padded k n (drop 1 xs))
 
-pub zero-octets : (k : ℕ) (xs : List ℕ) → octetsOfWord k 0 ≡ front k zero xs
+pub zero-octets : (k : ℕ) (xs : List ℕ) → octetsOfWord k 0 ≡ padded k zero xs
 zero-octets zero xs = refl
 zero-octets (suc k) xs = ap {B = List ℕ} (λ l. 0 ∷ l) (zero-octets k (drop 1 xs))
 
 -- all of them are wanted
-pub front-all : (k n : ℕ) (x : ℕ) → k ≤ n → octetsOfWord k x ≡ front k n (octetsOfWord k x)
-front-all zero n x h = refl
-front-all (suc k) zero x h = absurd (omega arith)
-front-all (suc k) (suc n) x h = ap {B = List ℕ} (λ l. x % 256 ∷ l) (front-all k n (x / 256) (omega arith))
+pub padded-all : (k n : ℕ) (x : ℕ) → k ≤ n → octetsOfWord k x ≡ padded k n (octetsOfWord k x)
+padded-all zero n x h = refl
+padded-all (suc k) zero x h = absurd (omega arith)
+padded-all (suc k) (suc n) x h = ap {B = List ℕ} (λ l. x % 256 ∷ l) (padded-all k n (x / 256) (omega arith))
 
 -- a word that is cut off after n octets
-pub low-octets : (k n x : ℕ) → octetsOfWord k (x % 2 ^ (8 * n)) ≡ front k n (octetsOfWord k x)
+pub low-octets : (k n x : ℕ) → octetsOfWord k (x % 2 ^ (8 * n)) ≡ padded k n (octetsOfWord k x)
 low-octets zero n x = refl
 low-octets (suc k) zero x =
     let none : x % 2 ^ (8 * 0) ≡ 0 = omega arith in
@@ -60,66 +62,39 @@ low-octets (suc k) (suc n) x =
 -- ---- rows
 
 -- a row is its first octets and the others
-pub front-split : (a b n : ℕ) (xs : List ℕ) → front (a + b) n xs ≡ front a n xs ++ front b (n - a) (drop a xs)
-front-split zero b n xs =
+pub padded-split : (a b n : ℕ) (xs : List ℕ) → padded (a + b) n xs ≡ padded a n xs ++ padded b (n - a) (drop a xs)
+padded-split zero b n xs =
     let none : 0 + b ≡ b = omega arith in
     let all : n - 0 ≡ n = omega arith in
     rw (none, all) refl
-front-split (suc a) b zero xs =
+padded-split (suc a) b zero xs =
     let one : suc a + b ≡ suc (a + b) = omega arith in
     let none : 0 - suc a ≡ 0 - a = omega arith in
     let past : suc a ≡ 1 + a = omega arith in
-    rw (one, none) (ap {B = List ℕ} (λ l. 0 ∷ l) (front-split a b zero (drop 1 xs) ∙ rw (drop-drop a 1 xs, ← past) refl))
-front-split (suc a) b (suc n) xs =
+    rw (one, none) (ap {B = List ℕ} (λ l. 0 ∷ l) (padded-split a b zero (drop 1 xs) ∙ rw (drop-drop a 1 xs, ← past) refl))
+padded-split (suc a) b (suc n) xs =
     let one : suc a + b ≡ suc (a + b) = omega arith in
     let less : suc n - suc a ≡ n - a = omega arith in
     let past : suc a ≡ 1 + a = omega arith in
-    rw (one, less) (ap {B = List ℕ} (λ l. getD xs 0 0 ∷ l) (front-split a b n (drop 1 xs) ∙ rw (drop-drop a 1 xs, ← past) refl))
+    rw (one, less) (ap {B = List ℕ} (λ l. getD xs 0 0 ∷ l) (padded-split a b n (drop 1 xs) ∙ rw (drop-drop a 1 xs, ← past) refl))
 
-pub take-front : (a k n : ℕ) (xs : List ℕ) → a ≤ k → take a (front k n xs) ≡ front a n xs
-take-front zero k n xs h = refl
-take-front (suc a) zero n xs h = absurd (omega arith)
-take-front (suc a) (suc k) zero xs h = ap {B = List ℕ} (λ l. 0 ∷ l) (take-front a k zero (drop 1 xs) (omega arith))
-take-front (suc a) (suc k) (suc n) xs h = ap {B = List ℕ} (λ l. getD xs 0 0 ∷ l) (take-front a k n (drop 1 xs) (omega arith))
+pub take-padded : (a k n : ℕ) (xs : List ℕ) → a ≤ k → take a (padded k n xs) ≡ padded a n xs
+take-padded zero k n xs h = refl
+take-padded (suc a) zero n xs h = absurd (omega arith)
+take-padded (suc a) (suc k) zero xs h = ap {B = List ℕ} (λ l. 0 ∷ l) (take-padded a k zero (drop 1 xs) (omega arith))
+take-padded (suc a) (suc k) (suc n) xs h = ap {B = List ℕ} (λ l. getD xs 0 0 ∷ l) (take-padded a k n (drop 1 xs) (omega arith))
 
 -- ---- rows in memory
 
 module _ (s : List ℕ) (at : ℕ) where
-  pub length-placed : (xs : List ℕ) → at + length xs ≤ length s → length (placed at xs s) ≡ length s
-  length-placed xs h =
-      length-append (take at s) (xs ++ drop (at + length xs) s)
-      ∙ rw (length-take-le at s (omega arith), length-append xs (drop (at + length xs) s), length-drop (at + length xs) s) (omega arith)
-
-  -- a row over the end of another: what is left of the first, then the second
-  pub placed-over : (xs ys : List ℕ) (a : ℕ) → a ≤ length xs → length xs ≤ a + length ys → at + (a + length ys) ≤ length s
-      → placed (at + a) ys (placed at xs s) ≡ placed at (take a xs ++ ys) s
-  placed-over xs ys a h k r =
-      let at-long : length (take at s) ≡ at = length-take-le at s (omega arith) in
-      let a-long : length (take a xs) ≡ a = length-take-le a xs h in
-      let both : length (take a xs ++ ys) ≡ a + length ys = rw (length-append (take a xs) ys, a-long) refl in
-      let front : take (at + a) (placed at xs s) ≡ take at s ++ take a xs =
-      (rw at-long at (take-append-add (take at s) (xs ++ drop (at + length xs) s) a))
-      ∙ rw (take-append-le a xs (drop (at + length xs) s) h) refl in
-      let past : at + a + length ys ≡ at + (length xs + (a + length ys - length xs)) = omega arith in
-      let there : at + length xs + (a + length ys - length xs) ≡ at + (a + length ys) = omega arith in
-      let back : drop (at + a + length ys) (placed at xs s) ≡ drop (at + (a + length ys)) s =
-      rw past
-      ((rw at-long at (drop-append-add (take at s) (xs ++ drop (at + length xs) s) (length xs + (a + length ys - length xs))))
-      ∙ drop-append-add xs (drop (at + length xs) s) (a + length ys - length xs)
-      ∙ drop-drop (a + length ys - length xs) (at + length xs) s
-      ∙ rw there refl) in
-      rw (front, back, both)
-      (append-assoc (take at s) (take a xs) (ys ++ drop (at + (a + length ys)) s)
-      ∙ ap (λ (l : List ℕ). take at s ++ l) (sym (append-assoc (take a xs) ys (drop (at + (a + length ys)) s))))
-
-  -- the same with parts of one row
+  -- a part of a row over the end of another part
   pub row-on : (xs : List ℕ) (n k j a : ℕ) → a ≤ k → k ≤ a + j → at + (a + j) ≤ length s
-      → placed (at + a) (front j (n - a) (drop a xs)) (placed at (front k n xs) s) ≡ placed at (front (a + j) n xs) s
+      → splice (at + a) (padded j (n - a) (drop a xs)) (splice at (padded k n xs) s) ≡ splice at (padded (a + j) n xs) s
   row-on xs n k j a h l r =
-      let k-long = length-front k n xs in
-      let j-long = length-front j (n - a) (drop a xs) in
-      placed-over (front k n xs) (front j (n - a) (drop a xs)) a (omega (arith, k-long)) (omega (arith, k-long, j-long)) (omega (arith, j-long))
-      ∙ rw (take-front a k n xs h, ← front-split a j n xs) refl
+      let k-long = length-padded k n xs in
+      let j-long = length-padded j (n - a) (drop a xs) in
+      splice-over at a (padded k n xs) (padded j (n - a) (drop a xs)) s (omega (arith, k-long)) (omega (arith, k-long, j-long)) (omega (arith, j-long))
+      ∙ rw (take-padded a k n xs h, ← padded-split a j n xs) refl
 
 -- ---- what the code computes
 
@@ -143,7 +118,7 @@ word8 s i a b c d e f g h p q r t u v w x =
     rw (two, three, four, five, six, seven) (omega (arith, p, q, r, t, u, v, w, x))
 
 pub stored4 : (s : List ℕ) (i x : ℕ) → i + 4 ≤ length s
-    → set (set (set (set s i (x % 256)) (i + 1) (x / 256 % 256)) (i + 2) (x / 65536 % 256)) (i + 3) (x / 16777216 % 256) ≡ placed i (octetsOfWord 4 x) s
+    → set (set (set (set s i (x % 256)) (i + 1) (x / 256 % 256)) (i + 2) (x / 65536 % 256)) (i + 3) (x / 16777216 % 256) ≡ splice i (octetsOfWord 4 x) s
 stored4 s i x h =
     let one : i + 1 ≡ suc i = omega arith in
     let two : i + 2 ≡ suc (suc i) = omega arith in
@@ -155,7 +130,7 @@ stored4 s i x h =
 pub stored8 : (s : List ℕ) (i x : ℕ) → i + 8 ≤ length s
     → set (set (set (set (set (set (set (set s i (x % 256)) (i + 1) (x / 256 % 256)) (i + 2) (x / 65536 % 256)) (i + 3) (x / 16777216 % 256))
     (i + 4) (x / 4294967296 % 256)) (i + 5) (x / 1099511627776 % 256)) (i + 6) (x / 281474976710656 % 256)) (i + 7) (x / 72057594037927936 % 256)
-    ≡ placed i (octetsOfWord 8 x) s
+    ≡ splice i (octetsOfWord 8 x) s
 stored8 s i x h =
     let one : i + 1 ≡ suc i = omega arith in
     let two : i + 2 ≡ suc (suc i) = omega arith in
@@ -182,12 +157,12 @@ shifted-some top n h = rw (shifted top n h) (pow-pos (8 * n))
 
 -- the first n octets of a word that was loaded, stored
 pub first-stored : (k n x y i at : ℕ) (s to out : List ℕ) → ((j : ℕ) → getD s j 0 < 256) → x ≡ wordAt k s i
-    → octetsOfWord k y ≡ front k n (octetsOfWord k x) → out ≡ placed at (octetsOfWord k y) to → out ≡ placed at (front k n (drop i s)) to
-first-stored k n x y i at s to out h e f g = g ∙ rw (f, e, word-octets k s i h, front-front k n (drop i s)) refl
+    → octetsOfWord k y ≡ padded k n (octetsOfWord k x) → out ≡ splice at (octetsOfWord k y) to → out ≡ splice at (padded k n (drop i s)) to
+first-stored k n x y i at s to out h e f g = g ∙ rw (f, e, word-octets k s i h, padded-padded k n (drop i s)) refl
 
 -- k octets, then the last k of v, which may overlap them
 pub rows : (s xs out1 out2 : List ℕ) (at n k v m : ℕ) → k ≤ v → v ≤ k + k → at + v ≤ length s → m ≡ n - (v - k)
-    → out1 ≡ placed at (front k n xs) s → out2 ≡ placed (at + v - k) (front k m (drop (v - k) xs)) out1 → out2 ≡ placed at (front v n xs) s
+    → out1 ≡ splice at (padded k n xs) s → out2 ≡ splice (at + v - k) (padded k m (drop (v - k) xs)) out1 → out2 ≡ splice at (padded v n xs) s
 rows s xs out1 out2 at n k v m h l r e f g =
     let there : at + v - k ≡ at + (v - k) = omega arith in
     let all : v - k + k ≡ v = omega arith in
@@ -195,17 +170,17 @@ rows s xs out1 out2 at n k v m h l r e f g =
 
 -- one octet, the next one, and the last of v, which may be that one
 pub few : (s xs out1 out2 out3 : List ℕ) (at n v m1 m2 : ℕ) → 1 < v → v ≤ 3 → at + v ≤ length s → m1 ≡ n - 1 → m2 ≡ n - (v - 1)
-    → out1 ≡ placed at (front 1 n xs) s → out2 ≡ placed (at + 1) (front 1 m1 (drop 1 xs)) out1
-    → out3 ≡ placed (at + v - 1) (front 1 m2 (drop (v - 1) xs)) out2 → out3 ≡ placed at (front v n xs) s
+    → out1 ≡ splice at (padded 1 n xs) s → out2 ≡ splice (at + 1) (padded 1 m1 (drop 1 xs)) out1
+    → out3 ≡ splice (at + v - 1) (padded 1 m2 (drop (v - 1) xs)) out2 → out3 ≡ splice at (padded v n xs) s
 few s xs out1 out2 out3 at n v m1 m2 h l r e e' f g k =
     let there : at + v - 1 ≡ at + (v - 1) = omega arith in
     let all : v - 1 + 1 ≡ v = omega arith in
-    let two : out2 ≡ placed at (front 2 n xs) s = g ∙ rw (f, e) (row-on s at xs n 1 1 1 (omega arith) (omega arith) (omega arith)) in
+    let two : out2 ≡ splice at (padded 2 n xs) s = g ∙ rw (f, e) (row-on s at xs n 1 1 1 (omega arith) (omega arith) (omega arith)) in
     k ∙ rw (two, e', there) (row-on s at xs n 2 1 (v - 1) (omega arith) (omega arith) (omega arith) ∙ rw all refl)
 
 -- one octet stored
-pub stored1 : (s xs : List ℕ) (at i n y : ℕ) → at < length s → (y ∷ []) ≡ front 1 n (getD xs i 0 ∷ [])
-    → set s at y ≡ placed at (front 1 n (drop i xs)) s
+pub stored1 : (s xs : List ℕ) (at i n y : ℕ) → at < length s → (y ∷ []) ≡ padded 1 n (getD xs i 0 ∷ [])
+    → set s at y ≡ splice at (padded 1 n (drop i xs)) s
 stored1 s xs at i zero y h e =
     let past : suc at ≡ at + 1 = omega arith in
     let zero-octet : y ≡ 0 = ap (λ (l : List ℕ). getD l 0 0) e in
@@ -215,6 +190,6 @@ stored1 s xs at i (suc n) y h e =
     let octet : y ≡ getD (drop i xs) 0 0 = ap (λ (l : List ℕ). getD l 0 0) e ∙ sym (getD-drop i xs 0 0 ∙ rw (add-zero i) refl) in
     rw (← octet) (set-split s at y h ∙ rw past refl)
 
-pub first-one : (x n : ℕ) → (n ≡ 0 → ⊥) → (x ∷ []) ≡ front 1 n (x ∷ [])
+pub first-one : (x n : ℕ) → (n ≡ 0 → ⊥) → (x ∷ []) ≡ padded 1 n (x ∷ [])
 first-one x zero h = absurd (h refl)
 first-one x (suc n) h = refl

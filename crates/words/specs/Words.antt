@@ -1,7 +1,7 @@
 -- Octets in a row as one number, low octet first, and back; a row of octets that is cut off and filled up with zeros.
-use mathlib.Core.List.{List, [], _∷_, _++_}
+use mathlib.Core.List.{List, [], _∷_}
 use Prim.Native.Nat.{ℕ, zero, suc, _+_, _*_, _/_, _%_}
-use lib.ListN.{length, getD, take, drop}
+use lib.ListN.{getD, drop}
 
 -- k octets of s from place i on
 abbrev pub wordAt : ℕ → List ℕ → ℕ → ℕ
@@ -14,11 +14,7 @@ octetsOfWord zero x = []
 octetsOfWord (suc k) x = x % 256 ∷ octetsOfWord k (x / 256)
 
 -- k octets: the first n of xs, then zeros
-abbrev pub front : ℕ → ℕ → List ℕ → List ℕ
-front zero n xs = []
-front (suc k) zero xs = 0 ∷ front k zero (drop 1 xs)
-front (suc k) (suc n) xs = getD xs 0 0 ∷ front k n (drop 1 xs)
-
--- memory with these octets at place i
-abbrev pub placed : ℕ → List ℕ → List ℕ → List ℕ
-placed i xs s = take i s ++ (xs ++ drop (i + length xs) s)
+abbrev pub padded : ℕ → ℕ → List ℕ → List ℕ
+padded zero n xs = []
+padded (suc k) zero xs = 0 ∷ padded k zero (drop 1 xs)
+padded (suc k) (suc n) xs = getD xs 0 0 ∷ padded k n (drop 1 xs)

@@ -4,15 +4,17 @@ ghost use mathlib.Core.Path.{_≡_};
 ghost use mathlib.Core.List.{[], _∷_};
 ghost use Prim.Native.Nat.{_+_, _-_, _≤_, _<_};
 ghost use lib.ListN.{length, drop};
-ghost use Rattle.words.specs.Words.{wordAt, octetsOfWord, front, placed};
+ghost use Rattle.words.specs.Splice.{splice};
+ghost use Rattle.words.specs.Words.{wordAt, octetsOfWord, padded};
 
-fn wide4(x: u8) -> u32
+// An octet as a word of four octets, and of eight.
+pub fn widen4(x: u8) -> u32
     ensures { λ r. ⌜ (r ≡ x) × (r < 256) ⌝ }
 {
     x as u32
 }
 
-fn wide8(x: u8) -> u64
+pub fn widen8(x: u8) -> u64
     ensures { λ r. ⌜ (r ≡ x) × (r < 256) ⌝ }
 {
     x as u64
@@ -23,7 +25,10 @@ pub fn load4(s: &[u8], i: usize) -> u32
     requires { ⌜ i + 4 ≤ length (now s) ⌝ }
     ensures { λ r. ⌜ r ≡ wordAt 4 (now (s .entry)) i ⌝ }
 {
-    wide4(s[i]) + 256 * wide4(s[i + 1]) + 65536 * wide4(s[i + 2]) + 16777216 * wide4(s[i + 3])
+    widen4(s[i])
+        + 0x100 * widen4(s[i + 1])
+        + 0x1_0000 * widen4(s[i + 2])
+        + 0x100_0000 * widen4(s[i + 3])
 }
 
 // Eight octets from place i on.
@@ -31,45 +36,45 @@ pub fn load8(s: &[u8], i: usize) -> u64
     requires { ⌜ i + 8 ≤ length (now s) ⌝ }
     ensures { λ r. ⌜ r ≡ wordAt 8 (now (s .entry)) i ⌝ }
 {
-    wide8(s[i])
-        + 256 * wide8(s[i + 1])
-        + 65536 * wide8(s[i + 2])
-        + 16777216 * wide8(s[i + 3])
-        + 4294967296 * wide8(s[i + 4])
-        + 1099511627776 * wide8(s[i + 5])
-        + 281474976710656 * wide8(s[i + 6])
-        + 72057594037927936 * wide8(s[i + 7])
+    widen8(s[i])
+        + 0x100 * widen8(s[i + 1])
+        + 0x1_0000 * widen8(s[i + 2])
+        + 0x100_0000 * widen8(s[i + 3])
+        + 0x1_0000_0000 * widen8(s[i + 4])
+        + 0x100_0000_0000 * widen8(s[i + 5])
+        + 0x1_0000_0000_0000 * widen8(s[i + 6])
+        + 0x100_0000_0000_0000 * widen8(s[i + 7])
 }
 
 // The four octets of x at place i.
 pub fn store4(s: &mut [u8], i: usize, x: u32)
     requires { ⌜ i + 4 ≤ length (now s) ⌝ }
-    ensures { λ _. ⌜ now (s .exit) ≡ placed i (octetsOfWord 4 x) (now (s .entry)) ⌝ }
+    ensures { λ _. ⌜ now (s .exit) ≡ splice i (octetsOfWord 4 x) (now (s .entry)) ⌝ }
 {
-    s[i] = (x % 256) as u8;
-    s[i + 1] = (x / 256 % 256) as u8;
-    s[i + 2] = (x / 65536 % 256) as u8;
-    s[i + 3] = (x / 16777216 % 256) as u8;
+    s[i] = (x % 0x100) as u8;
+    s[i + 1] = (x / 0x100 % 0x100) as u8;
+    s[i + 2] = (x / 0x1_0000 % 0x100) as u8;
+    s[i + 3] = (x / 0x100_0000 % 0x100) as u8;
 }
 
 // The eight octets of x at place i.
 pub fn store8(s: &mut [u8], i: usize, x: u64)
     requires { ⌜ i + 8 ≤ length (now s) ⌝ }
-    ensures { λ _. ⌜ now (s .exit) ≡ placed i (octetsOfWord 8 x) (now (s .entry)) ⌝ }
+    ensures { λ _. ⌜ now (s .exit) ≡ splice i (octetsOfWord 8 x) (now (s .entry)) ⌝ }
 {
-    s[i] = (x % 256) as u8;
-    s[i + 1] = (x / 256 % 256) as u8;
-    s[i + 2] = (x / 65536 % 256) as u8;
-    s[i + 3] = (x / 16777216 % 256) as u8;
-    s[i + 4] = (x / 4294967296 % 256) as u8;
-    s[i + 5] = (x / 1099511627776 % 256) as u8;
-    s[i + 6] = (x / 281474976710656 % 256) as u8;
-    s[i + 7] = (x / 72057594037927936 % 256) as u8;
+    s[i] = (x % 0x100) as u8;
+    s[i + 1] = (x / 0x100 % 0x100) as u8;
+    s[i + 2] = (x / 0x1_0000 % 0x100) as u8;
+    s[i + 3] = (x / 0x100_0000 % 0x100) as u8;
+    s[i + 4] = (x / 0x1_0000_0000 % 0x100) as u8;
+    s[i + 5] = (x / 0x100_0000_0000 % 0x100) as u8;
+    s[i + 6] = (x / 0x1_0000_0000_0000 % 0x100) as u8;
+    s[i + 7] = (x / 0x100_0000_0000_0000 % 0x100) as u8;
 }
 
 // The first n octets of four, zeros after them.
 fn first4(x: u32, n: usize) -> u32
-    ensures { λ r. ⌜ octetsOfWord 4 r ≡ front 4 n (octetsOfWord 4 x) ⌝ }
+    ensures { λ r. ⌜ octetsOfWord 4 r ≡ padded 4 n (octetsOfWord 4 x) ⌝ }
 {
     if 4 <= n {
         return x;
@@ -79,7 +84,7 @@ fn first4(x: u32, n: usize) -> u32
 
 // The first n octets of eight, zeros after them.
 fn first8(x: u64, n: usize) -> u64
-    ensures { λ r. ⌜ octetsOfWord 8 r ≡ front 8 n (octetsOfWord 8 x) ⌝ }
+    ensures { λ r. ⌜ octetsOfWord 8 r ≡ padded 8 n (octetsOfWord 8 x) ⌝ }
 {
     if 8 <= n {
         return x;
@@ -89,7 +94,7 @@ fn first8(x: u64, n: usize) -> u64
 
 // The octet, or zero where none is wanted.
 fn first1(x: u8, n: usize) -> u8
-    ensures { λ r. ⌜ (r ∷ []) ≡ front 1 n (x ∷ []) ⌝ }
+    ensures { λ r. ⌜ (r ∷ []) ≡ padded 1 n (x ∷ []) ⌝ }
 {
     if n == 0 {
         return 0;
@@ -110,7 +115,7 @@ fn beyond(n: usize, m: usize) -> usize
 // Four octets at place `at`: those of `from` at place i, of which the first n are wanted, and zeros.
 fn place4(to: &mut [u8], at: usize, from: &[u8], i: usize, n: usize)
     requires { ⌜ (at + 4 ≤ length (now to)) × (i + 4 ≤ length (now from)) ⌝ }
-    ensures { λ _. ⌜ now (to .exit) ≡ placed at (front 4 n (drop i (now (from .entry)))) (now (to .entry)) ⌝ }
+    ensures { λ _. ⌜ now (to .exit) ≡ splice at (padded 4 n (drop i (now (from .entry)))) (now (to .entry)) ⌝ }
 {
     store4(to, at, first4(load4(from, i), n));
 }
@@ -118,7 +123,7 @@ fn place4(to: &mut [u8], at: usize, from: &[u8], i: usize, n: usize)
 // The same with eight octets.
 fn place8(to: &mut [u8], at: usize, from: &[u8], i: usize, n: usize)
     requires { ⌜ (at + 8 ≤ length (now to)) × (i + 8 ≤ length (now from)) ⌝ }
-    ensures { λ _. ⌜ now (to .exit) ≡ placed at (front 8 n (drop i (now (from .entry)))) (now (to .entry)) ⌝ }
+    ensures { λ _. ⌜ now (to .exit) ≡ splice at (padded 8 n (drop i (now (from .entry)))) (now (to .entry)) ⌝ }
 {
     store8(to, at, first8(load8(from, i), n));
 }
@@ -126,7 +131,7 @@ fn place8(to: &mut [u8], at: usize, from: &[u8], i: usize, n: usize)
 // The same with one octet.
 fn place1(to: &mut [u8], at: usize, from: &[u8], i: usize, n: usize)
     requires { ⌜ (at < length (now to)) × (i < length (now from)) ⌝ }
-    ensures { λ _. ⌜ now (to .exit) ≡ placed at (front 1 n (drop i (now (from .entry)))) (now (to .entry)) ⌝ }
+    ensures { λ _. ⌜ now (to .exit) ≡ splice at (padded 1 n (drop i (now (from .entry)))) (now (to .entry)) ⌝ }
 {
     to[at] = first1(from[i], n);
 }
@@ -134,7 +139,7 @@ fn place1(to: &mut [u8], at: usize, from: &[u8], i: usize, n: usize)
 // Eight to sixteen octets: the first eight and the last eight, which may overlap.
 fn place_many(to: &mut [u8], at: usize, from: &[u8], n: usize, v: usize)
     requires { ⌜ (8 ≤ v) × (v ≤ 16) × (v ≤ length (now from)) × (at + v ≤ length (now to)) ⌝ }
-    ensures { λ _. ⌜ now (to .exit) ≡ placed at (front v n (now (from .entry))) (now (to .entry)) ⌝ }
+    ensures { λ _. ⌜ now (to .exit) ≡ splice at (padded v n (now (from .entry))) (now (to .entry)) ⌝ }
 {
     place8(to, at, from, 0, n);
     if 8 < v {
@@ -145,7 +150,7 @@ fn place_many(to: &mut [u8], at: usize, from: &[u8], n: usize, v: usize)
 // Four to eight octets, likewise.
 fn place_some(to: &mut [u8], at: usize, from: &[u8], n: usize, v: usize)
     requires { ⌜ (4 ≤ v) × (v ≤ 8) × (v ≤ length (now from)) × (at + v ≤ length (now to)) ⌝ }
-    ensures { λ _. ⌜ now (to .exit) ≡ placed at (front v n (now (from .entry))) (now (to .entry)) ⌝ }
+    ensures { λ _. ⌜ now (to .exit) ≡ splice at (padded v n (now (from .entry))) (now (to .entry)) ⌝ }
 {
     place4(to, at, from, 0, n);
     if 4 < v {
@@ -156,7 +161,7 @@ fn place_some(to: &mut [u8], at: usize, from: &[u8], n: usize, v: usize)
 // One to three octets.
 fn place_few(to: &mut [u8], at: usize, from: &[u8], n: usize, v: usize)
     requires { ⌜ (1 ≤ v) × (v ≤ 3) × (v ≤ length (now from)) × (at + v ≤ length (now to)) ⌝ }
-    ensures { λ _. ⌜ now (to .exit) ≡ placed at (front v n (now (from .entry))) (now (to .entry)) ⌝ }
+    ensures { λ _. ⌜ now (to .exit) ≡ splice at (padded v n (now (from .entry))) (now (to .entry)) ⌝ }
 {
     place1(to, at, from, 0, n);
     if 1 < v {
@@ -168,7 +173,7 @@ fn place_few(to: &mut [u8], at: usize, from: &[u8], n: usize, v: usize)
 // v octets at place `at`, 1 to 16: the first n of `from`, then zeros. Nothing else of `to` is touched.
 pub fn place(to: &mut [u8], at: usize, from: &[u8], n: usize, v: usize)
     requires { ⌜ (1 ≤ v) × (v ≤ 16) × (n ≤ v) × (v ≤ length (now from)) × (at + v ≤ length (now to)) ⌝ }
-    ensures { λ _. ⌜ now (to .exit) ≡ placed at (front v n (now (from .entry))) (now (to .entry)) ⌝ }
+    ensures { λ _. ⌜ now (to .exit) ≡ splice at (padded v n (now (from .entry))) (now (to .entry)) ⌝ }
 {
     if 8 <= v {
         place_many(to, at, from, n, v);

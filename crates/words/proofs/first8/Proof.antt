@@ -1,6 +1,6 @@
 -- `words::first8` meets its contract: the word is cut off by a remainder. Assumes nothing.
 use native.Mathlib.Omega.{arith}
-use Rattle.words.proofs.Words.{front-all, low-octets, shifted, shifted-some}
+use Rattle.words.proofs.Words.{padded-all, low-octets, shifted, shifted-some}
 use borrow.Author.Needs.{needs}
 use Rattle.words.proofs.first8.Statement.{statement}
 use Rattle.words.proofs.first8.Tie as tie
@@ -8,7 +8,7 @@ use Rattle.words.proofs.first8.Reads as reads
 use Rattle.words.proofs.first8.Lts as lts
 
 returns : tie.Need-returns
-returns c = front-all 8 (c .before .args .n) (c .before .args .x) (c .if1 .taken)
+returns c = padded-all 8 (c .before .args .n) (c .before .args .x) (c .if1 .taken)
 
 mul-result : tie.Need-mul-result
 mul-result c = search needs

@@ -5,22 +5,22 @@ use Rattle.words.proofs.load4.Statement.{statement}
 use Rattle.words.proofs.load4.Tie as tie
 use Rattle.words.proofs.load4.Reads as reads
 use Rattle.words.proofs.load4.Lts as lts
-use Rattle.words.proofs.wide4.Reads as wide4-reads
+use Rattle.words.proofs.widen4.Reads as widen4-reads
 
-shared-slice-read-wide4 : tie.Need-shared-slice-read-wide4
-shared-slice-read-wide4 c = search needs
+shared-slice-read-widen4 : tie.Need-shared-slice-read-widen4
+shared-slice-read-widen4 c = search needs
 
-wide4-requires : tie.Need-wide4-requires
-wide4-requires c κs = search needs
+widen4-requires : tie.Need-widen4-requires
+widen4-requires c κs = search needs
 
-add-wide4 : tie.Need-add-wide4
-add-wide4 c = search needs
+add-widen4 : tie.Need-add-widen4
+add-widen4 c = search needs
 
-shared-slice-read-wide4-2 : tie.Need-shared-slice-read-wide4-2
-shared-slice-read-wide4-2 c = search needs
+shared-slice-read-widen4-2 : tie.Need-shared-slice-read-widen4-2
+shared-slice-read-widen4-2 c = search needs
 
-wide4-requires-2 : tie.Need-wide4-requires-2
-wide4-requires-2 c κs = search needs
+widen4-requires-2 : tie.Need-widen4-requires-2
+widen4-requires-2 c κs = search needs
 
 mul-result : tie.Need-mul-result
 mul-result c = search needs
@@ -28,14 +28,14 @@ mul-result c = search needs
 add-result : tie.Need-add-result
 add-result c = search needs
 
-add-wide4-2 : tie.Need-add-wide4-2
-add-wide4-2 c = search needs
+add-widen4-2 : tie.Need-add-widen4-2
+add-widen4-2 c = search needs
 
-shared-slice-read-wide4-3 : tie.Need-shared-slice-read-wide4-3
-shared-slice-read-wide4-3 c = search needs
+shared-slice-read-widen4-3 : tie.Need-shared-slice-read-widen4-3
+shared-slice-read-widen4-3 c = search needs
 
-wide4-requires-3 : tie.Need-wide4-requires-3
-wide4-requires-3 c κs = search needs
+widen4-requires-3 : tie.Need-widen4-requires-3
+widen4-requires-3 c κs = search needs
 
 mul-result-2 : tie.Need-mul-result-2
 mul-result-2 c = search needs
@@ -43,14 +43,14 @@ mul-result-2 c = search needs
 add-result-2 : tie.Need-add-result-2
 add-result-2 c = search needs
 
-add-wide4-3 : tie.Need-add-wide4-3
-add-wide4-3 c = search needs
+add-widen4-3 : tie.Need-add-widen4-3
+add-widen4-3 c = search needs
 
-shared-slice-read-wide4-4 : tie.Need-shared-slice-read-wide4-4
-shared-slice-read-wide4-4 c = search needs
+shared-slice-read-widen4-4 : tie.Need-shared-slice-read-widen4-4
+shared-slice-read-widen4-4 c = search needs
 
-wide4-requires-4 : tie.Need-wide4-requires-4
-wide4-requires-4 c κs = search needs
+widen4-requires-4 : tie.Need-widen4-requires-4
+widen4-requires-4 c κs = search needs
 
 mul-result-3 : tie.Need-mul-result-3
 mul-result-3 c = search needs
@@ -60,27 +60,27 @@ add-result-3 c = search needs
 
 returns : tie.Need-returns
 returns c = let a = c .before .before .before .before .before .before .before .before .before .args in
-    word4 (a .s .now) (a .i) (c .before .before .before .before .before .before .wide4 .result) (c .before .before .before .before .wide42 .result) (c .before .before .wide43 .result) (c .wide44 .result) (c .before .before .before .before .before .before .wide4 .ensures .0) (c .before .before .before .before .wide42 .ensures .0) (c .before .before .wide43 .ensures .0) (c .wide44 .ensures .0)
+    word4 (a .s .now) (a .i) (c .before .before .before .before .before .before .widen4 .result) (c .before .before .before .before .widen42 .result) (c .before .before .widen43 .result) (c .widen44 .result) (c .before .before .before .before .before .before .widen4 .ensures .0) (c .before .before .before .before .widen42 .ensures .0) (c .before .before .widen43 .ensures .0) (c .widen44 .ensures .0)
 
 pub load4-spec : {M : Type 1} → statement M
 load4-spec =
     tie.close
     (tie.spec
-    shared-slice-read-wide4
-    wide4-requires
-    add-wide4
-    shared-slice-read-wide4-2
-    wide4-requires-2
+    shared-slice-read-widen4
+    widen4-requires
+    add-widen4
+    shared-slice-read-widen4-2
+    widen4-requires-2
     mul-result
     add-result
-    add-wide4-2
-    shared-slice-read-wide4-3
-    wide4-requires-3
+    add-widen4-2
+    shared-slice-read-widen4-3
+    widen4-requires-3
     mul-result-2
     add-result-2
-    add-wide4-3
-    shared-slice-read-wide4-4
-    wide4-requires-4
+    add-widen4-3
+    shared-slice-read-widen4-4
+    widen4-requires-4
     mul-result-3
     add-result-3
     returns)
