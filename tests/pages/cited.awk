@@ -1,78 +1,60 @@
-# Reads the list of declared.awk, then pages, and looks up what the pages cite in backticks: `Module.name`, `a::name`, and
-# the words of '(field `x`)' or '(fields `x`, `y` and `z`)' behind a name. A line each: 'KIND + what is there' or
-# 'KIND - what is wrong', KIND being name, call or field.
-# The rule: a name belongs to the crates of its section, which stand in a line '<!-- crate: a b -->' right under the heading;
-# without that line it is `stream_spec`. Just one of them must declare the name, in public. A name that is followed by ' of `c`'
-# or ' of the crate `c`' belongs to the crate c alone. In `a::name` a is a crate, or else a module of one of those crates.
-# With -v anywhere=1 any crate will do, and for calls what is not public too.
+# Reads the list of declared.awk, then pages, and looks up what the pages cite in backticks, each in the crate that it names:
+#   `crate/Module.name`   a definition or law, and the words of '(field `x`)' or '(fields `x`, `y` and `z`)' behind it
+#   `crate/W07`           a worked case, by its id
+#   `crate::name`         what the crate hands out; `crate::module::name` where the file is not lib or main
+# A line each: 'KIND + what is there' or 'KIND - what is wrong', KIND being name, field, case or call.
+# A name without its crate is wrong; with -v anywhere=1 it is looked up in all crates, and what is not handed out will do too.
 FILENAME == ARGV[1] {
     there[$1, $2, $3] = 1
-    if (!($1 in known)) crates = crates " " $1
     known[$1] = 1
     next
 }
-FNR == 1 { look_up(); begin("") }
-/^## / { look_up(); begin(substr($0, 4)); heading = FNR; next }
-/^<!-- crate: .* -->$/ {
-    if (FNR != heading + 1) print "name - " place ": a line of crates that is not right under a heading"
-    list = $0
-    gsub(/^<!-- crate: | -->$/, "", list)
-    n = split(list, part, " ")
-    for (i = 1; i <= n; i++) if (!(part[i] in known)) print "name - " place ": no crate " part[i]
-    next
-}
-{ text = text " " $0 }
+FNR == 1 { look_up(); text = "" }
+{ text = text " " $0; place = FILENAME }
 END { look_up() }
 
-function begin(title) {
-    place = FILENAME (title == "" ? "" : ", '" title "'")
-    list = anywhere ? crates : "stream_spec"
-    text = ""
-}
-
-# how many of these crates have it; a '*' at its end stands for anything
-function having(kind, thing, of,    i, n, part, count, key, rest) {
-    n = split(of, part, " ")
-    for (i = 1; i <= n; i++) {
-        if ((part[i], kind, thing) in there) count++
-        if (anywhere && (part[i], "inner", thing) in there) count++
-    }
-    if (thing ~ /\*$/) for (key in there) {
-        split(key, rest, SUBSEP)
-        if (rest[2] == kind && index(rest[3], substr(thing, 1, length(thing) - 1)) == 1) count++
-    }
-    return count + 0
-}
-
-function tell(kind, thing, of,    count) {
-    count = having(kind, thing, of)
-    if (count == 1 || anywhere && count > 0) print kind " + " place " " thing
-    else if (count == 0) print kind " - " place " cites `" thing "`, which is not declared in public in: " (anywhere ? "any crate" : of)
-    else print kind " - " place " cites `" thing "`, which more than one crate declares (say which: ' of `crate`'): " of
-}
-
-# the section's text, from front to back
-function look_up(    cited, module, of) {
+# the page's text, from front to back
+function look_up(    cited, crate, module) {
     gsub(/ +/, " ", text)
-    while (match(text, /`([A-Z][A-Za-z0-9]*\.|[a-z_]+::)[^` ]+`/)) {
+    while (match(text, /`[A-Za-z][A-Za-z0-9_]*(\.|::|\/)[^` ]+`/)) {
         cited = substr(text, RSTART + 1, RLENGTH - 2)
         text = substr(text, RSTART + RLENGTH)
-        if (cited ~ /\.md$/) continue
-        of = list
-        if (match(text, /^ of (the crate )?`[a-z_]+`/)) {
-            of = substr(text, 1, RLENGTH - 1)
-            sub(/.*`/, "", of)
-            text = substr(text, RLENGTH + 1)
-        }
-        module = cited
-        sub(/(\.|::).*/, "", module)
-        if (cited !~ /::/) tell("name", cited, of)
-        else tell("call", cited, module in known ? module : of)
-        if (!match(text, /^ \(fields? `[a-z]+`((,| and) `[a-z]+`)*/)) continue
-        cited = substr(text, 1, RLENGTH)
-        while (match(cited, /`[a-z]+`/)) {
-            tell("field", module "." substr(cited, RSTART + 1, RLENGTH - 2), of)
-            cited = substr(cited, RSTART + RLENGTH)
-        }
+        crate = module = cited
+        sub(/(\/|::|\.).*/, "", crate)
+        sub(/^[a-z0-9_]*\//, "", module)
+        if (cited ~ /^[a-z0-9_]+\/W[0-9]+$/) tell("case", crate, module)
+        else if (cited ~ /^[a-z0-9_]+\/[A-Z][A-Za-z0-9]*\./) {
+            tell("name", crate, module)
+            sub(/\..*/, "", module)
+            fields(crate, module)
+        } else if (cited ~ /^[a-z0-9_]+::/) tell("call", crate, cited)
+        else if (cited ~ /^[A-Z][A-Za-z0-9]*\./ && cited !~ /\.md$/) tell("name", "", cited)
     }
+}
+
+function fields(crate, module,    words) {
+    if (!match(text, /^ \(fields? `[a-z][A-Za-z]*`((,| and) `[a-z][A-Za-z]*`)*/)) return
+    words = substr(text, 1, RLENGTH)
+    while (match(words, /`[a-zA-Z]+`/)) {
+        tell("field", crate, module "." substr(words, RSTART + 1, RLENGTH - 2))
+        words = substr(words, RSTART + RLENGTH)
+    }
+}
+
+function tell(kind, crate, thing,    c, found) {
+    if ((crate, kind, thing) in there || anywhere && (crate, "inner", thing) in there) found = 1
+    if (anywhere && crate == "") for (c in known) if ((c, kind, thing) in there || wild(c, kind, thing)) found = 1
+    if (found) print kind " + " place " " crate " " thing
+    else if (crate == "") print kind " - " place " cites `" thing "`, which " (anywhere ? "no crate declares" : "has no crate in front of it")
+    else print kind " - " place " cites " kind " `" thing "`, which " (crate in known ? crate " does not declare in public" : "has no such crate: " crate)
+}
+
+# a '*' at the end stands for anything
+function wild(c, kind, thing,    key, rest) {
+    if (thing !~ /\*$/) return 0
+    for (key in there) {
+        split(key, rest, SUBSEP)
+        if (rest[1] == c && rest[2] == kind && index(rest[3], substr(thing, 1, length(thing) - 1)) == 1) return 1
+    }
+    return 0
 }

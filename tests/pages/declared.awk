@@ -1,7 +1,9 @@
 # Reads specs/, proofs/ and src/ of the crates and prints what they declare, a line each:
 #   CRATE name Module.name    a public definition or law, at the top of a file or in a `module _`
 #   CRATE field Module.name   a public field of a record
-#   CRATE call a::name        what src/ hands out; a is the crate, or the file's module
+#   CRATE proof Module.name T a public law whose whole type is the name T
+#   CRATE case W07            the id of a worked case, a comment '-- W07: ..' in specs/
+#   CRATE call a::name        what src/ hands out; a is the crate, or the crate and the file's module
 #   CRATE inner a::name       what src/ does not hand out
 # Names in a `where` are not public and are not printed.
 FNR == 1 {
@@ -11,6 +13,8 @@ FNR == 1 {
     sub(/\.[a-z]*$/, "", module)
     split("", block) # what stands open, by how far it is indented
 }
+
+path[3] == "specs" && /^ *-- W[0-9]+: / { print crate, "case", substr($2, 1, length($2) - 1) }
 
 path[3] != "src" && /[^ ]/ && !/^ *--/ {
     match($0, /^ */)
@@ -24,6 +28,7 @@ path[3] != "src" && /[^ ]/ && !/^ *--/ {
     name = $2 == "pub" || $2 == "record" || $2 == "data" ? $3 : $2
     if (under == "top") print crate, "name", module "." name
     if (under == "record") print crate, "field", module "." name
+    if (under == "top" && path[3] == "proofs" && $3 == ":" && NF == 4) print crate, "proof", module "." name, $4
 }
 
 path[3] == "src" && /^(pub )?(extern "C" )?(fn|struct|enum|type|const) / {
@@ -32,5 +37,5 @@ path[3] == "src" && /^(pub )?(extern "C" )?(fn|struct|enum|type|const) / {
     match($0, /^[A-Za-z0-9_]+/)
     name = substr($0, 1, RLENGTH)
     print crate, kind, crate "::" name
-    print crate, kind, module "::" name
+    print crate, kind, crate "::" module "::" name
 }
