@@ -27,8 +27,8 @@ use words::widen4;
 ghost use mathlib.Core.Path.{_≡_};
 ghost use Prim.Native.Nat.{ℕ, _+_, _*_, _≤_, _<_, _^_};
 ghost use lib.ListN.{length, getD};
-ghost use Rattle.stream_spec.specs.Layout.{headOctets, size, typesOf, anyReserved};
-ghost use Rattle.stream_spec.specs.Checks.{widthMost, widthCheck, lengthCheck};
+ghost use Rattle.stream_spec.specs.Layout.{headOctets, widthMost, size, typesOf, anyReserved};
+ghost use Rattle.stream_spec.specs.Checks.{widthCheck, lengthCheck};
 ghost use Rattle.stream_record.specs.Header.{headerOf, headerFault};
 
 // The fields of a record before its data.
