@@ -6,8 +6,8 @@ use Prim.Native.Nat.{ℕ, _^_}
 use borrow.Author.Tests.{leb-false, ltb-false, lt-leb, le-ltb}
 use lib.Dec.{leb, ltb}
 use Rattle.stream_spec.specs.declared.Shape.{Shape}
-use Rattle.stream_spec.specs.Layout.{flags, pairOf, tkeep, tstrb}
-use Rattle.stream_spec.specs.Checks.{tdestMost, headFault, fieldFault, HeadFits, Fields}
+use Rattle.stream_spec.specs.Layout.{tdestMost, flags, pairOf, tkeep, tstrb}
+use Rattle.stream_spec.specs.Checks.{headFault, fieldFault, HeadFits, Fields}
 use Rattle.stream_spec.proofs.Bools.{neither}
 
 -- of the numbers that a record's head holds

@@ -9,7 +9,7 @@ use Rattle.refusal.specs.Checks.{Check, check}
 use Rattle.refusal.specs.declared.Refusal.{Refusal}
 use Rattle.refusal.specs.declared.Refusal.the-variants.{Width, Length, Field, Reserved, Room, Ratio, Index}
 use Rattle.stream_spec.specs.declared.Shape.{Shape}
-use Rattle.stream_spec.specs.Layout.{widthMost, size, flags, pairOf, tkeep, tstrb, laneTypes, anyReserved, recordCount}
+use Rattle.stream_spec.specs.Layout.{widthMost, tdestMost, size, flags, pairOf, tkeep, tstrb, laneTypes, anyReserved, recordCount}
 
 -- 1: "a width is 0 or above 16". A call has the width of its input, and perhaps a width of its output.
 abbrev pub widthCheck : ℕ → Check Refusal
@@ -37,10 +37,6 @@ takeChecks s xs = shapeChecks s [] ++ lengthCheck s xs ∷ []
 -- 13: "no such record"
 abbrev pub indexCheck : Shape → List ℕ → ℕ → Check Refusal
 indexCheck s xs k = check (leb (recordCount s xs) k) Index
-
--- the highest TDEST
-abbrev pub tdestMost : ℕ
-tdestMost = 15
 
 -- 3: "a bit that must be zero is set, or TDEST is above 15". Of octet 0 a cycle record uses four flags and "a transfer
 -- record has octet 0 equal to 0 or 1"; of TKEEP and TSTRB "bits at or above w" are zero. Told of the numbers in a record's

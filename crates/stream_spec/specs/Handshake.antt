@@ -3,11 +3,11 @@
 use mathlib.Core.Bool.{Bool, true, false, not, _&&_, cond, Bool·beq}
 use mathlib.Core.List.{List, [], _∷_, _++_, map}
 use mathlib.Core.Option.{Option, none, some}
-use Prim.Native.Nat.{ℕ, suc, _+_, _*_, _/_}
+use Prim.Native.Nat.{ℕ, suc}
 use lib.Dec.{eqb}
 use lib.ListN.{length}
 use Rattle.stream_spec.specs.declared.Shape.{Shape}
-use Rattle.stream_spec.specs.Layout.{bitOf, tlast, tvalid, tready, aresetn, body, laneTypes, anyReserved, records, joined}
+use Rattle.stream_spec.specs.Layout.{lastAlone, lastSet, tlast, tvalid, tready, aresetn, body, laneTypes, anyReserved, records, joined}
 use Rattle.refusal.specs.Checks.{Check, check, first}
 
 -- A cycle is a cycle record. The cycle before it is `none` at a take's first record, which "follows no waiting cycle".
@@ -85,7 +85,7 @@ transferCount s xs = length (handshakes (records s xs))
 -- "Harvesting writes those counted cycles as transfer records, in order: octet 0 holds TLAST alone, all other octets are
 -- as sampled."
 abbrev pub asTransfer : List ℕ → List ℕ
-asTransfer c = bitOf (tlast c) ∷ body c
+asTransfer c = lastAlone (tlast c) ∷ body c
 
 abbrev pub harvested : Shape → List ℕ → List ℕ
 harvested s xs = joined (map asTransfer (handshakes (records s xs)))
@@ -94,7 +94,7 @@ harvested s xs = joined (map asTransfer (handshakes (records s xs)))
 -- and `baseLevel` is 01's.
 abbrev pub withLast : Bool → List ℕ → List ℕ
 withLast level [] = []
-withLast level (f ∷ r) = (f / 2 * 2 + bitOf level) ∷ r
+withLast level (f ∷ r) = lastSet level f ∷ r
 
 abbrev pub filledIn : Bool → Shape → List ℕ → List ℕ
 filledIn level s xs = joined (map (withLast level) (records s xs))

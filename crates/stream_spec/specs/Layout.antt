@@ -1,5 +1,5 @@
--- The octets of a record (paper 01, 'One record of a take'; Arm IHI 0051A 2.1, 2.4): which octet or bit is
--- what. Everything else in specs/ goes through the names below, or through transfers and items; Handshake rewrites octet 0.
+-- The octets of a record (paper 01, 'One record of a take'; Arm IHI 0051A 2.1, 2.4): which octet or bit is what, a name for
+-- each number of 01's table. Everything else in specs/ goes through the names below, or through transfers and items.
 use mathlib.Core.Bool.{Bool, true, false, _||_}
 use mathlib.Core.List.{List, [], _∷_, _++_, map}
 use mathlib.Core.Option.{Option, none, some}
@@ -28,15 +28,56 @@ abbrev pub maskOf : List Bool → ℕ
 maskOf [] = 0
 maskOf (b ∷ bs) = bitOf b + 2 * maskOf bs
 
--- ---- a record's octets and fields
+-- ---- the table of a record, row by row
 
--- a record has 1 to 16 byte lanes
+-- "Width w is 1 to 16 bytes."
 abbrev pub widthMost : ℕ
 widthMost = 16
 
--- the octets before a record's data
+-- octet 0: "bit 0 TLAST, bit 1 TVALID, bit 2 TREADY, bit 3 ARESETn"
+abbrev pub flagsAt : ℕ
+flagsAt = 0
+
+abbrev pub tlastBit : ℕ
+tlastBit = 0
+
+abbrev pub tvalidBit : ℕ
+tvalidBit = 1
+
+abbrev pub treadyBit : ℕ
+treadyBit = 2
+
+abbrev pub aresetnBit : ℕ
+aresetnBit = 3
+
+-- octet 1: "TID, 0 to 255"
+abbrev pub tidAt : ℕ
+tidAt = 1
+
+-- octet 2: "TDEST, 0 to 15"
+abbrev pub tdestAt : ℕ
+tdestAt = 2
+
+abbrev pub tdestMost : ℕ
+tdestMost = 15
+
+-- octets 3 and 4: "TKEEP, low octet first"
+abbrev pub tkeepAt : ℕ
+tkeepAt = 3
+
+-- octets 5 and 6: "TSTRB, the same way"
+abbrev pub tstrbAt : ℕ
+tstrbAt = 5
+
+-- octets 7 on: "data of lane 0, lane 1, up to w - 1"
 abbrev pub headOctets : ℕ
 headOctets = 7
+
+-- an octet has so many values; of two octets, low octet first, the high one counts so much
+abbrev pub octetValues : ℕ
+octetValues = 256
+
+-- ---- a record's size and fields
 
 -- "A record has 7 + w octets." Its laws are in proofs/Size, and nothing else takes it apart.
 unfoldable pub size : Shape → ℕ
@@ -53,41 +94,47 @@ sizeMost = 23
 abbrev pub atWidth : Shape → ℕ → Shape
 atWidth s v = record { width = v }
 
--- octet 0: "bit 0 TLAST, bit 1 TVALID, bit 2 TREADY, bit 3 ARESETn"
 abbrev pub flags : List ℕ → ℕ
-flags r = getD r 0 0
+flags r = getD r flagsAt 0
 
 abbrev pub tlast : List ℕ → Bool
-tlast r = bit 0 (flags r)
+tlast r = bit tlastBit (flags r)
 
 abbrev pub tvalid : List ℕ → Bool
-tvalid r = bit 1 (flags r)
+tvalid r = bit tvalidBit (flags r)
 
 abbrev pub tready : List ℕ → Bool
-tready r = bit 2 (flags r)
+tready r = bit treadyBit (flags r)
 
 abbrev pub aresetn : List ℕ → Bool
-aresetn r = bit 3 (flags r)
+aresetn r = bit aresetnBit (flags r)
 
--- octets 1 and 2: TID and TDEST
+-- octet 0 where TLAST is the only flag, and octet 0 with another TLAST and its other flags as they are: TLAST is bit 0
+abbrev pub lastAlone : Bool → ℕ
+lastAlone last = bitOf last
+
+abbrev pub lastSet : Bool → ℕ → ℕ
+lastSet last flags = flags / 2 * 2 + bitOf last
+
 abbrev pub pairOf : List ℕ → Pair
-pairOf r = record { tid = getD r 1 0; tdest = getD r 2 0 }
+pairOf r = record { tid = getD r tidAt 0; tdest = getD r tdestAt 0 }
 
--- octets 3 and 4: "TKEEP, low octet first"
+-- a field of two octets
+abbrev pub twoAt : ℕ → List ℕ → ℕ
+twoAt i r = getD r i 0 + octetValues * getD r (i + 1) 0
+
 abbrev pub tkeep : List ℕ → ℕ
-tkeep r = getD r 3 0 + 256 * getD r 4 0
+tkeep r = twoAt tkeepAt r
 
--- octets 5 and 6: "TSTRB, the same way"
 abbrev pub tstrb : List ℕ → ℕ
-tstrb r = getD r 5 0 + 256 * getD r 6 0
+tstrb r = twoAt tstrbAt r
 
--- octets 7 on: "data of lane 0, lane 1, up to w - 1"
 abbrev pub dataOctets : Shape → List ℕ → List ℕ
 dataOctets s r = take (s .width) (drop headOctets r)
 
--- everything from octet 1 on: TID, TDEST, TKEEP, TSTRB and data
+-- all but octet 0: TID, TDEST, TKEEP, TSTRB and data
 abbrev pub body : List ℕ → List ℕ
-body r = drop 1 r
+body r = drop tidAt r
 
 -- ---- byte lanes
 
@@ -160,12 +207,12 @@ laneOctet (some position) = 0
 
 -- the two octets of a mask, the low one first
 abbrev pub maskOctets : List Bool → List ℕ
-maskOctets bs = maskOf bs % 256 ∷ maskOf bs / 256 ∷ []
+maskOctets bs = maskOf bs % octetValues ∷ maskOf bs / octetValues ∷ []
 
 -- the octets of the transfer record that stands for a transfer
 abbrev pub octetsOf : Transfer Kept → List ℕ
 octetsOf t =
-    bitOf (t .last) ∷ t .pair .tid ∷ t .pair .tdest
+    lastAlone (t .last) ∷ t .pair .tid ∷ t .pair .tdest
     ∷ (maskOctets (map keepBit (t .lanes)) ++ (maskOctets (map strbBit (t .lanes)) ++ map laneOctet (t .lanes)))
 
 -- ---- streams

@@ -13,7 +13,7 @@ use Rattle.refusal.specs.declared.Refusal.the-variants.{Room}
 use Rattle.stream_spec.specs.declared.Shape.{Shape}
 use Rattle.stream_spec.specs.Items.{samePair, Transfer, Item, kept, items}
 use Rattle.stream_spec.specs.Packed.{fitted, pack, settled, held, parted}
-use Rattle.stream_spec.specs.Layout.{bit, tkeep, tstrb, size, atWidth, nullLane, laneType, laneTypes, Kept, records, streamItems, packedTransfers, packed, slicedTransfers, sliced}
+use Rattle.stream_spec.specs.Layout.{bit, widthMost, tkeep, tstrb, size, atWidth, nullLane, laneType, laneTypes, Kept, records, streamItems, packedTransfers, packed, slicedTransfers, sliced}
 use Rattle.stream_spec.specs.Checks.{widthCheck, lengthCheck}
 use Rattle.stream_spec.specs.Handshake.{r1, r2, r3, r4, Finding, firstFinding, harvested}
 use Rattle.stream_spec.specs.Answers.{repackRefusal, harvestRefusal, dataRefusal, dataPart}
@@ -21,11 +21,11 @@ use Rattle.stream_spec.specs.Legal.{Octets, Legal}
 
 -- a width that is not refused
 abbrev pub Width : ℕ → Type 0
-Width v = (1 ≤ v) × (v ≤ 16)
+Width v = (1 ≤ v) × (v ≤ widthMost)
 
 -- ---- refusals
 
--- 1: "a width is 0 or above 16"
+-- 1: "a width is 0 or above 16". Here and in 2 01's number is written out, which pins the named one.
 abbrev pub WidthExactly : Type 0
 WidthExactly = (w : ℕ) → (widthCheck w .found ≡ true) ↔ ((w ≡ 0) ⊎ (16 < w))
 
