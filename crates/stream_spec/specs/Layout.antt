@@ -90,7 +90,11 @@ sizeLeast = 8
 abbrev pub sizeMost : ℕ
 sizeMost = 23
 
--- the same kind of record at another width. (What else a shape will hold stays as it is in s; as yet it is only a width.)
+-- Records of so many lanes, and records of the same kind as others at another width: the only places where a shape is made
+-- of its parts. (What else a shape will hold, the second one keeps; as yet there is only a width.)
+abbrev pub ofWidth : ℕ → Shape
+ofWidth w = record { width = w }
+
 abbrev pub atWidth : Shape → ℕ → Shape
 atWidth s v = record { width = v }
 

@@ -15,7 +15,7 @@ use Rattle.stream_spec.specs.declared.Shape.{Shape}
 use Rattle.stream_spec.specs.declared.Written.the-variants.{Records, Refused as NotWritten}
 use Rattle.stream_spec.specs.Items.{Pair, Item, byte, end}
 use Rattle.stream_spec.specs.Packed.{apart, parted}
-use Rattle.stream_spec.specs.Layout.{Kept, position, size, records, streamItems}
+use Rattle.stream_spec.specs.Layout.{ofWidth, Kept, position, size, records, streamItems}
 use Rattle.refusal.specs.Checks.{first}
 use Rattle.stream_spec.specs.Checks.{widthCheck, transferChecks}
 use Rattle.stream_spec.specs.Legal.{Legal}
@@ -23,7 +23,7 @@ use Rattle.stream_spec.specs.Promises.{Width}
 use Rattle.stream_spec.specs.Demand3.{answerTo, accepted, Standing, Part, whole, partCall, AllAccepted, Divides}
 
 abbrev pub lanes : ℕ → Shape
-lanes w = record { width = w }
+lanes w = ofWidth w
 
 -- a record of width 1 with this octet 0, TID, TDEST, TKEEP, TSTRB and data
 abbrev pub one : ℕ → ℕ → ℕ → ℕ → ℕ → ℕ → List ℕ
