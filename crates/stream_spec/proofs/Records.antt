@@ -56,13 +56,6 @@ pieces-sized z zero xs h = tt
 pieces-sized z (suc n) xs h =
     (length-take-le z xs (omega (arith, suc-mul n z)), pieces-sized z n (drop z xs) (omega (arith, suc-mul n z, length-drop z xs)))
 
-joined-pieces : (z n : ℕ) (xs : List ℕ) → length xs ≡ n * z → joined (pieces n z xs) ≡ xs
-joined-pieces z zero [] h = refl
-joined-pieces z zero (x ∷ xs) h = absurd (omega (arith, zero-mul z))
-joined-pieces z (suc n) xs h =
-    ap (λ (l : List ℕ). take z xs ++ l) (joined-pieces z n (drop z xs) (omega (arith, suc-mul n z, length-drop z xs)))
-    ∙ take-append-drop z xs
-
 pub whole-count : (s : Shape) (xs : List ℕ) → length xs % size s ≡ 0 → length xs ≡ recordCount s xs * size s
 whole-count s xs h = omega (arith, div-add-mod' (length xs) (size s))
 
@@ -93,10 +86,6 @@ first-record s xs w h =
           (div-eq-sub-div (size-pos s) fits ∙ add-one ((length xs - size s) / size s) ∙ ap (λ (n : ℕ). suc (n / size s)) (sym (length-drop (size s) xs)));
       whole = rw (length-drop (size s) xs) (sym (mod-eq-sub-mod fits) ∙ w);
     }
-
--- whole records, joined again, are the stream
-pub joined-records : (s : Shape) (xs : List ℕ) → length xs % size s ≡ 0 → joined (records s xs) ≡ xs
-joined-records s xs h = joined-pieces (size s) (recordCount s xs) xs (whole-count s xs h)
 
 pub records-sized : (s : Shape) (xs : List ℕ) → Sized (size s) (records s xs)
 records-sized s xs = pieces-sized (size s) (recordCount s xs) xs (div-mul-le-self (length xs) (size s))
