@@ -16,6 +16,7 @@ use Rattle.stream_spec.specs.declared.Lookup.the-variants.{Present, Refused}
 use Rattle.stream_spec.specs.Layout.{size, recordCount}
 use Rattle.stream_spec.specs.Checks.{widthCheck, lengthCheck}
 use Rattle.stream_spec.specs.Answers.{LookedUp, lookup, lookupValues, dataRefusal, dataAnswer, dataPart, dataStart}
+use Rattle.stream_spec.proofs.Size.{size-holds}
 use Rattle.stream_spec.proofs.Promises.{data-there, record-there}
 
 module _ (s : Shape) (xs : List ℕ) (k : ℕ) where
@@ -46,8 +47,7 @@ module _ (s : Shape) (xs : List ℕ) (k : ℕ) where
 
   -- an accepted call hands out the record's data, which lies in the take; z is the record's size
   pub part-within : (z : ℕ) → z ≡ size s → dataRefusal s xs k ≡ none → k * z + 7 + s .width ≤ length xs
-  unfolding size
-  part-within z q e = rw q (omega (arith, record-there s xs k (data-there s xs k e .1)))
+  part-within z q e = rw q (omega (arith, size-holds s, record-there s xs k (data-there s xs k e .1)))
 
   start-refused : (f : Refusal) (r : Option Refusal) → dataRefusal s xs k ≡ r → Refused f ≡ lookup r → 0 ≡ dataStart s xs k
   unfolding dataStart
