@@ -1,6 +1,7 @@
 # Reads specs/, proofs/ and src/ of the crates and prints what they declare, a line each:
 #   CRATE name Module.name    a public definition or law, at the top of a file or in a `module _`
 #   CRATE field Module.name   a public field of a record
+#   CRATE promise T           a statement of specs/Promises or specs/Demand3: a type without arguments
 #   CRATE proof Module.name T a public law whose whole type is the name T
 #   CRATE case W07            the id of a worked case, a comment '-- W07: ..' in specs/
 #   CRATE call a::name        what src/ hands out; a is the crate, or the crate and the file's module
@@ -29,6 +30,8 @@ path[3] != "src" && /[^ ]/ && !/^ *--/ {
     if (under == "top") print crate, "name", module "." name
     if (under == "record") print crate, "field", module "." name
     if (under == "top" && path[3] == "proofs" && $3 == ":" && NF == 4) print crate, "proof", module "." name, $4
+    if (under == "top" && path[3] == "specs" && (module == "Promises" || module == "Demand3" && $1 == "abbrev") && $4 == ":" && $5 == "Type")
+        print crate, "promise", name
 }
 
 path[3] == "src" && /^(pub )?(extern "C" )?(fn|struct|enum|type|const) / {
