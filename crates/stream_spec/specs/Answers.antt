@@ -19,7 +19,7 @@ use Rattle.stream_spec.specs.declared.Lookup.{Lookup}
 use Rattle.stream_spec.specs.declared.Lookup.the-variants.{Present, Refused as NoPart}
 use Rattle.stream_spec.specs.Layout.{size, headOctets, records, recordCount, dataOctets, packedTransfers, packed, slicedTransfers, sliced}
 use Rattle.refusal.specs.Checks.{Check, check, first}
-use Rattle.stream_spec.specs.Checks.{shapeChecks, ratioCheck, lengthCheck, indexCheck, transferChecks, cycleChecks, roomCheck}
+use Rattle.stream_spec.specs.Checks.{shapeChecks, ratioCheck, lengthCheck, takeChecks, indexCheck, transferChecks, cycleChecks, roomCheck}
 use Rattle.stream_spec.specs.Memory.{inFront}
 use Rattle.stream_spec.specs.Handshake.{Finding, findings, firstFinding, transferCount, harvested, filledIn, baseLevel}
 
@@ -52,7 +52,7 @@ partFor none part = part
 -- ---- judge: 1, 2, 3
 
 abbrev pub judgeChecks : Shape → List ℕ → List (Check Refusal)
-judgeChecks s capture = shapeChecks s [] ++ lengthCheck s capture ∷ cycleChecks s 0 (records s capture)
+judgeChecks s capture = takeChecks s capture ++ cycleChecks s 0 (records s capture)
 
 unfoldable pub judgeAnswer : Shape → List ℕ → Verdict
 judgeAnswer s capture = verdict (first (judgeChecks s capture)) (firstFinding s capture) (transferCount s capture)
@@ -78,7 +78,7 @@ harvestAfter s capture out = lentAfter (harvestRefusal s capture (length out)) (
 -- ---- fill-in: 1, 2. The lent take is input and output; `level` is what TLAST becomes, in 01 always low.
 
 abbrev pub fillRefusal : Shape → List ℕ → Option Refusal
-fillRefusal s capture = first (shapeChecks s [] ++ lengthCheck s capture ∷ [])
+fillRefusal s capture = first (takeChecks s capture)
 
 unfoldable pub fillAnswer : Shape → List ℕ → Written
 fillAnswer s capture = written (fillRefusal s capture) (recordCount s capture)
@@ -93,7 +93,7 @@ fillInAfter s capture = fillAfter baseLevel s capture
 -- ---- data octets of record k: 1, 2, 13
 
 abbrev pub dataRefusal : Shape → List ℕ → ℕ → Option Refusal
-dataRefusal s capture k = first (shapeChecks s [] ++ lengthCheck s capture ∷ indexCheck s capture k ∷ [])
+dataRefusal s capture k = first (takeChecks s capture ++ indexCheck s capture k ∷ [])
 
 unfoldable pub dataAnswer : Shape → List ℕ → ℕ → Lookup
 dataAnswer s capture k = lookup (dataRefusal s capture k)
@@ -112,31 +112,31 @@ dataStart s capture k = startFor (dataRefusal s capture k) (k * size s + headOct
 -- ---- repack to width v: 1, 2, records with 3 before 4, 5
 
 abbrev pub repackRefusal : Shape → ℕ → List ℕ → ℕ → Option Refusal
-repackRefusal s v input room =
+repackRefusal s v transfers room =
     first
     (shapeChecks s (v ∷ [])
-    ++ lengthCheck s input ∷ (transferChecks s 0 (records s input) ++ roomCheck (packed s v input) room ∷ []))
+    ++ lengthCheck s transfers ∷ (transferChecks s 0 (records s transfers) ++ roomCheck (packed s v transfers) room ∷ []))
 
 unfoldable pub repackAnswer : Shape → ℕ → List ℕ → ℕ → Written
-repackAnswer s v input room = written (repackRefusal s v input room) (length (packedTransfers s v input))
+repackAnswer s v transfers room = written (repackRefusal s v transfers room) (length (packedTransfers s v transfers))
 
 unfoldable pub repackAfter : Shape → ℕ → List ℕ → List ℕ → List ℕ
-repackAfter s v input out = lentAfter (repackRefusal s v input (length out)) (packed s v input) out
+repackAfter s v transfers out = lentAfter (repackRefusal s v transfers (length out)) (packed s v transfers) out
 
 -- ---- lane-keeping downsizing to width v: 1, 6, 2, records with 3 before 4, 5
 
 abbrev pub downsizeRefusal : Shape → ℕ → List ℕ → ℕ → Option Refusal
-downsizeRefusal s v input room =
+downsizeRefusal s v transfers room =
     first
     (shapeChecks s (v ∷ [])
-    ++ ratioCheck s v ∷ lengthCheck s input
-    ∷ (transferChecks s 0 (records s input) ++ roomCheck (sliced s v input) room ∷ []))
+    ++ ratioCheck s v ∷ lengthCheck s transfers
+    ∷ (transferChecks s 0 (records s transfers) ++ roomCheck (sliced s v transfers) room ∷ []))
 
 unfoldable pub downsizeAnswer : Shape → ℕ → List ℕ → ℕ → Written
-downsizeAnswer s v input room = written (downsizeRefusal s v input room) (length (slicedTransfers s v input))
+downsizeAnswer s v transfers room = written (downsizeRefusal s v transfers room) (length (slicedTransfers s v transfers))
 
 unfoldable pub downsizeAfter : Shape → ℕ → List ℕ → List ℕ → List ℕ
-downsizeAfter s v input out = lentAfter (downsizeRefusal s v input (length out)) (sliced s v input) out
+downsizeAfter s v transfers out = lentAfter (downsizeRefusal s v transfers (length out)) (sliced s v transfers) out
 
 -- ---- the paper's numbers for each answer: the refusal's number, its place (or the broken cycle), the rule, and the count
 -- of transfers or records. "Its other numbers are 0." The contracts of the calls use these lists.
@@ -187,12 +187,12 @@ pub record FilledIn (level : Bool) (s : Shape) (before after : List ℕ) (r : Wr
   pub shows : writtenValues r ≡ writtenValues (fillAnswer s before)
   pub leaves : after ≡ fillAfter level s before
 
-pub record Repacked (s : Shape) (v : ℕ) (input before after : List ℕ) (r : Written) : Type 0 where
-  pub is : r ≡ repackAnswer s v input (length before)
-  pub shows : writtenValues r ≡ writtenValues (repackAnswer s v input (length before))
-  pub leaves : after ≡ repackAfter s v input before
+pub record Repacked (s : Shape) (v : ℕ) (transfers before after : List ℕ) (r : Written) : Type 0 where
+  pub is : r ≡ repackAnswer s v transfers (length before)
+  pub shows : writtenValues r ≡ writtenValues (repackAnswer s v transfers (length before))
+  pub leaves : after ≡ repackAfter s v transfers before
 
-pub record Downsized (s : Shape) (v : ℕ) (input before after : List ℕ) (r : Written) : Type 0 where
-  pub is : r ≡ downsizeAnswer s v input (length before)
-  pub shows : writtenValues r ≡ writtenValues (downsizeAnswer s v input (length before))
-  pub leaves : after ≡ downsizeAfter s v input before
+pub record Downsized (s : Shape) (v : ℕ) (transfers before after : List ℕ) (r : Written) : Type 0 where
+  pub is : r ≡ downsizeAnswer s v transfers (length before)
+  pub shows : writtenValues r ≡ writtenValues (downsizeAnswer s v transfers (length before))
+  pub leaves : after ≡ downsizeAfter s v transfers before
