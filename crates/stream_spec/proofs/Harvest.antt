@@ -1,25 +1,24 @@
 -- What an accepted harvest writes is a legal stream: its cycles had no bad field, and no rule is broken, so none of those
 -- with ARESETn and TVALID high has a reserved lane (R4). Assumes nothing.
 use mathlib.Core.Path.{_≡_, refl, ap}
-use mathlib.Core.Bool.{Bool, true, false, _&&_, _||_}
+use mathlib.Core.Bool.{Bool, true, false, _&&_}
 use mathlib.Core.List.{List, [], _∷_, _++_, map}
 use mathlib.Core.Option.{Option, none, some}
-use Prim.Native.Nat.{ℕ, suc, _+_, _*_, _%_, _^_, _≤_, _<_}
+use Prim.Native.Nat.{ℕ, suc, _*_, _%_, _≤_, _<_}
 use borrow.Author.Tests.{le-ltb, eq-eqb}
 use native.Mathlib.Nat.{le-trans, mul-mod-left, mul-le-mul-right, div-mul-le-self}
 use native.Mathlib.Omega.{arith}
-use lib.Dec.{leb, ltb}
 use lib.ListN.{length, length-map}
 use Rattle.refusal.specs.declared.Refusal.the-variants.{Field}
 use Rattle.stream_spec.specs.declared.Shape.{Shape}
-use Rattle.stream_spec.specs.Layout.{tlast, tvalid, aresetn, tready, pairOf, tkeep, tstrb, laneTypes, anyReserved, size, records, recordCount, joined, packed}
+use Rattle.stream_spec.specs.Layout.{tlast, tvalid, aresetn, tready, laneTypes, anyReserved, size, records, recordCount, joined, packed}
 use Rattle.refusal.specs.Checks.{Check, check, first}
 use Rattle.stream_spec.specs.Checks.{fieldFault, reservedFault, transferFlags, cycleFlags, captureMost, transferChecks, cycleChecks, widthCheck, lengthCheck, roomCheck}
 use Rattle.stream_spec.specs.Handshake.{r4, Finding, findings, transferred, handshakes, asTransfer, harvested}
 use Rattle.stream_spec.specs.Answers.{judgeChecks, uncleanCheck, harvestRefusal}
 use Rattle.stream_spec.specs.Legal.{Octets}
 use Rattle.stream_spec.specs.Promises.{HarvestLegal, HarvestRepacks}
-use Rattle.stream_spec.proofs.Bools.{and-left, neither}
+use Rattle.stream_spec.proofs.Bools.{and-left}
 use Rattle.refusal.proofs.First.{first-none, none-first, append-none, append-passed}
 use Rattle.stream_spec.proofs.Records.{size-pos, Sized, length-pieces, length-joined, records-joined, records-sized}
 use Rattle.stream_spec.proofs.Fields.{fields-of, of-fields}

@@ -1,19 +1,17 @@
 -- Legal streams: what is known of their transfers, and that transfers with those facts make legal streams. So the packed
 -- form, lane-keeping slices and harvested takes are legal. Assumes nothing.
 use mathlib.Core.Path.{_≡_, refl, ap, _∙_}
-use mathlib.Core.Bool.{Bool, true, false, _||_}
+use mathlib.Core.Bool.{Bool, true, false}
 use mathlib.Core.List.{List, [], _∷_, _++_, map}
 use mathlib.Core.Option.{Option, none, some}
-use Prim.Native.Nat.{ℕ, zero, suc, _+_, _/_, _^_, _≤_, _<_}
+use Prim.Native.Nat.{ℕ, zero, suc, _/_, _^_, _≤_, _<_}
 use native.Mathlib.Nat.{mul-mod-left, pow-suc}
 use native.Mathlib.Omega.{arith}
-use borrow.Author.Tests.{ltb-false, lt-leb, le-ltb}
-use lib.Dec.{leb, ltb}
 use lib.Pow.{pow-mono}
 use lib.ListN.{length, getD, take, drop, length-map}
 use Rattle.stream_spec.specs.declared.Shape.{Shape}
 use Rattle.stream_spec.specs.Items.{Pair, Transfer}
-use Rattle.stream_spec.specs.Layout.{bitOf, maskOf, flags, pairOf, tkeep, tstrb, dataOctets, laneTypes, size, atWidth, typesOf, LaneType, dataLane, positionLane, nullLane, reservedLane, laneType, laneOf, lanesOf, isReserved, anyReserved, Kept, octet, position, keepBit, strbBit, laneOctet, maskOctets, transferOf, octetsOf, pieces, records, recordCount, transfers, octets, streamItems, packedTransfers, packed, slicedTransfers, sliced}
+use Rattle.stream_spec.specs.Layout.{widthMost, tdestMost, headOctets, octetValues, bitOf, maskOf, flags, tkeep, tstrb, dataOctets, laneTypes, size, atWidth, typesOf, LaneType, dataLane, positionLane, nullLane, reservedLane, laneType, laneOf, lanesOf, isReserved, anyReserved, Kept, octet, position, keepBit, strbBit, laneOctet, maskOctets, transferOf, octetsOf, pieces, records, recordCount, transfers, octets, streamItems, packedTransfers, packed, slicedTransfers, sliced}
 use Rattle.refusal.specs.declared.Refusal.the-variants.{Field, Reserved}
 use Rattle.refusal.specs.Checks.{check, first}
 use Rattle.stream_spec.specs.Checks.{fieldFault, reservedFault, transferFlags, transferChecks}
@@ -27,11 +25,11 @@ use Rattle.stream_spec.proofs.Records.{odd-mask, half-mask, two-octets,
 -- ---- what a legal record's pair and kept bytes are
 
 pub record PairFits (p : Pair) : Type 0 where
-  pub tid : p .tid < 256
-  pub tdest : p .tdest ≤ 15
+  pub tid : p .tid < octetValues
+  pub tdest : p .tdest ≤ tdestMost
 
 abbrev pub ByteFits : Kept → Type 0
-ByteFits (octet d) = d < 256
+ByteFits (octet d) = d < octetValues
 ByteFits position = Unit {0}
 
 abbrev pub Sound : List (Transfer Kept) → Type 0
@@ -49,7 +47,7 @@ octets-drop zero xs h = h
 octets-drop (suc n) [] h = tt
 octets-drop (suc n) (x ∷ xs) h = octets-drop n xs (h .1)
 
-pub octet-at : (xs : List ℕ) (i : ℕ) → Octets xs → getD xs i 0 < 256
+pub octet-at : (xs : List ℕ) (i : ℕ) → Octets xs → getD xs i 0 < octetValues
 octet-at [] i h = omega arith
 octet-at (x ∷ xs) zero h = h .0
 octet-at (x ∷ xs) (suc i) h = octet-at xs i (h .1)
@@ -78,7 +76,7 @@ of-faultless s k (r ∷ rs) h = rw (h .0, h .1) (of-faultless s (suc k) rs (h .2
 
 -- ---- from a legal stream to its transfers
 
-lane-fits : (t : LaneType) (d : ℕ) (ls : List (Option Kept)) → d < 256 → EachLane PairFits ByteFits ls
+lane-fits : (t : LaneType) (d : ℕ) (ls : List (Option Kept)) → d < octetValues → EachLane PairFits ByteFits ls
     → EachLane PairFits ByteFits (laneOf t d ∷ ls)
 lane-fits dataLane d ls h k = (h, k)
 lane-fits positionLane d ls h k = (tt, k)
@@ -102,7 +100,7 @@ records-sound : (s : Shape) (rs : List (List ℕ)) → EachOctets rs → Faultle
 records-sound s [] h f = tt
 records-sound s (r ∷ rs) h f = (
   record { tid = octet-at r 1 (h .0); tdest = fields-of transferFlags s r (f .0) .tdest },
-  lanes-fit (laneTypes s r) (dataOctets s r) (octets-take (s .width) (drop 7 r) (octets-drop 7 r (h .0))),
+  lanes-fit (laneTypes s r) (dataOctets s r) (octets-take (s .width) (drop headOctets r) (octets-drop headOctets r (h .0))),
   records-sound s rs (h .1) (f .2),
 )
 
@@ -135,12 +133,12 @@ mask-fits [] = omega arith
 mask-fits (true ∷ bs) = rw (pow-suc 2 (length bs)) (omega (arith, mask-fits bs))
 mask-fits (false ∷ bs) = rw (pow-suc 2 (length bs)) (omega (arith, mask-fits bs))
 
-mask-octets : (bs : List Bool) → length bs ≤ 16 → Octets (maskOctets bs)
+mask-octets : (bs : List Bool) → length bs ≤ widthMost → Octets (maskOctets bs)
 mask-octets bs h =
-    let small : maskOf bs < 2 ^ 16 = omega (arith, mask-fits bs, pow-mono h) in
+    let small : maskOf bs < 2 ^ widthMost = omega (arith, mask-fits bs, pow-mono h) in
     (omega arith, (omega arith, tt))
 
-pub bit-octet : (b : Bool) → bitOf b < 256
+pub bit-octet : (b : Bool) → bitOf b < octetValues
 bit-octet true = omega arith
 bit-octet false = omega arith
 
@@ -150,7 +148,7 @@ data-octets (none ∷ ls) h = (omega arith, data-octets ls h)
 data-octets (some (octet d) ∷ ls) h = (h .0, data-octets ls (h .1))
 data-octets (some position ∷ ls) h = (omega arith, data-octets ls (h .1))
 
-record-octets : (t : Transfer Kept) → length (t .lanes) ≤ 16 → PairFits (t .pair) → EachLane PairFits ByteFits (t .lanes) → Octets (octetsOf t)
+record-octets : (t : Transfer Kept) → length (t .lanes) ≤ widthMost → PairFits (t .pair) → EachLane PairFits ByteFits (t .lanes) → Octets (octetsOf t)
 record-octets t h p k =
     let rest : Octets (maskOctets (map strbBit (t .lanes)) ++ map laneOctet (t .lanes)) =
     octets-append (maskOctets (map strbBit (t .lanes))) (map laneOctet (t .lanes))
@@ -160,7 +158,7 @@ record-octets t h p k =
     (mask-octets (map keepBit (t .lanes)) (rw (length-map (t .lanes) keepBit) h)) rest in
     (bit-octet (t .last), (p .tid, (omega (arith, p .tdest), masks)))
 
-transfers-octets : (w : ℕ) (ts : List (Transfer Kept)) → w ≤ 16 → Wide w ts → Sound ts → Octets (octets ts)
+transfers-octets : (w : ℕ) (ts : List (Transfer Kept)) → w ≤ widthMost → Wide w ts → Sound ts → Octets (octets ts)
 transfers-octets w [] h k l = tt
 transfers-octets w (t ∷ ts) h k l =
     octets-append (octetsOf t) (octets ts) (record-octets t (rw (k .0) h) (l .0) (l .1)) (transfers-octets w ts h (k .1) (l .2))
@@ -203,7 +201,7 @@ transfers-faultless s (t ∷ ts) h k =
     (record-fields s t (h .0) (k .0), record-unreserved s t (h .0), transfers-faultless s ts (h .1) (k .2))
 
 -- transfers of one width from 1 to 16, with pairs and bytes that fit, make a legal stream
-pub transfers-legal : (s : Shape) (ts : List (Transfer Kept)) → 1 ≤ s .width → s .width ≤ 16 → Wide (s .width) ts → Sound ts → Legal s (octets ts)
+pub transfers-legal : (s : Shape) (ts : List (Transfer Kept)) → 1 ≤ s .width → s .width ≤ widthMost → Wide (s .width) ts → Sound ts → Legal s (octets ts)
 transfers-legal s ts low high h k =
     record {
       widthLow = low;
@@ -216,12 +214,12 @@ transfers-legal s ts low high h k =
 
 -- ---- the packed form and the slices of a legal stream are legal
 
-pub packed-legal : (s : Shape) (v : ℕ) (xs : List ℕ) → 1 ≤ v → v ≤ 16 → Legal s xs → Legal (atWidth s v) (packed s v xs)
+pub packed-legal : (s : Shape) (v : ℕ) (xs : List ℕ) → 1 ≤ v → v ≤ widthMost → Legal s xs → Legal (atWidth s v) (packed s v xs)
 packed-legal s v xs low high l =
     transfers-legal (atWidth s v) (packedTransfers s v xs) low high (wide-pack v (streamItems s xs))
     (each-pack PairFits ByteFits v (streamItems s xs) (each-items PairFits ByteFits (transfers s xs) (legal-sound s xs l)))
 
-pub sliced-legal : (s : Shape) (v : ℕ) (xs : List ℕ) → 1 ≤ v → v ≤ 16 → Legal s xs → Legal (atWidth s v) (sliced s v xs)
+pub sliced-legal : (s : Shape) (v : ℕ) (xs : List ℕ) → 1 ≤ v → v ≤ widthMost → Legal s xs → Legal (atWidth s v) (sliced s v xs)
 sliced-legal s v xs low high l =
     transfers-legal (atWidth s v) (slicedTransfers s v xs) low high (wide-slices (s .width) v (transfers s xs))
     (each-slices PairFits ByteFits (s .width) v (transfers s xs) (legal-sound s xs l))

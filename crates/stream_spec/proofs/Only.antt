@@ -4,7 +4,7 @@ use mathlib.Core.Path.{_≡_, refl, sym, ap, _∙_}
 use mathlib.Core.Bool.{Bool, true, false, not, _&&_, _||_, cond}
 use mathlib.Core.List.{List, [], _∷_, _++_, map, append-nil, append-assoc}
 use mathlib.Core.Option.{Option, none, some}
-use Prim.Native.Nat.{ℕ, _+_, _-_, _/_, _≤_, _<_}
+use Prim.Native.Nat.{ℕ, _-_, _/_, _≤_, _<_}
 use native.Mathlib.Nat.{div-eq-of-lt}
 use native.Mathlib.Omega.{arith}
 use borrow.Author.Tests.{eqb-true, eqb-false}
@@ -67,7 +67,9 @@ only-full v h p ls last (b ∷ bs) js e n z =
     regroup xs ys =
         ap (λ (l : List (Item Kept)). l ++ (cond last (end p ∷ []) [] ++ js)) (map-append (λ (a : Kept). byte p a) xs ys)
         ∙ append-assoc (map (byte p) xs) (map (byte p) ys) (cond last (end p ∷ []) [] ++ js)
-        ∙ sym (ap (λ (l : List (Item Kept)). l ++ (itemsOf p ys last ++ js)) (append-nil (map (byte p) xs)) ∙ ap (λ (l : List (Item Kept)). map (byte p) xs ++ l) (append-assoc (map (byte p) ys) (cond last (end p ∷ []) []) js))
+        ∙ sym
+        (ap (λ (l : List (Item Kept)). l ++ (itemsOf p ys last ++ js)) (append-nil (map (byte p) xs))
+        ∙ ap (λ (l : List (Item Kept)). map (byte p) xs ++ l) (append-assoc (map (byte p) ys) (cond last (end p ∷ []) []) js))
 
 -- what `closes` says where a transfer goes on into the next one
 goes-on : (f n l d : Bool) → (f && not n || l || not d) ≡ true → (l || not d) ≡ false → (f ≡ true) × (n ≡ false) × (l ≡ false) × (d ≡ true)

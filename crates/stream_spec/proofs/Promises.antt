@@ -10,7 +10,6 @@ use lib.Pow.{pow-pos, pow-mono, shr-shr}
 use native.Mathlib.Nat.{le-trans, one-mul, mod-le, le-div-iff-mul-le, div-one, div-div-eq-div-mul, pow-suc, mul-comm, suc-mul, zero-mul, div-add-mod', mul-le-mul-right, div-mul-le-self}
 use native.Mathlib.Omega.{arith}
 use lib.ListN.{length, getD, drop, length-map, length-append, length-drop}
-use lib.Seq.{length-take-le}
 use mathlib.Core.Option.{none}
 use Rattle.stream_spec.specs.declared.Shape.{Shape}
 use Rattle.stream_spec.specs.Items.{Item, Transfer, items}

@@ -1,7 +1,7 @@
 -- The checks of records, one record after the other: a record's fault is the first, and where it has none the others decide.
 -- Assumes nothing.
-use mathlib.Core.Path.{_≡_, refl}
-use mathlib.Core.List.{List, [], _∷_, _++_}
+use mathlib.Core.Path.{_≡_}
+use mathlib.Core.List.{List, _∷_}
 use mathlib.Core.Option.{none, some}
 use Prim.Native.Nat.{ℕ, suc}
 use Rattle.refusal.specs.declared.Refusal.{Refusal}

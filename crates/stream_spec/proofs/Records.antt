@@ -6,15 +6,15 @@ use mathlib.Core.List.{List, [], _∷_, _++_, map, append-assoc}
 use mathlib.Core.Option.{Option, none, some}
 use Prim.Native.Nat.{ℕ, zero, suc, _+_, _-_, _*_, _/_, _%_, _≤_, _<_}
 use native.Mathlib.Numerals.{add-one}
-use native.Mathlib.Nat.{div-eq-sub-div, mod-eq-sub-mod, mod-eq-of-lt, zero-add, suc-add, div-mul-le-self, suc-mul, zero-mul, div-add-mod', div-add-mod, mul-div-cancel, mul-add-div-right}
+use native.Mathlib.Nat.{div-eq-sub-div, mod-eq-sub-mod, mod-eq-of-lt, zero-add, suc-add, div-mul-le-self, suc-mul, zero-mul, div-add-mod', mul-div-cancel, mul-add-div-right}
 use native.Mathlib.Decide.{decLe}
 use native.Mathlib.Omega.{arith}
-use lib.ListN.{length, take, drop, length-map, length-append, length-drop, take-append-drop}
+use lib.ListN.{length, take, drop, length-map, length-append, length-drop}
 use borrow.Author.Tests.{eq-eqb, ne-eqb}
 use lib.Seq.{length-take-le, take-all, take-at, drop-at, take-append-le, drop-append-le}
 use Rattle.stream_spec.specs.declared.Shape.{Shape}
 use Rattle.stream_spec.specs.Items.{Transfer, items}
-use Rattle.stream_spec.specs.Layout.{bit, odd, bitOf, maskOf, size, atWidth, typesOf, laneType, laneOf, lanesOf, Kept, octet, position, keepBit, strbBit, laneOctet, transferOf, octetsOf, pieces, recordCount, records, joined, transfers, octets, streamItems, packedTransfers, packed}
+use Rattle.stream_spec.specs.Layout.{octetValues, bit, odd, bitOf, maskOf, size, atWidth, typesOf, laneType, laneOf, lanesOf, Kept, octet, position, keepBit, strbBit, laneOctet, transferOf, octetsOf, pieces, recordCount, records, joined, transfers, octets, streamItems, packedTransfers, packed}
 pub use Rattle.stream_spec.proofs.Size.{size-pos}
 use Rattle.stream_spec.proofs.Size.{length-octetsOf}
 use Rattle.stream_spec.proofs.Pack.{map-append, items-append, items-pack, wide-pack, Wide}
@@ -120,7 +120,7 @@ lanes-back (l ∷ ls) =
     (rw (half-mask (keepBit l) (maskOf (map keepBit ls)), half-mask (strbBit l) (maskOf (map strbBit ls)))
     (rw (lane-back l, lanes-back ls) refl))
 
-pub two-octets : (m : ℕ) → m % 256 + 256 * (m / 256) ≡ m
+pub two-octets : (m : ℕ) → m % octetValues + octetValues * (m / octetValues) ≡ m
 two-octets m = omega arith
 
 last-back : (b : Bool) → bit 0 (bitOf b) ≡ b

@@ -4,7 +4,7 @@ use mathlib.Core.Path.{_≡_, refl}
 use mathlib.Core.Bool.{false, not}
 use mathlib.Core.List.{List, [], _∷_, _++_}
 use mathlib.Core.Option.{Option, none, some}
-use Prim.Native.Nat.{ℕ, _+_, _*_, _%_, _≤_}
+use Prim.Native.Nat.{ℕ, _*_, _%_, _≤_}
 use native.Mathlib.Omega.{arith}
 use borrow.Author.Tests.{eqb-false, eqb-true, ltb-false, le-ltb, ne-eqb, not-false}
 use lib.Dec.{eqb, ltb}
@@ -12,7 +12,7 @@ use lib.ListN.{length, drop}
 use lib.Seq.{take-at}
 use Rattle.refusal.specs.declared.Refusal.{Refusal}
 use Rattle.stream_spec.specs.declared.Shape.{Shape}
-use Rattle.stream_spec.specs.Layout.{size, atWidth, records, packedTransfers, packed}
+use Rattle.stream_spec.specs.Layout.{widthMost, size, atWidth, records, packedTransfers, packed}
 use Rattle.refusal.specs.Checks.{first}
 use Rattle.stream_spec.specs.Checks.{widthCheck, captureMost, lengthCheck, transferChecks, roomCheck}
 use Rattle.stream_spec.specs.Answers.{written, repackRefusal, repackAnswer, repackAfter}
@@ -24,16 +24,16 @@ use Rattle.stream_spec.proofs.Records.{length-packed}
 -- what the checks of a width and of a length let through
 pub record WidthFits (w : ℕ) : Type 0 where
   pub low : 1 ≤ w
-  pub high : w ≤ 16
+  pub high : w ≤ widthMost
 
 pub width-fits : (w : ℕ) → widthCheck w .found ≡ false → WidthFits w
 width-fits w e =
-    let h = neither (eqb w 0) (ltb 16 w) e in
+    let h = neither (eqb w 0) (ltb widthMost w) e in
     let positive : w ≡ 0 → ⊥ = eqb-false w 0 (h .0) in
-    record { low = omega arith; high = ltb-false 16 w (h .1) }
+    record { low = omega arith; high = ltb-false widthMost w (h .1) }
 
 pub fits-width : (w : ℕ) → WidthFits w → widthCheck w .found ≡ false
-fits-width w h = rw (ne-eqb w 0 (omega (arith, h .low)), le-ltb 16 w (h .high)) refl
+fits-width w h = rw (ne-eqb w 0 (omega (arith, h .low)), le-ltb widthMost w (h .high)) refl
 
 -- the input that a repacking call accepts
 pub record Takes (s : Shape) (xs : List ℕ) : Type 0 where

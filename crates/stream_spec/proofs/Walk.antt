@@ -10,7 +10,7 @@ use native.Mathlib.Omega.{arith}
 use lib.ListN.{length, getD, take, drop, length-drop, drop-of-length-le}
 use lib.Seq.{drop-drop, length-take-le, getD-take, getD-drop}
 use Rattle.refusal.specs.Checks.{first}
-use Rattle.refusal.proofs.First.{first-none, none-first}
+use Rattle.refusal.proofs.First.{first-none}
 use Rattle.stream_spec.specs.declared.Shape.{Shape}
 use Rattle.stream_spec.specs.Layout.{size, recordCount, records}
 use Rattle.stream_spec.specs.Checks.{widthCheck, lengthCheck, takeChecks}
