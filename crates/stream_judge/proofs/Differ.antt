@@ -73,11 +73,11 @@ last-other a b h = rw (div-one a, div-one b) (go (eqb (a % 2) 1) refl (eqb (b % 
 -- ---- two records
 
 -- the octets from i to before e are the same
-abbrev Same : List ℕ → List ℕ → ℕ → ℕ → Type 0
+abbrev pub Same : List ℕ → List ℕ → ℕ → ℕ → Type 0
 Same p r i e = (j : ℕ) → i ≤ j → j < e → getD p j 0 ≡ getD r j 0
 
 -- two groups that touch or overlap are one
-joined : (p r : List ℕ) (a b c d : ℕ) → Same p r a b → Same p r c d → c ≤ b → Same p r a d
+pub joined : (p r : List ℕ) (a b c d : ℕ) → Same p r a b → Same p r c d → c ≤ b → Same p r a d
 joined p r a b c d f g l j h k = go (ltb j b) refl
   where
     go : (t : Bool) → ltb j b ≡ t → getD p j 0 ≡ getD r j 0
@@ -106,7 +106,7 @@ module _ (p r : List ℕ) where
           (ap (λ (l : List ℕ). sameOctets (take k l) (take k (drop i r))) tail ∙ same-refl (take k (drop i r)))
 
   -- a group that does not
-  group-same : (k i : ℕ) (d : Bool) → d ≡ Differ p r k i → d ≡ false → Same p r i (i + k)
+  pub group-same : (k i : ℕ) (d : Bool) → d ≡ Differ p r k i → d ≡ false → Same p r i (i + k)
   group-same k i d e f j h l =
       let there : i + (j - i) ≡ j = omega arith in
       let at : (xs : List ℕ) → getD (take k (drop i xs)) (j - i) 0 ≡ getD xs j 0 =
@@ -133,19 +133,15 @@ module _ (p r : List ℕ) where
         go false q = q ∙ differs-not (f (group-same k i d e q))
 
     -- records of 8 octets: 1 to 4 and 4 to 7
-    pub ends-8 : length r ≡ 8 → (d : Bool) → d ≡ Differ p r 4 1 → d ≡ false → (t : Bool) → t ≡ Differ p r 4 4 → t ≡ differs (some p) r
-    ends-8 n d e f t g =
-        differs-rest 4 4 t (omega arith) g (λ x. joined p r 1 5 4 (length r) (group-same 4 1 d e f) (λ j a b. x j a (omega arith)) (omega arith))
+    pub ends-8 : length r ≡ 8 → Same p r 1 5 → (d : Bool) → d ≡ Differ p r 4 4 → d ≡ differs (some p) r
+    ends-8 n s d e = differs-rest 4 4 d (omega arith) e (λ x. joined p r 1 5 4 (length r) s (λ j a b. x j a (omega arith)) (omega arith))
 
-    -- longer ones: 1 to 8 and the last 8, and 9 to 16 where these two do not meet
-    module _ (least : 8 ≤ length r) (d : Bool) (e : d ≡ Differ p r 8 1) (f : d ≡ false) (t : Bool) (g : t ≡ Differ p r 8 (length r - 8)) (h : t ≡ false) where
-      last-eight : Same p r (length r - 8) (length r)
-      last-eight j a b = group-same 8 (length r - 8) t g h j a (omega arith)
+    -- longer ones: the groups from 1 on and the last eight meet ..
+    pub ends-same : (e : ℕ) → Same p r 1 e → Same p r (length r - 8) (length r) → length r ≤ e + 8 → false ≡ differs (some p) r
+    ends-same e s t n = differs-not (joined p r 1 e (length r - 8) (length r) s t (omega arith))
 
-      pub ends-17 : length r ≤ 17 → false ≡ differs (some p) r
-      ends-17 n = differs-not (joined p r 1 9 (length r - 8) (length r) (group-same 8 1 d e f) last-eight (omega arith))
-
-      pub ends-23 : length r ≤ 23 → (u : Bool) → u ≡ Differ p r 8 9 → u ≡ differs (some p) r
-      ends-23 n u q =
-          differs-rest 8 9 u (omega arith) q
-          (λ x. joined p r 1 17 (length r - 8) (length r) (joined p r 1 9 9 17 (group-same 8 1 d e f) x (omega arith)) last-eight (omega arith))
+    -- .. or one group more decides
+    pub ends-more : (e : ℕ) → 1 ≤ e → Same p r 1 e → Same p r (length r - 8) (length r) → length r ≤ e + 16 → (d : Bool) → d ≡ Differ p r 8 e
+        → d ≡ differs (some p) r
+    ends-more e h s t n d q =
+        differs-rest 8 e d h q (λ x. joined p r 1 (e + 8) (length r - 8) (length r) (joined p r 1 e e (e + 8) s x (omega arith)) t (omega arith))

@@ -1,102 +1,107 @@
--- Judging as one pass over the cycles, against stream_spec's Handshake: what a cycle adds to what is known, and the verdict.
-use mathlib.Core.Bool.{Bool, true, false, cond}
+-- Judging as one pass over the cycles, against stream_spec's Handshake: what is known of a cycle where it is judged, and what
+-- is known between two cycles. Each is said by what is left: the verdict on the cycles left is the verdict on all.
+use mathlib.Core.Bool.{Bool, false, not, _&&_, cond}
 use mathlib.Core.List.{List, [], _∷_}
 use mathlib.Core.Option.{Option, none, some}
-use Prim.Native.Nat.{ℕ, zero, suc, _+_, _-_, _%_, _≤_}
+use Prim.Native.Nat.{ℕ, _+_, _-_, _%_, _≤_, _<_}
 use mathlib.Core.Path.{_≡_}
-use lib.Dec.{eqb}
 use lib.ListN.{length, take, drop}
-use Rattle.refusal.specs.declared.Refusal.the-variants.{Field}
+use Rattle.refusal.specs.Checks.{first}
 use Rattle.stream_spec.specs.declared.Shape.{Shape}
 use Rattle.stream_spec.specs.declared.Verdict.{Verdict}
-use Rattle.stream_spec.specs.declared.Verdict.the-variants.{Clean, Broken, Refused}
-use Rattle.stream_spec.specs.Layout.{bitOf, size, records}
-use Rattle.stream_spec.specs.Checks.{fieldFault, cycleFlags}
-use Rattle.stream_spec.specs.Handshake.{waits, waited, r1, r2, r3, r4, transferred}
+use Rattle.stream_spec.specs.Layout.{bit, size, records}
+use Rattle.stream_spec.specs.Checks.{fieldFault, cycleFlags, cycleChecks}
+use Rattle.stream_spec.specs.Handshake.{waited, r1, r2, r3, r4, handshakes, Finding, findings}
+use Rattle.stream_spec.specs.Answers.{verdict}
 use Rattle.stream_record.specs.declared.Header.{Header}
+use Rattle.stream_record.specs.declared.Zeros.{Zeros}
 use Rattle.stream_record.specs.Header.{headerOf}
+use Rattle.stream_record.specs.Zeros.{zerosOf}
 
--- the cycle before cycle k, which is the record `prev` unless k is the first
-abbrev pub beforeOf : ℕ → List ℕ → Option (List ℕ)
-beforeOf zero prev = none
-beforeOf (suc k) prev = some prev
+-- ---- one cycle
+
+-- The most octets of a record for which the comparison of two records, and the copy of one in stream_harvest, are proved.
+-- Today a record has at most 23; with user bits it will have up to 31.
+abbrev pub sizeMost : ℕ
+sizeMost = 31
+
+-- two records that can be compared: of one length, and neither too short nor too long
+pub record Alike (prev rec : List ℕ) : Type 0 where
+  pub long : length prev ≡ length rec
+  pub low : 8 ≤ length rec
+  pub high : length rec ≤ sizeMost
+
+-- whether a cycle with these flags waits, and whether it is a transfer
+abbrev pub waitsBy : ℕ → Bool
+waitsBy f = bit 3 f && bit 1 f && not (bit 2 f)
+
+abbrev pub transfersBy : ℕ → Bool
+transfersBy f = bit 3 f && bit 1 f && bit 2 f
+
+-- the cycle before, whose record is `prev`, or none where that is empty
+abbrev pub beforeOf : List ℕ → Option (List ℕ)
+beforeOf [] = none
+beforeOf (f ∷ r) = some (f ∷ r)
 
 -- the lowest rule that a cycle breaks, or 0
 abbrev pub lowestRule : Shape → Option (List ℕ) → List ℕ → ℕ
 lowestRule s b c = cond (r1 b c) 1 (cond (r2 b c) 2 (cond (r3 b c) 3 (cond (r4 s c) 4 0)))
 
--- what is known after some cycles: their transfers, the latest cycle or the one of the finding, the rule that it breaks or
--- 0, and whether the latest waits
-pub record Scan : Type 0 where
-  pub count : ℕ
-  pub cycle : ℕ
-  pub rule : ℕ
-  pub waited : Bool
-
-abbrev pub found : ℕ → ℕ → ℕ → Bool → Scan
-found count cycle rule wait = record { count = count; cycle = cycle; rule = rule; waited = wait }
-
-abbrev pub start : Scan
-start = found 0 0 0 false
-
--- what is known after cycle k as well
-abbrev pub scanStep : Shape → Option (List ℕ) → ℕ → List ℕ → Scan → Scan
-scanStep s b k c st =
-    record {
-      count = st .count + bitOf (transferred c);
-      cycle = cond (eqb (st .rule) 0) k (st .cycle);
-      rule = cond (eqb (st .rule) 0) (lowestRule s b c) (st .rule);
-      waited = waits c;
-    }
-
-abbrev pub verdictOf : Scan → Verdict
-verdictOf st = cond (eqb (st .rule) 0) (Clean (st .count)) (Broken (st .cycle) (st .rule))
-
--- the verdict on what is known and the cycles that follow, counted from k
-abbrev pub scanned : Shape → Option (List ℕ) → ℕ → List (List ℕ) → Scan → Verdict
-scanned s b k [] st = verdictOf st
-scanned s b k (c ∷ cs) st = cond (fieldFault cycleFlags s c) (Refused (Field k)) (scanned s (some c) (suc k) cs (scanStep s b k c st))
-
--- what is known where a cycle is judged: its record is whole with no bad field, the header is its, and `waited` tells of the
--- record before it, which has the same length
-pub record CycleAt (s : Shape) (h : Header) (wait : Bool) (prev rec : List ℕ) (k : ℕ) : Type 0 where
+-- what is known where a cycle is judged: its record is whole with no bad field, the header is its, `prev` is the record
+-- before it, whole too, or empty, and `wait` tells whether that one waited
+pub record CycleAt (s : Shape) (h : Header) (wait : Bool) (prev rec : List ℕ) : Type 0 where
   pub low : 1 ≤ s .width
   pub high : s .width ≤ 16
   pub header : h ≡ headerOf rec
   pub sound : fieldFault cycleFlags s rec ≡ false
-  pub waits : wait ≡ waited (beforeOf k prev)
   pub whole : length rec ≡ size s
-  pub before : wait ≡ true → length prev ≡ length rec
+  pub before : 0 < length prev → length prev ≡ size s
+  pub waits : wait ≡ waited (beforeOf prev)
+
+-- ---- the pass
 
 -- a take whose width and length have passed their tests
 pub record Passed (s : Shape) (xs : List ℕ) : Type 0 where
   pub low : 1 ≤ s .width
-  pub width : s .width ≤ 16
+  pub high : s .width ≤ 16
   pub whole : length xs % size s ≡ 0
   pub short : length xs ≤ 65536
 
+-- the verdict on the cycles from cycle k on, where `b` is before them and n transfers are counted so far
+abbrev pub verdictFrom : Shape → Option (List ℕ) → ℕ → List (List ℕ) → ℕ → Verdict
+verdictFrom s b k cs n = verdict (first (cycleChecks s k cs)) (first (findings s k b cs)) (n + length (handshakes cs))
+
 -- what is known at the start of each turn, with no finding yet: at `at` begins the record of cycle k, the record before it
--- begins at `from`, and the verdict on what is known and the cycles left is the verdict on all
-pub record Standing (s : Shape) (xs : List ℕ) (from at k count : ℕ) (wait : Bool) : Type 0 where
+-- begins at `from`, and `wait` tells whether that one waits
+pub record Turning (s : Shape) (xs : List ℕ) (from at k count : ℕ) (wait : Bool) : Type 0 where
   pub within : at ≤ length xs
   pub whole : length (drop at xs) % size s ≡ 0
   pub behind : from ≤ at
+  pub before : 0 < at - from → at - from ≡ size s
   pub counted : count ≤ k
   pub few : k ≤ at
-  pub waits : wait ≡ waited (beforeOf k (take (at - from) (drop from xs)))
-  pub before : wait ≡ true → at - from ≡ size s
+  pub waits : wait ≡ waited (beforeOf (take (at - from) (drop from xs)))
   pub same :
-      scanned s (beforeOf k (take (at - from) (drop from xs))) k (records s (drop at xs)) (found count (k - 1) 0 wait)
-      ≡ scanned s none 0 (records s xs) start
+      verdictFrom s (beforeOf (take (at - from) (drop from xs))) k (records s (drop at xs)) count
+      ≡ verdictFrom s none 0 (records s xs) 0
 
--- the first cycle with a bad field, counted from k, or else this verdict
-abbrev pub orField : Shape → ℕ → List (List ℕ) → Verdict → Verdict
-orField s k [] v = v
-orField s k (c ∷ cs) v = cond (fieldFault cycleFlags s c) (Refused (Field k)) (orField s (suc k) cs v)
+-- ---- behind a finding
 
--- what is known at the start of each turn behind a finding, whose verdict is v: cycle j begins at `from`, cycle k at `at`
-pub record Looking (s : Shape) (xs : List ℕ) (from j at k : ℕ) (v : Verdict) : Type 0 where
+-- the verdict where a finding stands: of the cycles from cycle k on only a bad field counts
+abbrev pub verdictBehind : Shape → ℕ → List (List ℕ) → Finding → Verdict
+verdictBehind s k cs f = verdict (first (cycleChecks s k cs)) (some f) 0
+
+-- where the cycles behind a finding begin: cycle j at `from`
+pub record Behind (s : Shape) (z : Zeros) (xs : List ℕ) (from j : ℕ) : Type 0 where
+  pub passed : Passed s xs
+  pub zeros : z ≡ zerosOf cycleFlags s
+  pub within : from ≤ length xs
+  pub whole : length (drop from xs) % size s ≡ 0
+  pub few : j ≤ from
+
+-- what is known at the start of each turn: cycle j begins at `from`, cycle k at `at`
+pub record Looking (s : Shape) (xs : List ℕ) (from j at k : ℕ) (f : Finding) : Type 0 where
   pub within : at ≤ length xs
   pub whole : length (drop at xs) % size s ≡ 0
   pub few : k ≤ at
-  pub same : orField s k (records s (drop at xs)) v ≡ orField s j (records s (drop from xs)) v
+  pub same : verdictBehind s k (records s (drop at xs)) f ≡ verdictBehind s j (records s (drop from xs)) f

@@ -6,17 +6,15 @@ use stream_record::Zeros;
 use stream_spec::Shape;
 use stream_spec::Verdict;
 ghost use mathlib.Core.Path.{_≡_};
-ghost use mathlib.Core.List.{List};
-ghost use Prim.Native.Nat.{ℕ, _+_, _≤_, _<_, _%_};
+ghost use Prim.Native.Nat.{_+_, _≤_};
 ghost use lib.ListN.{length, take, drop};
-ghost use mathlib.Core.Bool.{Bool, _&&_, not, true};
-ghost use mathlib.Core.Option.{Option, none, some};
-ghost use Rattle.stream_spec.specs.Layout.{size, records, bit, bitOf};
-ghost use Rattle.stream_spec.specs.Checks.{cycleFlags};
-ghost use Rattle.stream_spec.specs.Handshake.{sameOctets, differs};
-ghost use Rattle.stream_record.specs.Zeros.{zerosOf};
+ghost use mathlib.Core.Bool.{_&&_, not, true};
+ghost use mathlib.Core.Option.{none, some};
+ghost use Rattle.stream_spec.specs.Layout.{records, bitOf};
+ghost use Rattle.stream_spec.specs.Handshake.{sameOctets, differs, finding};
 ghost use Rattle.stream_spec.specs.Answers.{Judged};
-ghost use Rattle.stream_judge.specs.Scan.{beforeOf, lowestRule, scanned, start, found, CycleAt, Passed};
+ghost use Rattle.stream_judge.specs.Scan.{waitsBy, transfersBy, Alike, beforeOf, lowestRule, CycleAt};
+ghost use Rattle.stream_judge.specs.Scan.{Passed, verdictFrom, Behind, verdictBehind};
 
 // Whether some of the four octets from octet i on differ between two records.
 fn differ4(prev: &[u8], rec: &[u8], i: usize) -> bool
@@ -36,7 +34,7 @@ fn differ8(prev: &[u8], rec: &[u8], i: usize) -> bool
 
 // Whether some octet from 1 on, or TLAST, differs between two records of one size: groups that may overlap are compared.
 fn changed(prev: &[u8], rec: &[u8]) -> bool
-    requires { ⌜ (length (now prev) ≡ length (now rec)) × (8 ≤ length (now rec)) × (length (now rec) ≤ 23) ⌝ }
+    requires { ⌜ Alike (now prev) (now rec) ⌝ }
     ensures { λ r. ⌜ r ≡ differs (some (now (prev .entry))) (now (rec .entry)) ⌝ }
 {
     if prev[0] % 2 != rec[0] % 2 {
@@ -55,15 +53,21 @@ fn changed(prev: &[u8], rec: &[u8]) -> bool
     if differ8(prev, rec, n - 8) {
         return true;
     }
-    if 17 < n {
-        return differ8(prev, rec, 9);
+    if n <= 17 {
+        return false;
     }
-    false
+    if differ8(prev, rec, 9) {
+        return true;
+    }
+    if n <= 25 {
+        return false;
+    }
+    differ8(prev, rec, 17)
 }
 
 // Whether a cycle with these flags waits.
 fn waiting(flags: u32) -> bool
-    ensures { λ r. ⌜ r ≡ (bit 3 flags && bit 1 flags && not (bit 2 flags)) ⌝ }
+    ensures { λ r. ⌜ r ≡ waitsBy flags ⌝ }
 {
     if flags / 8 % 2 != 1 {
         return false;
@@ -76,7 +80,7 @@ fn waiting(flags: u32) -> bool
 
 // The transfers of a cycle with these flags: 1 where all three are high, else 0.
 pub fn transfers(flags: u32) -> usize
-    ensures { λ r. ⌜ r ≡ bitOf (bit 3 flags && bit 1 flags && bit 2 flags) ⌝ }
+    ensures { λ r. ⌜ r ≡ bitOf (transfersBy flags) ⌝ }
 {
     if flags / 8 % 2 != 1 {
         return 0;
@@ -92,7 +96,7 @@ pub fn transfers(flags: u32) -> usize
 
 // Whether the record before waited and this one differs from it.
 fn moved(waited: bool, prev: &[u8], rec: &[u8]) -> bool
-    requires { ⌜ (waited ≡ true → (length (now prev) ≡ length (now rec)) × (8 ≤ length (now rec)) × (length (now rec) ≤ 23)) ⌝ }
+    requires { ⌜ (waited ≡ true → Alike (now prev) (now rec)) ⌝ }
     ensures { λ r. ⌜ r ≡ (waited && differs (some (now (prev .entry))) (now (rec .entry))) ⌝ }
 {
     if waited {
@@ -101,10 +105,10 @@ fn moved(waited: bool, prev: &[u8], rec: &[u8]) -> bool
     false
 }
 
-// The lowest rule that the record breaks, or 0. `prev` is the record before it, and read only where that one waited.
-fn rule_of(s: Shape, h: Header, waited: bool, prev: &[u8], rec: &[u8], k: usize) -> u32
-    requires { ⌜ CycleAt s h waited (now prev) (now rec) k ⌝ }
-    ensures { λ r. ⌜ r ≡ lowestRule s (beforeOf k (now (prev .entry))) (now (rec .entry)) ⌝ }
+// The lowest rule that the record breaks, or 0. `prev` is the record before it, empty if there is none.
+fn rule_of(s: Shape, h: Header, waited: bool, prev: &[u8], rec: &[u8]) -> u32
+    requires { ⌜ CycleAt s h waited (now prev) (now rec) ⌝ }
+    ensures { λ r. ⌜ r ≡ lowestRule s (beforeOf (now (prev .entry))) (now (rec .entry)) ⌝ }
 {
     let flags = h.flags;
     if flags / 8 % 2 != 1 {
@@ -139,8 +143,8 @@ fn broken(
     cycle: usize,
     rule: u32,
 ) -> Verdict
-    requires { ⌜ Passed s (now capture) × (z ≡ zerosOf cycleFlags s) × (from ≤ length (now capture)) × (length (drop from (now capture)) % size s ≡ 0) × (j ≤ from) × (0 < rule) ⌝ }
-    ensures { λ r. ⌜ ((before : Option (List ℕ)) (count : ℕ) (wait : Bool) → r ≡ scanned s before j (records s (drop from (now (capture .entry)))) (found count cycle rule wait)) ⌝ }
+    requires { ⌜ Behind s z (now capture) from j ⌝ }
+    ensures { λ r. ⌜ r ≡ verdictBehind s j (records s (drop from (now (capture .entry)))) (finding cycle rule) ⌝ }
 {
     let size = stream_record::record_size(s);
     let mut at = from;
@@ -159,7 +163,7 @@ fn broken(
 // Judges the cycles of a take whose width and length have passed their tests.
 fn judge_cycles(s: Shape, capture: &[u8]) -> Verdict
     requires { ⌜ Passed s (now capture) ⌝ }
-    ensures { λ r. ⌜ r ≡ scanned s none 0 (records s (now (capture .entry))) start ⌝ }
+    ensures { λ r. ⌜ r ≡ verdictFrom s none 0 (records s (now (capture .entry))) 0 ⌝ }
 {
     let size = stream_record::record_size(s);
     let z = stream_record::must_be_zero(4, s);
@@ -174,7 +178,7 @@ fn judge_cycles(s: Shape, capture: &[u8]) -> Verdict
             return Verdict::Refused(Refusal::Field(k));
         }
         let h = stream_record::read_header(&capture[at..next]);
-        let rule = rule_of(s, h, waited, &capture[from..at], &capture[at..next], k);
+        let rule = rule_of(s, h, waited, &capture[from..at], &capture[at..next]);
         if rule != 0 {
             return broken(s, z, capture, next, k + 1, k, rule);
         }

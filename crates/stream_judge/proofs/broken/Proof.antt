@@ -1,17 +1,17 @@
--- `stream_judge::broken` meets its contract. The loop's invariant: the first bad field among the cycles left, or else the
--- finding, is the verdict on all from cycle j on. Assumes nothing.
+-- `stream_judge::broken` meets its contract. The loop's invariant: the verdict where only a bad field of the cycles left counts
+-- is the verdict on all from cycle j on. Assumes nothing.
 use mathlib.Core.Path.{_≡_}
-use mathlib.Core.Bool.{true, false}
-use Prim.Native.Nat.{_+_, _-_, _%_}
+use mathlib.Core.Bool.{Bool, true, false}
+use mathlib.Core.List.{List}
+use Prim.Native.Nat.{ℕ, _+_, _-_, _≤_}
 use native.Mathlib.Omega.{arith}
 use lib.ListN.{length, take, drop}
 use Rattle.stream_spec.specs.declared.Shape.{Shape}
-use Rattle.stream_spec.specs.declared.Verdict.the-variants.{Broken}
 use Rattle.stream_spec.specs.Layout as layout
-use Rattle.stream_spec.specs.Checks.{cycleFlags}
+use Rattle.stream_spec.specs.Checks.{fieldFault, cycleFlags}
+use Rattle.stream_spec.specs.Handshake.{Finding, finding}
 use Rattle.stream_spec.proofs.Records.{size-pos}
-use Rattle.stream_record.specs.Zeros.{zerosOf}
-use Rattle.stream_judge.specs.Scan.{Looking, Passed}
+use Rattle.stream_judge.specs.Scan.{Looking, Behind}
 use Rattle.stream_judge.proofs.Turns.{room, part-long, fault-is, looking-start, looks-bad, looks-on, looks-end}
 use Rattle.stream_judge.proofs.broken.Statement.{statement}
 use Rattle.stream_judge.proofs.broken.Tie as tie
@@ -19,111 +19,105 @@ use Rattle.stream_judge.proofs.broken.Tie as tie
 -- the loop does not read the shape: it is any that fits
 abbrev Inv-loop : tie.InvT-loop
 Inv-loop z capture from j cycle rule size at₀ k₀ at k =
-    (s : Shape) → Passed s capture → z ≡ zerosOf cycleFlags s → size ≡ layout.size s → length (drop from capture) % layout.size s ≡ 0
-    → Looking s capture from j at k (Broken cycle rule)
+    (s : Shape) → Behind s z capture from j → size ≡ layout.size s → Looking s capture from j at k (finding cycle rule)
 
 abbrev μ-loop : tie.MeasureT-loop
 μ-loop z capture from j cycle rule size at₀ k₀ at k = length capture - at
 
+-- ---- what is known in a turn, and what is known behind the loop's end
+
+abbrev Turns : Type 0
+Turns = tie.At-loop Inv-loop μ-loop
+
+abbrev entry : Turns → tie.Start Inv-loop μ-loop
+entry t = t .before .before .before
+
+abbrev shape : Turns → Shape
+shape t = entry t .args .s
+
+abbrev octets : Turns → List ℕ
+octets t = entry t .args .capture .now
+
+abbrev found : Turns → Finding
+found t = finding (entry t .args .cycle) (entry t .args .rule)
+
+abbrev long : Turns → ℕ
+long t = t .before .record-size .result
+
+looking : (t : Turns) → Looking (shape t) (octets t) (entry t .args .from) (entry t .args .j) (t .loop .at) (t .loop .k) (found t)
+looking t = t .loop .inv (shape t) (entry t .pre) (t .before .record-size .ensures)
+
+abbrev Turn : Type 0
+Turn = tie.In-loop Inv-loop μ-loop
+
+abbrev rec : Turn → List ℕ
+rec c = take (c .before .loop .at + long (c .before) - c .before .loop .at) (drop (c .before .loop .at) (octets (c .before)))
+
+fits : (c : Turn) → c .before .loop .at + long (c .before) ≤ length (octets (c .before))
+fits c =
+    let t = c .before in
+    room (shape t) (octets t) (t .loop .at) (looking t .whole) (c .loop-test .taken) (long t) (t .before .record-size .ensures)
+
+-- what the test told of the record, for any shape with these zeros
+fault-told : (c : tie.After-breaks Inv-loop μ-loop) (s : Shape) → Behind s (entry (c .before .before .before) .args .z) (octets (c .before .before .before)) (entry (c .before .before .before) .args .from) (entry (c .before .before .before) .args .j) → (t : Bool) → c .breaks .result ≡ t
+    → fieldFault cycleFlags s (rec (c .before .before)) ≡ t
+fault-told c s b t e = fault-is s (rec (c .before .before)) (entry (c .before .before .before) .args .z) (c .breaks .result) t (b .passed .high) (b .zeros) (c .breaks .ensures) e
+
+-- ---- the needs
+
 record-size-requires : tie.Need-record-size-requires Inv-loop μ-loop
-record-size-requires c κs = c .before .pre .0 .width
+record-size-requires c κs = c .before .pre .passed .high
 
 loop-holds : tie.Need-loop-holds Inv-loop μ-loop
 loop-holds c =
     let a = c .before .before .args in
-    let p = c .before .before .pre in
-    λ s q z e w. looking-start s (a .capture .now) (a .from) (a .j) (Broken (a .cycle) (a .rule)) (p .2) w (p .4)
+    λ s b e. looking-start s (a .z) (a .capture .now) (a .from) (a .j) (finding (a .cycle) (a .rule)) b
 
 add-next : tie.Need-add-next Inv-loop μ-loop
-add-next c =
-    let a = c .before .before .before .before .args in
-    let p = c .before .before .before .before .pre in
-    let l = c .before .loop in
-    let z = c .before .before .record-size in
-    let h = l .inv (a .s) (p .0) (p .1) (z .ensures) (p .3) in
-    omega (arith, room (a .s) (a .capture .now) (l .at) (h .whole) (c .loop-test .taken) (z .result) (z .ensures))
+add-next c = omega (arith, fits c)
 
 sub-breaks : tie.Need-sub-breaks Inv-loop μ-loop
-sub-breaks c =
-    let a = c .before .before .before .before .args in
-    let p = c .before .before .before .before .pre in
-    let l = c .before .loop in
-    let z = c .before .before .record-size in
-    let h = l .inv (a .s) (p .0) (p .1) (z .ensures) (p .3) in
-    omega (arith, room (a .s) (a .capture .now) (l .at) (h .whole) (c .loop-test .taken) (z .result) (z .ensures))
+sub-breaks c = omega (arith, fits c)
 
 part-breaks-start : tie.Need-part-breaks-start Inv-loop μ-loop
-part-breaks-start c =
-    let a = c .before .before .before .before .args in
-    let p = c .before .before .before .before .pre in
-    let l = c .before .loop in
-    let z = c .before .before .record-size in
-    let h = l .inv (a .s) (p .0) (p .1) (z .ensures) (p .3) in
-    omega (arith, room (a .s) (a .capture .now) (l .at) (h .whole) (c .loop-test .taken) (z .result) (z .ensures))
+part-breaks-start c = omega (arith, fits c)
 
 part-breaks-end : tie.Need-part-breaks-end Inv-loop μ-loop
-part-breaks-end c =
-    let a = c .before .before .before .before .args in
-    let p = c .before .before .before .before .pre in
-    let l = c .before .loop in
-    let z = c .before .before .record-size in
-    let h = l .inv (a .s) (p .0) (p .1) (z .ensures) (p .3) in
-    omega (arith, room (a .s) (a .capture .now) (l .at) (h .whole) (c .loop-test .taken) (z .result) (z .ensures))
+part-breaks-end c = omega (arith, fits c)
 
 breaks-requires : tie.Need-breaks-requires Inv-loop μ-loop
 breaks-requires c κs =
-    let a = c .before .before .before .before .before .args in
-    let p = c .before .before .before .before .before .pre in
-    let l = c .before .before .loop in
-    let z = c .before .before .before .record-size in
-    let h = l .inv (a .s) (p .0) (p .1) (z .ensures) (p .3) in
-    part-long (a .s) (a .capture .now) (l .at) (h .whole) (c .before .loop-test .taken) (z .result) (z .ensures)
+    let t = c .before .before in
+    part-long (shape t) (octets t) (t .loop .at) (looking t .whole) (c .before .loop-test .taken) (long t) (t .before .record-size .ensures)
 
 returns : tie.Need-returns Inv-loop μ-loop
 returns c =
-    let a = c .before .before .before .before .before .before .before .args in
-    let p = c .before .before .before .before .before .before .before .pre in
-    let l = c .before .before .before .before .loop in
-    let z = c .before .before .before .before .before .record-size in
-    let h = l .inv (a .s) (p .0) (p .1) (z .ensures) (p .3) in
-    looks-bad (a .s) (a .capture .now) (a .from) (a .j) (l .at) (l .k) (a .cycle) (a .rule) h (p .5) (c .before .before .before .loop-test .taken) (z .result) (z .ensures)
-    (fault-is (a .s) (take (l .at + z .result - l .at) (drop (l .at) (a .capture .now))) (a .z) (c .before .breaks .result) true (p .0 .width) (p .1) (c .before .breaks .ensures) (c .if1 .taken))
+    let turn = c .before .before .before in
+    let t = turn .before in
+    looks-bad (shape t) (octets t) (entry t .args .from) (entry t .args .j) (t .loop .at) (t .loop .k) (found t) (looking t)
+    (turn .loop-test .taken) (long t) (t .before .record-size .ensures) (fault-told (c .before) (shape t) (entry t .pre) true (c .if1 .taken))
 
 add-k : tie.Need-add-k Inv-loop μ-loop
 add-k c =
-    let a = c .before .before .before .before .before .before .before .args in
-    let p = c .before .before .before .before .before .before .before .pre in
-    let l = c .before .before .before .before .loop in
-    let z = c .before .before .before .before .before .record-size in
-    let h = l .inv (a .s) (p .0) (p .1) (z .ensures) (p .3) in
-    omega (arith, h .few, h .within, p .0 .short)
+    let t = c .before .before .before .before in
+    omega (arith, looking t .few, looking t .within, entry t .pre .passed .short)
 
 loop-less : tie.Need-loop-less Inv-loop μ-loop
 loop-less c =
-    let a = c .before .before .before .before .before .before .before .args in
-    let p = c .before .before .before .before .before .before .before .pre in
-    let l = c .before .before .before .before .loop in
-    let z = c .before .before .before .before .before .record-size in
-    let h = l .inv (a .s) (p .0) (p .1) (z .ensures) (p .3) in
-    omega (arith, room (a .s) (a .capture .now) (l .at) (h .whole) (c .before .before .before .loop-test .taken) (z .result) (z .ensures), z .ensures, size-pos (a .s))
+    let t = c .before .before .before .before in
+    omega (arith, fits (c .before .before .before), t .before .record-size .ensures, size-pos (shape t))
 
 loop-again : tie.Need-loop-again Inv-loop μ-loop
 loop-again c =
-    let a = c .before .before .before .before .before .before .before .args in
-    let p = c .before .before .before .before .before .before .before .pre in
-    let l = c .before .before .before .before .loop in
-    let z = c .before .before .before .before .before .record-size in
-    λ s q m e w. looks-on s (a .capture .now) (a .from) (a .j) (l .at) (l .k) (a .cycle) (a .rule) (l .inv s q m e w) (p .5) (c .before .before .before .loop-test .taken) (z .result) e
-    (fault-is s (take (l .at + z .result - l .at) (drop (l .at) (a .capture .now))) (a .z) (c .before .breaks .result) false (q .width) m (c .before .breaks .ensures) (c .if1 .left))
+    let turn = c .before .before .before in
+    let t = turn .before in
+    λ s b e. looks-on s (octets t) (entry t .args .from) (entry t .args .j) (t .loop .at) (t .loop .k) (found t) (t .loop .inv s b e)
+    (turn .loop-test .taken) (long t) e (fault-told (c .before) s b false (c .if1 .left))
 
 returns-2 : tie.Need-returns-2 Inv-loop μ-loop
 returns-2 c =
-    let a = c .before .before .before .before .args in
-    let p = c .before .before .before .before .pre in
-    let l = c .before .loop in
-    let z = c .before .before .record-size in
-    let h = l .inv (a .s) (p .0) (p .1) (z .ensures) (p .3) in
-    looks-end (a .s) (a .capture .now) (a .from) (a .j) (l .at) (l .k) (a .cycle) (a .rule) h (p .5) (c .loop-test .left)
+    let t = c .before in
+    looks-end (shape t) (octets t) (entry t .args .from) (entry t .args .j) (t .loop .at) (t .loop .k) (found t) (looking t) (c .loop-test .left)
 
 pub broken-spec : {M : Type 1} → statement M
 broken-spec =

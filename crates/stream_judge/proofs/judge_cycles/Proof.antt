@@ -1,198 +1,212 @@
--- `stream_judge::judge_cycles` meets its contract. The loop's invariant: the verdict on what is known and the cycles left is
--- the verdict on all. Assumes nothing.
-use mathlib.Core.Bool.{true, false}
-use Prim.Native.Nat.{_+_, _-_}
+-- `stream_judge::judge_cycles` meets its contract. The loop's invariant: the verdict on the cycles left is the verdict on all.
+-- Assumes nothing.
+use mathlib.Core.Path.{_≡_}
+use mathlib.Core.Bool.{Bool, true, false}
+use mathlib.Core.List.{List}
+use Prim.Native.Nat.{ℕ, _+_, _-_, _≤_}
 use native.Mathlib.Omega.{arith}
 use lib.ListN.{length, take, drop}
 use borrow.Author.Needs.{needs}
+use Rattle.stream_spec.specs.declared.Shape.{Shape}
+use Rattle.stream_spec.specs.Checks.{fieldFault, cycleFlags}
 use Rattle.stream_spec.proofs.Records.{size-pos}
-use Rattle.stream_judge.specs.Scan.{Standing}
-use Rattle.stream_judge.proofs.Turns.{room, part-long, rest-whole, more, fault-is, at-most-one, standing-start, turn-bad, asks, finds, goes-on, turns-end}
+use Rattle.stream_judge.specs.Scan.{Turning}
+use Rattle.stream_judge.proofs.Turns.{room, part-long, fault-is, at-most-one, turning-start, turn-bad, asks, asks-behind, finds, goes-on, turns-end}
 use Rattle.stream_judge.proofs.judge_cycles.Statement.{statement}
 use Rattle.stream_judge.proofs.judge_cycles.Tie as tie
 
 abbrev Inv-loop : tie.InvT-loop
-Inv-loop s capture size z count₀ waited₀ from₀ at₀ k₀ count waited from at k = Standing s capture from at k count waited
+Inv-loop s capture size z count₀ waited₀ from₀ at₀ k₀ count waited from at k = Turning s capture from at k count waited
 
 abbrev μ-loop : tie.MeasureT-loop
 μ-loop s capture size z count₀ waited₀ from₀ at₀ k₀ count waited from at k = length capture - at
 
+-- ---- what is known in a turn, and what is known behind the loop's end
+
+abbrev Turns : Type 0
+Turns = tie.At-loop Inv-loop μ-loop
+
+abbrev entry : Turns → tie.Start Inv-loop μ-loop
+entry t = t .before .before .before .before
+
+abbrev shape : Turns → Shape
+shape t = entry t .args .s
+
+abbrev octets : Turns → List ℕ
+octets t = entry t .args .capture .now
+
+abbrev long : Turns → ℕ
+long t = t .before .before .record-size .result
+
+abbrev Turn : Type 0
+Turn = tie.In-loop Inv-loop μ-loop
+
+abbrev rec : Turn → List ℕ
+rec c = take (c .before .loop .at + long (c .before) - c .before .loop .at) (drop (c .before .loop .at) (octets (c .before)))
+
+fits : (c : Turn) → c .before .loop .at + long (c .before) ≤ length (octets (c .before))
+fits c =
+    let t = c .before in
+    room (shape t) (octets t) (t .loop .at) (t .loop .inv .whole) (c .loop-test .taken) (long t) (t .before .before .record-size .ensures)
+
+header-fits : (c : Turn) → 7 ≤ length (rec c)
+header-fits c =
+    let t = c .before in
+    part-long (shape t) (octets t) (t .loop .at) (t .loop .inv .whole) (c .loop-test .taken) (long t) (t .before .before .record-size .ensures)
+
+counts : (t : Turns) → t .loop .k ≤ 65536
+counts t = omega (arith, t .loop .inv .few, t .loop .inv .within, entry t .pre .short)
+
+-- what the test told of the record
+fault-told : (c : tie.After-breaks Inv-loop μ-loop) (r : Bool) → c .breaks .result ≡ r
+    → fieldFault cycleFlags (shape (c .before .before .before)) (rec (c .before .before)) ≡ r
+fault-told c r e =
+    let t = c .before .before .before in
+    fault-is (shape t) (rec (c .before .before)) (t .before .must-be-zero .result) (c .breaks .result) r (entry t .pre .high)
+    (t .before .must-be-zero .ensures) (c .breaks .ensures) e
+
+-- a turn whose record is sound, from where its header is read
+abbrev sound-turn : tie.After-read-header Inv-loop μ-loop → Turn
+sound-turn c = c .before .before .before .before .before
+
+sound : (c : tie.After-read-header Inv-loop μ-loop) → fieldFault cycleFlags (shape (sound-turn c .before)) (rec (sound-turn c)) ≡ false
+sound c = fault-told (c .before .before .before) false (c .before .before .if1 .left)
+
+-- ---- the needs
+
 record-size-requires : tie.Need-record-size-requires Inv-loop μ-loop
-record-size-requires c κs = c .before .pre .width
+record-size-requires c κs = c .before .pre .high
 
 must-be-zero-requires : tie.Need-must-be-zero-requires Inv-loop μ-loop
-must-be-zero-requires c κs = (c .before .before .pre .width, omega arith)
+must-be-zero-requires c κs = (c .before .before .pre .high, omega arith)
 
 loop-holds : tie.Need-loop-holds Inv-loop μ-loop
-loop-holds c = standing-start (c .before .before .before .args .s) (c .before .before .before .args .capture .now) (c .before .before .before .pre)
+loop-holds c = let e = c .before .before .before in turning-start (e .args .s) (e .args .capture .now) (e .pre)
 
 add-next : tie.Need-add-next Inv-loop μ-loop
-add-next c =
-    let a = c .before .before .before .before .before .args in
-    let l = c .before .loop in
-    let z = c .before .before .before .record-size in
-    omega (arith, room (a .s) (a .capture .now) (l .at) (l .inv .whole) (c .loop-test .taken) (z .result) (z .ensures))
+add-next c = omega (arith, fits c)
 
 sub-breaks : tie.Need-sub-breaks Inv-loop μ-loop
-sub-breaks c =
-    let a = c .before .before .before .before .before .args in
-    let l = c .before .loop in
-    let z = c .before .before .before .record-size in
-    omega (arith, room (a .s) (a .capture .now) (l .at) (l .inv .whole) (c .loop-test .taken) (z .result) (z .ensures))
+sub-breaks c = omega (arith, fits c)
 
 part-breaks-start : tie.Need-part-breaks-start Inv-loop μ-loop
-part-breaks-start c =
-    let a = c .before .before .before .before .before .args in
-    let l = c .before .loop in
-    let z = c .before .before .before .record-size in
-    omega (arith, room (a .s) (a .capture .now) (l .at) (l .inv .whole) (c .loop-test .taken) (z .result) (z .ensures))
+part-breaks-start c = omega (arith, fits c)
 
 part-breaks-end : tie.Need-part-breaks-end Inv-loop μ-loop
-part-breaks-end c =
-    let a = c .before .before .before .before .before .args in
-    let l = c .before .loop in
-    let z = c .before .before .before .record-size in
-    omega (arith, room (a .s) (a .capture .now) (l .at) (l .inv .whole) (c .loop-test .taken) (z .result) (z .ensures))
+part-breaks-end c = omega (arith, fits c)
 
 breaks-requires : tie.Need-breaks-requires Inv-loop μ-loop
-breaks-requires c κs =
-    let a = c .before .before .before .before .before .before .args in
-    let l = c .before .before .loop in
-    let z = c .before .before .before .before .record-size in
-    part-long (a .s) (a .capture .now) (l .at) (l .inv .whole) (c .before .loop-test .taken) (z .result) (z .ensures)
+breaks-requires c κs = header-fits (c .before)
 
 returns : tie.Need-returns Inv-loop μ-loop
 returns c =
-    let a = c .before .before .before .before .before .before .before .before .args in
-    let l = c .before .before .before .before .loop in
-    let z = c .before .before .before .before .before .before .record-size in
-    turn-bad (a .s) (a .capture .now) (l .from) (l .at) (l .k) (l .count) (l .waited) (l .inv) (c .before .before .before .loop-test .taken) (z .result) (z .ensures) (fault-is (a .s) (take (l .at + z .result - l .at) (drop (l .at) (a .capture .now))) (c .before .before .before .before .before .must-be-zero .result) (c .before .breaks .result) true (c .before .before .before .before .before .before .before .before .pre .width) (c .before .before .before .before .before .must-be-zero .ensures) (c .before .breaks .ensures) (c .if1 .taken))
+    let turn = c .before .before .before in
+    let t = turn .before in
+    turn-bad (shape t) (octets t) (t .loop .from) (t .loop .at) (t .loop .k) (t .loop .count) (t .loop .waited) (t .loop .inv)
+    (turn .loop-test .taken) (long t) (t .before .before .record-size .ensures) (fault-told (c .before) true (c .if1 .taken))
 
 sub-read-header : tie.Need-sub-read-header Inv-loop μ-loop
-sub-read-header c =
-    let a = c .before .before .before .before .before .before .before .before .args in
-    let l = c .before .before .before .before .loop in
-    let z = c .before .before .before .before .before .before .record-size in
-    omega (arith, room (a .s) (a .capture .now) (l .at) (l .inv .whole) (c .before .before .before .loop-test .taken) (z .result) (z .ensures))
+sub-read-header c = omega (arith, fits (c .before .before .before))
 
 part-read-header-start : tie.Need-part-read-header-start Inv-loop μ-loop
-part-read-header-start c =
-    let a = c .before .before .before .before .before .before .before .before .args in
-    let l = c .before .before .before .before .loop in
-    let z = c .before .before .before .before .before .before .record-size in
-    omega (arith, room (a .s) (a .capture .now) (l .at) (l .inv .whole) (c .before .before .before .loop-test .taken) (z .result) (z .ensures))
+part-read-header-start c = omega (arith, fits (c .before .before .before))
 
 part-read-header-end : tie.Need-part-read-header-end Inv-loop μ-loop
-part-read-header-end c =
-    let a = c .before .before .before .before .before .before .before .before .args in
-    let l = c .before .before .before .before .loop in
-    let z = c .before .before .before .before .before .before .record-size in
-    omega (arith, room (a .s) (a .capture .now) (l .at) (l .inv .whole) (c .before .before .before .loop-test .taken) (z .result) (z .ensures))
+part-read-header-end c = omega (arith, fits (c .before .before .before))
 
 read-header-requires : tie.Need-read-header-requires Inv-loop μ-loop
-read-header-requires c κs =
-    let a = c .before .before .before .before .before .before .before .before .before .args in
-    let l = c .before .before .before .before .before .loop in
-    let z = c .before .before .before .before .before .before .before .record-size in
-    part-long (a .s) (a .capture .now) (l .at) (l .inv .whole) (c .before .before .before .before .loop-test .taken) (z .result) (z .ensures)
+read-header-requires c κs = header-fits (c .before .before .before .before)
 
 sub-rule-of : tie.Need-sub-rule-of Inv-loop μ-loop
-sub-rule-of c = omega (arith, c .before .before .before .before .before .before .loop .inv .behind, c .before .before .before .before .before .before .loop .inv .within)
+sub-rule-of c = let t = sound-turn c .before in omega (arith, t .loop .inv .behind, t .loop .inv .within)
 
 part-rule-of-start : tie.Need-part-rule-of-start Inv-loop μ-loop
-part-rule-of-start c = omega (arith, c .before .before .before .before .before .before .loop .inv .behind, c .before .before .before .before .before .before .loop .inv .within)
+part-rule-of-start c = let t = sound-turn c .before in omega (arith, t .loop .inv .behind, t .loop .inv .within)
 
 part-rule-of-end : tie.Need-part-rule-of-end Inv-loop μ-loop
-part-rule-of-end c = omega (arith, c .before .before .before .before .before .before .loop .inv .behind, c .before .before .before .before .before .before .loop .inv .within)
+part-rule-of-end c = let t = sound-turn c .before in omega (arith, t .loop .inv .behind, t .loop .inv .within)
 
 sub-rule-of-2 : tie.Need-sub-rule-of-2 Inv-loop μ-loop
-sub-rule-of-2 c =
-    let a = c .before .before .before .before .before .before .before .before .before .before .before .args in
-    let l = c .before .before .before .before .before .before .before .loop in
-    let z = c .before .before .before .before .before .before .before .before .before .record-size in
-    omega (arith, room (a .s) (a .capture .now) (l .at) (l .inv .whole) (c .before .before .before .before .before .before .loop-test .taken) (z .result) (z .ensures))
+sub-rule-of-2 c = omega (arith, fits (sound-turn (c .before)))
 
 part-rule-of-start-2 : tie.Need-part-rule-of-start-2 Inv-loop μ-loop
-part-rule-of-start-2 c =
-    let a = c .before .before .before .before .before .before .before .before .before .before .before .args in
-    let l = c .before .before .before .before .before .before .before .loop in
-    let z = c .before .before .before .before .before .before .before .before .before .record-size in
-    omega (arith, room (a .s) (a .capture .now) (l .at) (l .inv .whole) (c .before .before .before .before .before .before .loop-test .taken) (z .result) (z .ensures))
+part-rule-of-start-2 c = omega (arith, fits (sound-turn (c .before)))
 
 part-rule-of-end-2 : tie.Need-part-rule-of-end-2 Inv-loop μ-loop
-part-rule-of-end-2 c =
-    let a = c .before .before .before .before .before .before .before .before .before .before .before .args in
-    let l = c .before .before .before .before .before .before .before .loop in
-    let z = c .before .before .before .before .before .before .before .before .before .record-size in
-    omega (arith, room (a .s) (a .capture .now) (l .at) (l .inv .whole) (c .before .before .before .before .before .before .loop-test .taken) (z .result) (z .ensures))
+part-rule-of-end-2 c = omega (arith, fits (sound-turn (c .before)))
 
 rule-of-requires : tie.Need-rule-of-requires Inv-loop μ-loop
 rule-of-requires c κs =
-    let a = c .before .before .before .before .before .before .before .before .before .before .before .before .args in
-    let l = c .before .before .before .before .before .before .before .before .loop in
-    let z = c .before .before .before .before .before .before .before .before .before .before .record-size in
-    asks (a .s) (a .capture .now) (l .from) (l .at) (l .k) (l .count) (l .waited) (l .inv) (c .before .before .before .before .before .before .before .loop-test .taken) (z .result) (z .ensures) (c .before .before .before .before .before .before .before .before .before .before .before .before .pre) (c .before .before .read-header .result) (c .before .before .read-header .ensures) (fault-is (a .s) (take (l .at + z .result - l .at) (drop (l .at) (a .capture .now))) (c .before .before .before .before .before .before .before .before .before .must-be-zero .result) (c .before .before .before .before .before .breaks .result) false (c .before .before .before .before .before .before .before .before .before .before .before .before .pre .width) (c .before .before .before .before .before .before .before .before .before .must-be-zero .ensures) (c .before .before .before .before .before .breaks .ensures) (c .before .before .before .before .if1 .left))
+    let read = c .before .before in
+    let turn = sound-turn read in
+    let t = turn .before in
+    asks (shape t) (octets t) (t .loop .from) (t .loop .at) (t .loop .k) (t .loop .count) (t .loop .waited) (t .loop .inv)
+    (turn .loop-test .taken) (long t) (t .before .before .record-size .ensures)
+    (entry t .pre) (read .read-header .result) (read .read-header .ensures) (sound read)
+
+-- from where a rule is told, where the header was read
+abbrev read-of : tie.After-rule-of Inv-loop μ-loop → tie.After-read-header Inv-loop μ-loop
+read-of c = c .before .before .before
 
 add-broken : tie.Need-add-broken Inv-loop μ-loop
-add-broken c =
-    let a = c .before .before .before .before .before .before .before .before .before .before .before .before .before .before .args in
-    let l = c .before .before .before .before .before .before .before .before .before .before .loop in
-    let z = c .before .before .before .before .before .before .before .before .before .before .before .before .record-size in
-    omega (arith, l .inv .few, l .inv .within, c .before .before .before .before .before .before .before .before .before .before .before .before .before .before .pre .short)
+add-broken c = omega (arith, counts (sound-turn (read-of (c .before)) .before))
 
 broken-requires : tie.Need-broken-requires Inv-loop μ-loop
 broken-requires c κs =
-    let a = c .before .before .before .before .before .before .before .before .before .before .before .before .before .before .args in
-    let l = c .before .before .before .before .before .before .before .before .before .before .loop in
-    let z = c .before .before .before .before .before .before .before .before .before .before .before .before .record-size in
-    (c .before .before .before .before .before .before .before .before .before .before .before .before .before .before .pre, c .before .before .before .before .before .before .before .before .before .before .before .must-be-zero .ensures, room (a .s) (a .capture .now) (l .at) (l .inv .whole) (c .before .before .before .before .before .before .before .before .before .loop-test .taken) (z .result) (z .ensures), rest-whole (a .s) (a .capture .now) (l .at) (l .inv .whole) (c .before .before .before .before .before .before .before .before .before .loop-test .taken) (z .result) (z .ensures), more (a .s) (a .capture .now) (l .at) (l .inv .whole) (c .before .before .before .before .before .before .before .before .before .loop-test .taken) (z .result) (z .ensures) (l .k) (l .inv .few), omega (arith, c .if2 .taken))
+    let told = c .before in
+    let turn = sound-turn (read-of told) in
+    let t = turn .before in
+    asks-behind (shape t) (octets t) (t .loop .from) (t .loop .at) (t .loop .k) (t .loop .count) (t .loop .waited) (t .loop .inv)
+    (turn .loop-test .taken) (long t) (t .before .before .record-size .ensures) (entry t .pre) (t .before .must-be-zero .result) (t .before .must-be-zero .ensures)
 
 returns-2 : tie.Need-returns-2 Inv-loop μ-loop
 returns-2 c =
-    let a = c .before .before .before .before .before .before .before .before .before .before .before .before .before .before .before .args in
-    let l = c .before .before .before .before .before .before .before .before .before .before .before .loop in
-    let z = c .before .before .before .before .before .before .before .before .before .before .before .before .before .record-size in
-    finds (a .s) (a .capture .now) (l .from) (l .at) (l .k) (l .count) (l .waited) (l .inv) (c .before .before .before .before .before .before .before .before .before .before .loop-test .taken) (z .result) (z .ensures) (fault-is (a .s) (take (l .at + z .result - l .at) (drop (l .at) (a .capture .now))) (c .before .before .before .before .before .before .before .before .before .before .before .before .must-be-zero .result) (c .before .before .before .before .before .before .before .before .breaks .result) false (c .before .before .before .before .before .before .before .before .before .before .before .before .before .before .before .pre .width) (c .before .before .before .before .before .before .before .before .before .before .before .before .must-be-zero .ensures) (c .before .before .before .before .before .before .before .before .breaks .ensures) (c .before .before .before .before .before .before .before .if1 .left)) (c .before .before .rule-of .result) (c .before .before .rule-of .ensures) (c .broken .result) (c .broken .ensures)
+    let told = c .before .before in
+    let turn = sound-turn (read-of told) in
+    let t = turn .before in
+    finds (shape t) (octets t) (t .loop .from) (t .loop .at) (t .loop .k) (t .loop .count) (t .loop .waited) (t .loop .inv)
+    (turn .loop-test .taken) (long t) (t .before .before .record-size .ensures) (sound (read-of told))
+    (told .rule-of .result) (told .rule-of .ensures) (c .before .if2 .taken) (c .broken .result) (c .broken .ensures)
 
 transfers-requires : tie.Need-transfers-requires Inv-loop μ-loop
 transfers-requires c κs = search needs
 
 add-count : tie.Need-add-count Inv-loop μ-loop
 add-count c =
-    let a = c .before .before .before .before .before .before .before .before .before .before .before .before .before .before .before .args in
-    let l = c .before .before .before .before .before .before .before .before .before .before .before .loop in
-    let z = c .before .before .before .before .before .before .before .before .before .before .before .before .before .record-size in
-    omega (arith, l .inv .counted, l .inv .few, l .inv .within, c .before .before .before .before .before .before .before .before .before .before .before .before .before .before .before .pre .short, at-most-one (c .transfers .result) (c .before .before .before .before .before .read-header .result .flags) (c .transfers .ensures))
+    let read = read-of (c .before .before) in
+    let t = sound-turn read .before in
+    omega (arith, t .loop .inv .counted, counts t, at-most-one (c .transfers .result) (read .read-header .result .flags) (c .transfers .ensures))
 
 waiting-requires : tie.Need-waiting-requires Inv-loop μ-loop
 waiting-requires c κs = search needs
 
+-- the turn, from its end
+abbrev turn-of : tie.After-waiting Inv-loop μ-loop → Turn
+turn-of c = sound-turn (read-of (c .before .before .before))
+
 add-k : tie.Need-add-k Inv-loop μ-loop
-add-k c =
-    let a = c .before .before .before .before .before .before .before .before .before .before .before .before .before .before .before .before .args in
-    let l = c .before .before .before .before .before .before .before .before .before .before .before .before .loop in
-    let z = c .before .before .before .before .before .before .before .before .before .before .before .before .before .before .record-size in
-    omega (arith, l .inv .few, l .inv .within, c .before .before .before .before .before .before .before .before .before .before .before .before .before .before .before .before .pre .short)
+add-k c = omega (arith, counts (turn-of c .before))
 
 loop-less : tie.Need-loop-less Inv-loop μ-loop
 loop-less c =
-    let a = c .before .before .before .before .before .before .before .before .before .before .before .before .before .before .before .before .args in
-    let l = c .before .before .before .before .before .before .before .before .before .before .before .before .loop in
-    let z = c .before .before .before .before .before .before .before .before .before .before .before .before .before .before .record-size in
-    omega (arith, room (a .s) (a .capture .now) (l .at) (l .inv .whole) (c .before .before .before .before .before .before .before .before .before .before .before .loop-test .taken) (z .result) (z .ensures), z .ensures, size-pos (a .s))
+    let t = turn-of c .before in
+    omega (arith, fits (turn-of c), t .before .before .record-size .ensures, size-pos (shape t))
 
 loop-again : tie.Need-loop-again Inv-loop μ-loop
 loop-again c =
-    let a = c .before .before .before .before .before .before .before .before .before .before .before .before .before .before .before .before .args in
-    let l = c .before .before .before .before .before .before .before .before .before .before .before .before .loop in
-    let z = c .before .before .before .before .before .before .before .before .before .before .before .before .before .before .record-size in
-    goes-on (a .s) (a .capture .now) (l .from) (l .at) (l .k) (l .count) (l .waited) (l .inv) (c .before .before .before .before .before .before .before .before .before .before .before .loop-test .taken) (z .result) (z .ensures) (fault-is (a .s) (take (l .at + z .result - l .at) (drop (l .at) (a .capture .now))) (c .before .before .before .before .before .before .before .before .before .before .before .before .before .must-be-zero .result) (c .before .before .before .before .before .before .before .before .before .breaks .result) false (c .before .before .before .before .before .before .before .before .before .before .before .before .before .before .before .before .pre .width) (c .before .before .before .before .before .before .before .before .before .before .before .before .before .must-be-zero .ensures) (c .before .before .before .before .before .before .before .before .before .breaks .ensures) (c .before .before .before .before .before .before .before .before .if1 .left)) (c .before .before .before .rule-of .result) (c .before .before .before .rule-of .ensures) (c .before .before .if2 .left) (c .before .before .before .before .before .before .read-header .result) (c .before .before .before .before .before .before .read-header .ensures) (c .before .transfers .result) (c .before .transfers .ensures) (c .waiting .result) (c .waiting .ensures)
+    let told = c .before .before .before in
+    let read = read-of told in
+    let turn = turn-of c in
+    let t = turn .before in
+    goes-on (shape t) (octets t) (t .loop .from) (t .loop .at) (t .loop .k) (t .loop .count) (t .loop .waited) (t .loop .inv)
+    (turn .loop-test .taken) (long t) (t .before .before .record-size .ensures) (sound read)
+    (told .rule-of .result) (told .rule-of .ensures) (c .before .before .if2 .left) (read .read-header .result) (read .read-header .ensures)
+    (c .before .transfers .result) (c .before .transfers .ensures) (c .waiting .result) (c .waiting .ensures)
 
 returns-3 : tie.Need-returns-3 Inv-loop μ-loop
 returns-3 c =
-    let a = c .before .before .before .before .before .args in
-    let l = c .before .loop in
-    turns-end (a .s) (a .capture .now) (l .from) (l .at) (l .k) (l .count) (l .waited) (l .inv) (c .loop-test .left)
+    let t = c .before in
+    turns-end (shape t) (octets t) (t .loop .from) (t .loop .at) (t .loop .k) (t .loop .count) (t .loop .waited) (t .loop .inv) (c .loop-test .left)
 
 pub judge-cycles-spec : {M : Type 1} → statement M
 judge-cycles-spec =
