@@ -1,34 +1,35 @@
 -- The pass over the cycles: what is known at its start, what one cycle more leaves known, and what is told at its end; and
 -- the pass behind a finding, which looks for a bad field only. Assumes nothing.
-use mathlib.Core.Path.{_≡_, refl, sym, ap, ap₂, _∙_, subst}
+use mathlib.Core.Path.{_≡_, refl, sym, ap, ap₂, _∙_}
 use mathlib.Core.Bool.{Bool, true, false, cond}
 use mathlib.Core.List.{List, [], _∷_, _++_}
 use mathlib.Core.Option.{Option, none, some}
-use Prim.Native.Nat.{ℕ, suc, _+_, _-_, _%_, _≤_, _<_}
-use native.Mathlib.Nat.{zero-div, add-zero, zero-add}
+use Prim.Native.Nat.{ℕ, suc, _+_, _-_, _≤_, _<_}
+use native.Mathlib.Nat.{add-zero, zero-add}
 use native.Mathlib.Numerals.{add-one}
 use native.Mathlib.Omega.{arith}
 use borrow.Author.Tests.{eq-eqb, ne-eqb}
 use lib.Dec.{eqb}
-use lib.ListN.{length, take, drop, length-drop, drop-of-length-le}
-use lib.Seq.{drop-drop, length-take-le}
+use lib.ListN.{length, take, drop, length-drop}
+use lib.Seq.{length-take-le}
 use Rattle.refusal.specs.declared.Refusal.{Refusal}
 use Rattle.refusal.specs.declared.Refusal.the-variants.{Width, Length, Field}
 use Rattle.stream_spec.specs.declared.Shape.{Shape}
 use Rattle.stream_spec.specs.declared.Verdict.{Verdict}
 use Rattle.stream_spec.specs.declared.Verdict.the-variants.{Clean, Broken, Refused}
-use Rattle.stream_spec.specs.Layout.{bitOf, size, records}
+use Rattle.stream_spec.specs.Layout.{bitOf, widthMost, size, records}
 use Rattle.refusal.specs.Checks.{Check, first}
 use Rattle.stream_spec.specs.Checks.{fieldFault, cycleFlags, cycleChecks, widthCheck, lengthCheck}
 use Rattle.stream_spec.specs.Handshake.{waited, waits, r1, r2, r3, r4, transferred, handshakes, Finding, finding, ruleChecks, findings}
 use Rattle.stream_spec.specs.Answers.{verdict, verdictValues, judgeAnswer, Judged}
-use Rattle.stream_spec.proofs.Records.{FirstRecord, first-record}
-use Rattle.stream_spec.proofs.Repack.{width-fits, length-fits}
+use Rattle.stream_spec.specs.Walk.{Passed, recordAt}
+use Rattle.stream_spec.proofs.Size.{size-pos}
+use Rattle.stream_spec.proofs.Walk.{left-start, record-long, left-next, records-next, few-next, no-records}
 use Rattle.stream_record.specs.declared.Header.{Header}
 use Rattle.stream_record.specs.declared.Zeros.{Zeros}
 use Rattle.stream_record.specs.Header.{headerOf, headerFault}
 use Rattle.stream_record.specs.Zeros.{zerosOf}
-use Rattle.stream_judge.specs.Scan.{waitsBy, transfersBy, beforeOf, lowestRule, CycleAt, Passed, verdictFrom, Turning, verdictBehind, Behind, Looking}
+use Rattle.stream_judge.specs.Scan.{waitsBy, transfersBy, beforeOf, lowestRule, CycleAt, verdictFrom, Turning, verdictBehind, Behind, Looking}
 
 -- ---- one cycle more of a verdict
 
@@ -82,75 +83,39 @@ module _ (s : Shape) (k : ℕ) (c : List ℕ) (cs : List (List ℕ)) where
     behind-on : (w : Finding) → verdictBehind s (suc k) cs w ≡ verdictBehind s k (c ∷ cs) w
     behind-on w = rw f refl
 
--- ---- the record at `at`, where one is left; the code has a record's size in z
-
-size-seven : (s : Shape) → 7 ≤ size s
-unfolding size
-size-seven s = omega arith
-
-module _ (s : Shape) (xs : List ℕ) (at : ℕ) (whole : length (drop at xs) % size s ≡ 0) (l : at < length xs) (z : ℕ) (q : z ≡ size s) where
-  here : FirstRecord s (drop at xs)
-  here = first-record s (drop at xs) whole (omega (arith, length-drop at xs))
-
-  part-is : take (at + z - at) (drop at xs) ≡ take (size s) (drop at xs)
-  part-is = let long : at + z - at ≡ size s = omega arith in ap (λ (n : ℕ). take n (drop at xs)) long
-
-  gone : drop (at + z) xs ≡ drop (size s) (drop at xs)
-  gone = rw q (sym (drop-drop (size s) at xs))
-
-  pub room : at + z ≤ length xs
-  room = rw q (omega (arith, here .fits, length-drop at xs))
-
-  pub part-whole : length (take (at + z - at) (drop at xs)) ≡ size s
-  part-whole = rw part-is (length-take-le (size s) (drop at xs) (here .fits))
-
-  pub part-long : 7 ≤ length (take (at + z - at) (drop at xs))
-  part-long = rw part-whole (size-seven s)
-
-  pub rest-whole : length (drop (at + z) xs) % size s ≡ 0
-  rest-whole = subst (λ (ys : List ℕ). length ys % size s ≡ 0) (sym gone) (here .whole)
-
-  pub more : (k : ℕ) → k ≤ at → k + 1 ≤ at + z
-  more k h = omega (arith, size-seven s)
-
-  cycles-are : records s (drop at xs) ≡ take (at + z - at) (drop at xs) ∷ records s (drop (at + z) xs)
-  cycles-are = here .is ∙ ap₂ (λ (c ys : List ℕ). c ∷ records s ys) (sym part-is) (sym gone)
-
-none-left : (s : Shape) (xs : List ℕ) (at : ℕ) → length xs ≤ at → records s (drop at xs) ≡ []
-none-left s xs at l = ap (records s) (drop-of-length-le xs l) ∙ rw (zero-div (size s)) refl
+-- ---- the record at `at`
 
 -- what the test of the bits that must be zero found, of a record
-pub fault-is : (s : Shape) (c : List ℕ) (z : Zeros) (r t : Bool) → s .width ≤ 16 → z ≡ zerosOf cycleFlags s
-    → ((used : ℕ) (x : Shape) → used ≤ 8 → x .width ≤ 16 → z ≡ zerosOf used x → r ≡ headerFault used x (headerOf c)) → r ≡ t
+pub fault-is : (s : Shape) (c : List ℕ) (z : Zeros) (r t : Bool) → s .width ≤ widthMost → z ≡ zerosOf cycleFlags s
+    → ((used : ℕ) (x : Shape) → used ≤ 8 → x .width ≤ widthMost → z ≡ zerosOf used x → r ≡ headerFault used x (headerOf c)) → r ≡ t
     → fieldFault cycleFlags s c ≡ t
 fault-is s c z r t w e f g = sym (f cycleFlags s (omega arith) w e) ∙ g
 
 -- ---- behind a finding
 
 pub looking-start : (s : Shape) (z : Zeros) (xs : List ℕ) (from j : ℕ) (w : Finding) → Behind s z xs from j → Looking s xs from j from j w
-looking-start s z xs from j w b = record { within = b .within; whole = b .whole; few = b .few; same = refl }
+looking-start s z xs from j w b = record { left = b .left; few = b .few; same = refl }
 
 module _ (s : Shape) (xs : List ℕ) (from j at k : ℕ) (w : Finding) (h : Looking s xs from j at k w) where
   -- no cycle is left
   pub looks-end : length xs ≤ at → Broken (w .cycle) (w .rule) ≡ verdictBehind s j (records s (drop from xs)) w
-  looks-end l = sym (ap (λ (cs : List (List ℕ)). verdictBehind s k cs w) (none-left s xs at l)) ∙ h .same
+  looks-end l = sym (ap (λ (cs : List (List ℕ)). verdictBehind s k cs w) (no-records s xs at l)) ∙ h .same
 
   module _ (l : at < length xs) (z : ℕ) (q : z ≡ size s) where
-    left-behind : verdictBehind s k (take (at + z - at) (drop at xs) ∷ records s (drop (at + z) xs)) w ≡ verdictBehind s j (records s (drop from xs)) w
-    left-behind = sym (ap (λ (cs : List (List ℕ)). verdictBehind s k cs w) (cycles-are s xs at (h .whole) l z q)) ∙ h .same
+    left-behind : verdictBehind s k (recordAt xs at z ∷ records s (drop (at + z) xs)) w ≡ verdictBehind s j (records s (drop from xs)) w
+    left-behind = sym (ap (λ (cs : List (List ℕ)). verdictBehind s k cs w) (records-next s xs at (h .left) l z q)) ∙ h .same
 
-    pub looks-bad : fieldFault cycleFlags s (take (at + z - at) (drop at xs)) ≡ true → Refused (Field k) ≡ verdictBehind s j (records s (drop from xs)) w
-    looks-bad f = behind-bad s k (take (at + z - at) (drop at xs)) (records s (drop (at + z) xs)) w f ∙ left-behind
+    pub looks-bad : fieldFault cycleFlags s (recordAt xs at z) ≡ true → Refused (Field k) ≡ verdictBehind s j (records s (drop from xs)) w
+    looks-bad f = behind-bad s k (recordAt xs at z) (records s (drop (at + z) xs)) w f ∙ left-behind
 
-    pub looks-on : fieldFault cycleFlags s (take (at + z - at) (drop at xs)) ≡ false → Looking s xs from j (at + z) (k + 1) w
+    pub looks-on : fieldFault cycleFlags s (recordAt xs at z) ≡ false → Looking s xs from j (at + z) (k + 1) w
     looks-on f =
         record {
-          within = room s xs at (h .whole) l z q;
-          whole = rest-whole s xs at (h .whole) l z q;
-          few = more s xs at (h .whole) l z q k (h .few);
+          left = left-next s xs at (h .left) l z q;
+          few = few-next s xs at (h .left) l z q k (h .few);
           same =
               ap (λ (i : ℕ). verdictBehind s i (records s (drop (at + z) xs)) w) (add-one k)
-              ∙ behind-on s k (take (at + z - at) (drop at xs)) (records s (drop (at + z) xs)) f w
+              ∙ behind-on s k (recordAt xs at z) (records s (drop (at + z) xs)) f w
               ∙ left-behind;
         }
 
@@ -166,8 +131,7 @@ at-most-one n f e = rw e (bit-low (transfersBy f))
 pub turning-start : (s : Shape) (xs : List ℕ) → Passed s xs → Turning s xs 0 0 0 0 false
 turning-start s xs p =
     record {
-      within = omega arith;
-      whole = p .whole;
+      left = left-start s xs (p .whole);
       behind = omega arith;
       before = λ h. absurd (omega arith);
       counted = omega arith;
@@ -190,21 +154,21 @@ module _ (s : Shape) (xs : List ℕ) (from at k count : ℕ) (wait : Bool) (h : 
   pub turns-end : length xs ≤ at → Clean count ≡ verdictFrom s none 0 (records s xs) 0
   turns-end l =
       ap Clean (sym (add-zero count))
-      ∙ sym (ap (λ (cs : List (List ℕ)). verdictFrom s (beforeOf prev) k cs count) (none-left s xs at l))
+      ∙ sym (ap (λ (cs : List (List ℕ)). verdictFrom s (beforeOf prev) k cs count) (no-records s xs at l))
       ∙ h .same
 
   prev-long : length prev ≡ at - from
-  prev-long = length-take-le (at - from) (drop from xs) (omega (arith, length-drop from xs, h .behind, h .within))
+  prev-long = length-take-le (at - from) (drop from xs) (omega (arith, length-drop from xs, h .behind, h .left .within))
 
   module _ (l : at < length xs) (z : ℕ) (q : z ≡ size s) where
     abbrev rec : List ℕ
-    rec = take (at + z - at) (drop at xs)
+    rec = recordAt xs at z
 
     abbrev later : List (List ℕ)
     later = records s (drop (at + z) xs)
 
     left-from : verdictFrom s (beforeOf prev) k (rec ∷ later) count ≡ verdictFrom s none 0 (records s xs) 0
-    left-from = sym (ap (λ (cs : List (List ℕ)). verdictFrom s (beforeOf prev) k cs count) (cycles-are s xs at (h .whole) l z q)) ∙ h .same
+    left-from = sym (ap (λ (cs : List (List ℕ)). verdictFrom s (beforeOf prev) k cs count) (records-next s xs at (h .left) l z q)) ∙ h .same
 
     -- a cycle with a bad field ends the pass
     pub turn-bad : fieldFault cycleFlags s rec ≡ true → Refused (Field k) ≡ verdictFrom s none 0 (records s xs) 0
@@ -218,7 +182,7 @@ module _ (s : Shape) (xs : List ℕ) (from at k count : ℕ) (wait : Bool) (h : 
           high = p .high;
           header = e;
           sound = f;
-          whole = part-whole s xs at (h .whole) l z q;
+          whole = record-long s xs at (h .left) l z q;
           before = λ n. prev-long ∙ h .before (omega (arith, prev-long));
           waits = h .waits;
         }
@@ -229,9 +193,8 @@ module _ (s : Shape) (xs : List ℕ) (from at k count : ℕ) (wait : Bool) (h : 
         record {
           passed = p;
           zeros = y;
-          within = room s xs at (h .whole) l z q;
-          whole = rest-whole s xs at (h .whole) l z q;
-          few = more s xs at (h .whole) l z q k (h .few);
+          left = left-next s xs at (h .left) l z q;
+          few = few-next s xs at (h .left) l z q k (h .few);
         }
 
     module _ (f : fieldFault cycleFlags s rec ≡ false) (rule : ℕ) (e : rule ≡ lowestRule s (beforeOf prev) rec) where
@@ -248,16 +211,15 @@ module _ (s : Shape) (xs : List ℕ) (from at k count : ℕ) (wait : Bool) (h : 
           → (w : Bool) → w ≡ waitsBy (d .flags) → Turning s xs at (at + z) (k + 1) (count + n) w
       goes-on none' d is n counted w waiting =
           let long : at + z - at ≡ size s = omega arith in
-          let some-rec : 0 < length rec = omega (arith, part-long s xs at (h .whole) l z q) in
+          let some-rec : 0 < length rec = omega (arith, record-long s xs at (h .left) l z q, size-pos s) in
           let same-count : n ≡ bitOf (transferred rec) = counted ∙ ap (λ (g : Header). bitOf (transfersBy (g .flags))) is in
           let same-wait : w ≡ waits rec = waiting ∙ ap (λ (g : Header). waitsBy (g .flags)) is in
           record {
-            within = room s xs at (h .whole) l z q;
-            whole = rest-whole s xs at (h .whole) l z q;
+            left = left-next s xs at (h .left) l z q;
             behind = omega arith;
             before = λ t. long;
             counted = omega (arith, h .counted, at-most-one n (d .flags) counted);
-            few = more s xs at (h .whole) l z q k (h .few);
+            few = few-next s xs at (h .left) l z q k (h .few);
             waits = same-wait ∙ sym (ap waited (before-some rec some-rec));
             same =
                 ap₂ (λ (b : Option (List ℕ)) (i : ℕ). verdictFrom s b i later (count + n)) (before-some rec some-rec) (add-one k)
@@ -269,12 +231,6 @@ module _ (s : Shape) (xs : List ℕ) (from at k count : ℕ) (wait : Bool) (h : 
 -- ---- judging
 
 module _ (s : Shape) (xs : List ℕ) where
-  pub passed : widthCheck (s .width) .found ≡ false → lengthCheck s xs .found ≡ false → Passed s xs
-  passed w l =
-      let n = length-fits s xs l in
-      let f = width-fits (s .width) w in
-      record { low = f .low; high = f .high; whole = n .1; short = n .0 }
-
   judged : (v : Verdict) → v ≡ judgeAnswer s xs → Judged s xs v
   judged v e = record { is = e; shows = ap verdictValues e }
 

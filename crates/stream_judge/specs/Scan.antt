@@ -3,16 +3,17 @@
 use mathlib.Core.Bool.{Bool, false, not, _&&_, cond}
 use mathlib.Core.List.{List, [], _∷_}
 use mathlib.Core.Option.{Option, none, some}
-use Prim.Native.Nat.{ℕ, _+_, _-_, _%_, _≤_, _<_}
+use Prim.Native.Nat.{ℕ, _+_, _-_, _≤_, _<_}
 use mathlib.Core.Path.{_≡_}
 use lib.ListN.{length, take, drop}
 use Rattle.refusal.specs.Checks.{first}
 use Rattle.stream_spec.specs.declared.Shape.{Shape}
 use Rattle.stream_spec.specs.declared.Verdict.{Verdict}
-use Rattle.stream_spec.specs.Layout.{bit, size, records}
+use Rattle.stream_spec.specs.Layout.{bit, tvalidBit, treadyBit, aresetnBit, widthMost, size, sizeLeast, records}
 use Rattle.stream_spec.specs.Checks.{fieldFault, cycleFlags, cycleChecks}
 use Rattle.stream_spec.specs.Handshake.{waited, r1, r2, r3, r4, handshakes, Finding, findings}
 use Rattle.stream_spec.specs.Answers.{verdict}
+use Rattle.stream_spec.specs.Walk.{Passed, Left}
 use Rattle.stream_record.specs.declared.Header.{Header}
 use Rattle.stream_record.specs.declared.Zeros.{Zeros}
 use Rattle.stream_record.specs.Header.{headerOf}
@@ -20,23 +21,23 @@ use Rattle.stream_record.specs.Zeros.{zerosOf}
 
 -- ---- one cycle
 
--- The most octets of a record for which the comparison of two records, and the copy of one in stream_harvest, are proved.
--- Today a record has at most 23; with user bits it will have up to 31.
-abbrev pub sizeMost : ℕ
-sizeMost = 31
+-- Two records are compared here, and one is copied in stream_harvest, in groups of octets, proved for records of up to so
+-- many octets. A record has at most `sizeMost`, which is less: records with user bits fit as well.
+abbrev pub groupedMost : ℕ
+groupedMost = 31
 
 -- two records that can be compared: of one length, and neither too short nor too long
 pub record Alike (prev rec : List ℕ) : Type 0 where
   pub long : length prev ≡ length rec
-  pub low : 8 ≤ length rec
-  pub high : length rec ≤ sizeMost
+  pub low : sizeLeast ≤ length rec
+  pub high : length rec ≤ groupedMost
 
 -- whether a cycle with these flags waits, and whether it is a transfer
 abbrev pub waitsBy : ℕ → Bool
-waitsBy f = bit 3 f && bit 1 f && not (bit 2 f)
+waitsBy f = bit aresetnBit f && bit tvalidBit f && not (bit treadyBit f)
 
 abbrev pub transfersBy : ℕ → Bool
-transfersBy f = bit 3 f && bit 1 f && bit 2 f
+transfersBy f = bit aresetnBit f && bit tvalidBit f && bit treadyBit f
 
 -- the cycle before, whose record is `prev`, or none where that is empty
 abbrev pub beforeOf : List ℕ → Option (List ℕ)
@@ -51,7 +52,7 @@ lowestRule s b c = cond (r1 b c) 1 (cond (r2 b c) 2 (cond (r3 b c) 3 (cond (r4 s
 -- before it, whole too, or empty, and `wait` tells whether that one waited
 pub record CycleAt (s : Shape) (h : Header) (wait : Bool) (prev rec : List ℕ) : Type 0 where
   pub low : 1 ≤ s .width
-  pub high : s .width ≤ 16
+  pub high : s .width ≤ widthMost
   pub header : h ≡ headerOf rec
   pub sound : fieldFault cycleFlags s rec ≡ false
   pub whole : length rec ≡ size s
@@ -60,13 +61,6 @@ pub record CycleAt (s : Shape) (h : Header) (wait : Bool) (prev rec : List ℕ) 
 
 -- ---- the pass
 
--- a take whose width and length have passed their tests
-pub record Passed (s : Shape) (xs : List ℕ) : Type 0 where
-  pub low : 1 ≤ s .width
-  pub high : s .width ≤ 16
-  pub whole : length xs % size s ≡ 0
-  pub short : length xs ≤ 65536
-
 -- the verdict on the cycles from cycle k on, where `b` is before them and n transfers are counted so far
 abbrev pub verdictFrom : Shape → Option (List ℕ) → ℕ → List (List ℕ) → ℕ → Verdict
 verdictFrom s b k cs n = verdict (first (cycleChecks s k cs)) (first (findings s k b cs)) (n + length (handshakes cs))
@@ -74,8 +68,7 @@ verdictFrom s b k cs n = verdict (first (cycleChecks s k cs)) (first (findings s
 -- what is known at the start of each turn, with no finding yet: at `at` begins the record of cycle k, the record before it
 -- begins at `from`, and `wait` tells whether that one waits
 pub record Turning (s : Shape) (xs : List ℕ) (from at k count : ℕ) (wait : Bool) : Type 0 where
-  pub within : at ≤ length xs
-  pub whole : length (drop at xs) % size s ≡ 0
+  pub left : Left s xs at
   pub behind : from ≤ at
   pub before : 0 < at - from → at - from ≡ size s
   pub counted : count ≤ k
@@ -95,13 +88,11 @@ verdictBehind s k cs f = verdict (first (cycleChecks s k cs)) (some f) 0
 pub record Behind (s : Shape) (z : Zeros) (xs : List ℕ) (from j : ℕ) : Type 0 where
   pub passed : Passed s xs
   pub zeros : z ≡ zerosOf cycleFlags s
-  pub within : from ≤ length xs
-  pub whole : length (drop from xs) % size s ≡ 0
+  pub left : Left s xs from
   pub few : j ≤ from
 
 -- what is known at the start of each turn: cycle j begins at `from`, cycle k at `at`
 pub record Looking (s : Shape) (xs : List ℕ) (from j at k : ℕ) (f : Finding) : Type 0 where
-  pub within : at ≤ length xs
-  pub whole : length (drop at xs) % size s ≡ 0
+  pub left : Left s xs at
   pub few : k ≤ at
   pub same : verdictBehind s k (records s (drop at xs)) f ≡ verdictBehind s j (records s (drop from xs)) f

@@ -3,6 +3,13 @@
 use refusal::Refusal;
 use stream_record::Header;
 use stream_record::Zeros;
+use stream_record::layout::CYCLE_FLAGS;
+use stream_record::layout::FLAGS;
+use stream_record::layout::SIZE_LEAST;
+use stream_record::layout::TID;
+use stream_record::layout::aresetn;
+use stream_record::layout::tready;
+use stream_record::layout::tvalid;
 use stream_spec::Shape;
 use stream_spec::Verdict;
 ghost use mathlib.Core.Path.{_≡_};
@@ -13,8 +20,9 @@ ghost use mathlib.Core.Option.{none, some};
 ghost use Rattle.stream_spec.specs.Layout.{records, bitOf};
 ghost use Rattle.stream_spec.specs.Handshake.{sameOctets, differs, finding};
 ghost use Rattle.stream_spec.specs.Answers.{Judged};
+ghost use Rattle.stream_spec.specs.Walk.{Passed};
 ghost use Rattle.stream_judge.specs.Scan.{waitsBy, transfersBy, Alike, beforeOf, lowestRule, CycleAt};
-ghost use Rattle.stream_judge.specs.Scan.{Passed, verdictFrom, Behind, verdictBehind};
+ghost use Rattle.stream_judge.specs.Scan.{verdictFrom, Behind, verdictBehind};
 
 // Whether some of the four octets from octet i on differ between two records.
 fn differ4(prev: &[u8], rec: &[u8], i: usize) -> bool
@@ -37,17 +45,17 @@ fn changed(prev: &[u8], rec: &[u8]) -> bool
     requires { ⌜ Alike (now prev) (now rec) ⌝ }
     ensures { λ r. ⌜ r ≡ differs (some (now (prev .entry))) (now (rec .entry)) ⌝ }
 {
-    if prev[0] % 2 != rec[0] % 2 {
+    if prev[FLAGS] % 2 != rec[FLAGS] % 2 {
         return true;
     }
     let n = rec.len();
-    if n == 8 {
-        if differ4(prev, rec, 1) {
+    if n == SIZE_LEAST {
+        if differ4(prev, rec, TID) {
             return true;
         }
         return differ4(prev, rec, 4);
     }
-    if differ8(prev, rec, 1) {
+    if differ8(prev, rec, TID) {
         return true;
     }
     if differ8(prev, rec, n - 8) {
@@ -69,26 +77,26 @@ fn changed(prev: &[u8], rec: &[u8]) -> bool
 fn waiting(flags: u32) -> bool
     ensures { λ r. ⌜ r ≡ waitsBy flags ⌝ }
 {
-    if flags / 8 % 2 != 1 {
+    if !aresetn(flags) {
         return false;
     }
-    if flags / 2 % 2 != 1 {
+    if !tvalid(flags) {
         return false;
     }
-    flags / 4 % 2 != 1
+    !tready(flags)
 }
 
 // The transfers of a cycle with these flags: 1 where all three are high, else 0.
 pub fn transfers(flags: u32) -> usize
     ensures { λ r. ⌜ r ≡ bitOf (transfersBy flags) ⌝ }
 {
-    if flags / 8 % 2 != 1 {
+    if !aresetn(flags) {
         return 0;
     }
-    if flags / 2 % 2 != 1 {
+    if !tvalid(flags) {
         return 0;
     }
-    if flags / 4 % 2 != 1 {
+    if !tready(flags) {
         return 0;
     }
     1
@@ -110,14 +118,14 @@ fn rule_of(s: Shape, h: Header, waited: bool, prev: &[u8], rec: &[u8]) -> u32
     requires { ⌜ CycleAt s h waited (now prev) (now rec) ⌝ }
     ensures { λ r. ⌜ r ≡ lowestRule s (beforeOf (now (prev .entry))) (now (rec .entry)) ⌝ }
 {
-    let flags = h.flags;
-    if flags / 8 % 2 != 1 {
-        if flags / 2 % 2 == 1 {
+    let valid = tvalid(h.flags);
+    if !aresetn(h.flags) {
+        if valid {
             return 1;
         }
         return 0;
     }
-    if flags / 2 % 2 != 1 {
+    if !valid {
         if waited {
             return 2;
         }
@@ -166,7 +174,7 @@ fn judge_cycles(s: Shape, capture: &[u8]) -> Verdict
     ensures { λ r. ⌜ r ≡ verdictFrom s none 0 (records s (now (capture .entry))) 0 ⌝ }
 {
     let size = stream_record::record_size(s);
-    let z = stream_record::must_be_zero(4, s);
+    let z = stream_record::must_be_zero(CYCLE_FLAGS, s);
     let mut count = 0;
     let mut waited = false;
     let mut from = 0;

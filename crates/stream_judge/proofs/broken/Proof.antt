@@ -5,14 +5,16 @@ use mathlib.Core.Bool.{Bool, true, false}
 use mathlib.Core.List.{List}
 use Prim.Native.Nat.{ℕ, _+_, _-_, _≤_}
 use native.Mathlib.Omega.{arith}
-use lib.ListN.{length, take, drop}
+use lib.ListN.{length}
 use Rattle.stream_spec.specs.declared.Shape.{Shape}
 use Rattle.stream_spec.specs.Layout as layout
 use Rattle.stream_spec.specs.Checks.{fieldFault, cycleFlags}
 use Rattle.stream_spec.specs.Handshake.{Finding, finding}
-use Rattle.stream_spec.proofs.Records.{size-pos}
+use Rattle.stream_spec.specs.Walk.{recordAt}
+use Rattle.stream_spec.proofs.Size.{size-pos, size-holds}
+use Rattle.stream_spec.proofs.Walk.{record-fits, record-long}
 use Rattle.stream_judge.specs.Scan.{Looking, Behind}
-use Rattle.stream_judge.proofs.Turns.{room, part-long, fault-is, looking-start, looks-bad, looks-on, looks-end}
+use Rattle.stream_judge.proofs.Turns.{fault-is, looking-start, looks-bad, looks-on, looks-end}
 use Rattle.stream_judge.proofs.broken.Statement.{statement}
 use Rattle.stream_judge.proofs.broken.Tie as tie
 
@@ -51,12 +53,12 @@ abbrev Turn : Type 0
 Turn = tie.In-loop Inv-loop μ-loop
 
 abbrev rec : Turn → List ℕ
-rec c = take (c .before .loop .at + long (c .before) - c .before .loop .at) (drop (c .before .loop .at) (octets (c .before)))
+rec c = recordAt (octets (c .before)) (c .before .loop .at) (long (c .before))
 
 fits : (c : Turn) → c .before .loop .at + long (c .before) ≤ length (octets (c .before))
 fits c =
     let t = c .before in
-    room (shape t) (octets t) (t .loop .at) (looking t .whole) (c .loop-test .taken) (long t) (t .before .record-size .ensures)
+    record-fits (shape t) (octets t) (t .loop .at) (looking t .left) (c .loop-test .taken) (long t) (t .before .record-size .ensures)
 
 -- what the test told of the record, for any shape with these zeros
 fault-told : (c : tie.After-breaks Inv-loop μ-loop) (s : Shape) → Behind s (entry (c .before .before .before) .args .z) (octets (c .before .before .before)) (entry (c .before .before .before) .args .from) (entry (c .before .before .before) .args .j) → (t : Bool) → c .breaks .result ≡ t
@@ -88,7 +90,8 @@ part-breaks-end c = omega (arith, fits c)
 breaks-requires : tie.Need-breaks-requires Inv-loop μ-loop
 breaks-requires c κs =
     let t = c .before .before in
-    part-long (shape t) (octets t) (t .loop .at) (looking t .whole) (c .before .loop-test .taken) (long t) (t .before .record-size .ensures)
+    let whole = record-long (shape t) (octets t) (t .loop .at) (looking t .left) (c .before .loop-test .taken) (long t) (t .before .record-size .ensures) in
+    omega (arith, whole, size-holds (shape t))
 
 returns : tie.Need-returns Inv-loop μ-loop
 returns c =
@@ -100,7 +103,7 @@ returns c =
 add-k : tie.Need-add-k Inv-loop μ-loop
 add-k c =
     let t = c .before .before .before .before in
-    omega (arith, looking t .few, looking t .within, entry t .pre .passed .short)
+    omega (arith, looking t .few, looking t .left .within, entry t .pre .passed .short)
 
 loop-less : tie.Need-loop-less Inv-loop μ-loop
 loop-less c =

@@ -3,7 +3,8 @@ use mathlib.Core.Path.{_≡_, sym, _∙_}
 use mathlib.Core.Bool.{Bool, true, false}
 use Rattle.stream_spec.specs.Checks.{widthCheck, lengthCheck}
 use Rattle.stream_spec.proofs.Repack.{width-fits}
-use Rattle.stream_judge.proofs.Turns.{passed, judged-width, judged-length, judged-cycles}
+use Rattle.stream_spec.proofs.Walk.{passed}
+use Rattle.stream_judge.proofs.Turns.{judged-width, judged-length, judged-cycles}
 use borrow.Author.Needs.{needs}
 use Rattle.stream_judge.proofs.judge.Statement.{statement}
 use Rattle.stream_judge.proofs.judge.Tie as tie

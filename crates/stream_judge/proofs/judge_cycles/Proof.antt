@@ -5,13 +5,16 @@ use mathlib.Core.Bool.{Bool, true, false}
 use mathlib.Core.List.{List}
 use Prim.Native.Nat.{ℕ, _+_, _-_, _≤_}
 use native.Mathlib.Omega.{arith}
-use lib.ListN.{length, take, drop}
+use lib.ListN.{length}
 use borrow.Author.Needs.{needs}
 use Rattle.stream_spec.specs.declared.Shape.{Shape}
-use Rattle.stream_spec.specs.Checks.{fieldFault, cycleFlags}
-use Rattle.stream_spec.proofs.Records.{size-pos}
+use Rattle.stream_spec.specs.Layout.{headOctets}
+use Rattle.stream_spec.specs.Checks.{captureMost, fieldFault, cycleFlags}
+use Rattle.stream_spec.specs.Walk.{recordAt}
+use Rattle.stream_spec.proofs.Size.{size-pos, size-holds}
+use Rattle.stream_spec.proofs.Walk.{record-fits, record-long}
 use Rattle.stream_judge.specs.Scan.{Turning}
-use Rattle.stream_judge.proofs.Turns.{room, part-long, fault-is, at-most-one, turning-start, turn-bad, asks, asks-behind, finds, goes-on, turns-end}
+use Rattle.stream_judge.proofs.Turns.{fault-is, at-most-one, turning-start, turn-bad, asks, asks-behind, finds, goes-on, turns-end}
 use Rattle.stream_judge.proofs.judge_cycles.Statement.{statement}
 use Rattle.stream_judge.proofs.judge_cycles.Tie as tie
 
@@ -42,20 +45,21 @@ abbrev Turn : Type 0
 Turn = tie.In-loop Inv-loop μ-loop
 
 abbrev rec : Turn → List ℕ
-rec c = take (c .before .loop .at + long (c .before) - c .before .loop .at) (drop (c .before .loop .at) (octets (c .before)))
+rec c = recordAt (octets (c .before)) (c .before .loop .at) (long (c .before))
 
 fits : (c : Turn) → c .before .loop .at + long (c .before) ≤ length (octets (c .before))
 fits c =
     let t = c .before in
-    room (shape t) (octets t) (t .loop .at) (t .loop .inv .whole) (c .loop-test .taken) (long t) (t .before .before .record-size .ensures)
+    record-fits (shape t) (octets t) (t .loop .at) (t .loop .inv .left) (c .loop-test .taken) (long t) (t .before .before .record-size .ensures)
 
-header-fits : (c : Turn) → 7 ≤ length (rec c)
+header-fits : (c : Turn) → headOctets ≤ length (rec c)
 header-fits c =
     let t = c .before in
-    part-long (shape t) (octets t) (t .loop .at) (t .loop .inv .whole) (c .loop-test .taken) (long t) (t .before .before .record-size .ensures)
+    let whole = record-long (shape t) (octets t) (t .loop .at) (t .loop .inv .left) (c .loop-test .taken) (long t) (t .before .before .record-size .ensures) in
+    omega (arith, whole, size-holds (shape t))
 
-counts : (t : Turns) → t .loop .k ≤ 65536
-counts t = omega (arith, t .loop .inv .few, t .loop .inv .within, entry t .pre .short)
+counts : (t : Turns) → t .loop .k ≤ captureMost
+counts t = omega (arith, t .loop .inv .few, t .loop .inv .left .within, entry t .pre .short)
 
 -- what the test told of the record
 fault-told : (c : tie.After-breaks Inv-loop μ-loop) (r : Bool) → c .breaks .result ≡ r
@@ -118,13 +122,13 @@ read-header-requires : tie.Need-read-header-requires Inv-loop μ-loop
 read-header-requires c κs = header-fits (c .before .before .before .before)
 
 sub-rule-of : tie.Need-sub-rule-of Inv-loop μ-loop
-sub-rule-of c = let t = sound-turn c .before in omega (arith, t .loop .inv .behind, t .loop .inv .within)
+sub-rule-of c = let t = sound-turn c .before in omega (arith, t .loop .inv .behind, t .loop .inv .left .within)
 
 part-rule-of-start : tie.Need-part-rule-of-start Inv-loop μ-loop
-part-rule-of-start c = let t = sound-turn c .before in omega (arith, t .loop .inv .behind, t .loop .inv .within)
+part-rule-of-start c = let t = sound-turn c .before in omega (arith, t .loop .inv .behind, t .loop .inv .left .within)
 
 part-rule-of-end : tie.Need-part-rule-of-end Inv-loop μ-loop
-part-rule-of-end c = let t = sound-turn c .before in omega (arith, t .loop .inv .behind, t .loop .inv .within)
+part-rule-of-end c = let t = sound-turn c .before in omega (arith, t .loop .inv .behind, t .loop .inv .left .within)
 
 sub-rule-of-2 : tie.Need-sub-rule-of-2 Inv-loop μ-loop
 sub-rule-of-2 c = omega (arith, fits (sound-turn (c .before)))

@@ -2,15 +2,35 @@
 use mathlib.Core.Path.{_≡_, sym, _∙_}
 use mathlib.Core.Bool.{Bool, true, false, _&&_}
 use mathlib.Core.Option.{some}
-use Rattle.stream_spec.specs.Layout.{laneTypes, anyReserved}
+use borrow.Author.Tests.{not-true, not-false}
+use Rattle.stream_spec.specs.Layout.{bit, tvalidBit, aresetnBit, laneTypes, anyReserved}
 use Rattle.stream_spec.specs.Handshake.{differs}
 use Rattle.stream_judge.proofs.Rules.{rule-1, rule-0-reset, rule-2, rule-0-idle, rule-3, rule-4, reserved-is, moved-needs}
 use borrow.Author.Needs.{needs}
 use Rattle.stream_judge.proofs.rule_of.Statement.{statement}
 use Rattle.stream_judge.proofs.rule_of.Tie as tie
 
-abbrev entry : tie.After-shared-slice-known2 → tie.Start
-entry c = c .before .before
+abbrev entry : tie.After-aresetn → tie.Start
+entry c = c .before .before .before .before
+
+-- what the two flags are, where their tests gave t
+reset-told : (c : tie.After-aresetn) (t : Bool) → c .aresetn .result ≡ t → bit aresetnBit (entry c .args .h .flags) ≡ t
+reset-told c t e = sym (c .aresetn .ensures) ∙ e
+
+valid-told : (c : tie.After-aresetn) (t : Bool) → c .before .tvalid .result ≡ t → bit tvalidBit (entry c .args .h .flags) ≡ t
+valid-told c t e = sym (c .before .tvalid .ensures) ∙ e
+
+in-reset : (c : tie.Then1) → bit aresetnBit (entry (c .before) .args .h .flags) ≡ false
+in-reset c = let r = c .before in reset-told r false (not-true (r .aresetn .result) (c .if1 .taken))
+
+out-of-reset : (c : tie.Else1) → bit aresetnBit (entry (c .before) .args .h .flags) ≡ true
+out-of-reset c = let r = c .before in reset-told r true (not-false (r .aresetn .result) (c .if1 .left))
+
+idle : (c : tie.Then3) → bit tvalidBit (entry (c .before .before) .args .h .flags) ≡ false
+idle c = let r = c .before .before in valid-told r false (not-true (r .before .tvalid .result) (c .if3 .taken))
+
+valid : (c : tie.Else3) → bit tvalidBit (entry (c .before .before) .args .h .flags) ≡ true
+valid c = let r = c .before .before in valid-told r true (not-false (r .before .tvalid .result) (c .if3 .left))
 
 -- the call, where ARESETn and TVALID are high
 abbrev high : tie.Else3 → tie.Start
@@ -28,17 +48,27 @@ still c = high (c .before .before .before)
 reserved-told : (c : tie.After-reserved) (t : Bool) → c .reserved .result ≡ t → anyReserved (laneTypes (still c .args .s) (still c .args .rec .now)) ≡ t
 reserved-told c t e = reserved-is (still c .pre) (c .reserved .result) (c .reserved .ensures) ∙ e
 
+tvalid-requires : tie.Need-tvalid-requires
+tvalid-requires c κs = search needs
+
+aresetn-requires : tie.Need-aresetn-requires
+aresetn-requires c κs = search needs
+
 returns : tie.Need-returns
-returns c = rule-1 (entry (c .before .before) .pre) (c .before .if1 .taken) (c .if2 .taken)
+returns c =
+    let r = c .before .before in
+    rule-1 (entry r .pre) (in-reset (c .before)) (valid-told r true (c .if2 .taken))
 
 returns-2 : tie.Need-returns-2
-returns-2 c = rule-0-reset (entry (c .before .before) .pre) (c .before .if1 .taken) (c .if2 .left)
+returns-2 c =
+    let r = c .before .before in
+    rule-0-reset (entry r .pre) (in-reset (c .before)) (valid-told r false (c .if2 .left))
 
 returns-3 : tie.Need-returns-3
-returns-3 c = rule-2 (entry (c .before .before .before) .pre) (c .before .before .if1 .left) (c .before .if3 .taken) (c .if4 .taken)
+returns-3 c = let i = c .before in rule-2 (entry (i .before .before) .pre) (out-of-reset (i .before)) (idle i) (c .if4 .taken)
 
 returns-4 : tie.Need-returns-4
-returns-4 c = rule-0-idle (entry (c .before .before .before) .pre) (c .before .before .if1 .left) (c .before .if3 .taken) (c .if4 .left)
+returns-4 c = let i = c .before in rule-0-idle (entry (i .before .before) .pre) (out-of-reset (i .before)) (idle i) (c .if4 .left)
 
 moved-requires : tie.Need-moved-requires
 moved-requires c κs = moved-needs (high c .pre)
@@ -46,7 +76,7 @@ moved-requires c κs = moved-needs (high c .pre)
 returns-5 : tie.Need-returns-5
 returns-5 c =
     let h = c .before .before in
-    rule-3 (high h .pre) (h .before .if1 .left) (h .if3 .left) (moved-told (c .before) true (c .if5 .taken))
+    rule-3 (high h .pre) (out-of-reset (h .before)) (valid h) (moved-told (c .before) true (c .if5 .taken))
 
 reserved-requires : tie.Need-reserved-requires
 reserved-requires c κs = search needs
@@ -55,18 +85,20 @@ returns-6 : tie.Need-returns-6
 returns-6 c =
     let n = c .before .before in
     let h = n .before .before in
-    rule-4 (high h .pre) (h .before .if1 .left) (h .if3 .left) (moved-told (n .before) false (n .if5 .left)) true (reserved-told (c .before) true (c .if6 .taken))
+    rule-4 (high h .pre) (out-of-reset (h .before)) (valid h) (moved-told (n .before) false (n .if5 .left)) true (reserved-told (c .before) true (c .if6 .taken))
 
 returns-7 : tie.Need-returns-7
 returns-7 c =
     let n = c .before .before in
     let h = n .before .before in
-    rule-4 (high h .pre) (h .before .if1 .left) (h .if3 .left) (moved-told (n .before) false (n .if5 .left)) false (reserved-told (c .before) false (c .if6 .left))
+    rule-4 (high h .pre) (out-of-reset (h .before)) (valid h) (moved-told (n .before) false (n .if5 .left)) false (reserved-told (c .before) false (c .if6 .left))
 
 pub rule-of-spec : {M : Type 1} → statement M
 rule-of-spec =
     tie.close
     (tie.spec
+    tvalid-requires
+    aresetn-requires
     returns
     returns-2
     returns-3
