@@ -13,7 +13,7 @@ use lib.ListN.{length, getD, take, drop, replicate, length-map}
 use lib.Seq.{slice, slice-cons, length-slice}
 use Rattle.stream_spec.specs.Packed.{fitted}
 use Rattle.stream_spec.specs.Layout.{bitOf, maskOf, Kept, octet, position, keepBit, strbBit, laneOctet}
-use Rattle.stream_spec.proofs.Legal.{mask-fits}
+use Rattle.stream_spec.proofs.Bits.{mask-fits}
 use Rattle.words.specs.Words.{padded}
 use Rattle.repack_scratch.specs.Codes.{dataCode, heldCode, heldCodes, keptOf}
 use Rattle.repack_scratch.proofs.Held.{length-held}

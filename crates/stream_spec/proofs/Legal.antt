@@ -1,11 +1,11 @@
 -- Legal streams: what is known of their transfers, and that transfers with those facts make legal streams. So the packed
 -- form, lane-keeping slices and harvested takes are legal. Assumes nothing.
 use mathlib.Core.Path.{_≡_, refl, ap, _∙_}
-use mathlib.Core.Bool.{Bool, true, false}
+use mathlib.Core.Bool.{Bool, false}
 use mathlib.Core.List.{List, [], _∷_, _++_, map}
 use mathlib.Core.Option.{Option, none, some}
 use Prim.Native.Nat.{ℕ, zero, suc, _/_, _^_, _≤_, _<_}
-use native.Mathlib.Nat.{mul-mod-left, pow-suc}
+use native.Mathlib.Nat.{mul-mod-left}
 use native.Mathlib.Omega.{arith}
 use lib.Pow.{pow-mono}
 use lib.ListN.{length, getD, take, drop, length-map}
@@ -16,11 +16,12 @@ use Rattle.refusal.specs.declared.Refusal.the-variants.{Field, Reserved}
 use Rattle.refusal.specs.Checks.{check, first}
 use Rattle.stream_spec.specs.Checks.{fieldFault, reservedFault, transferFlags, transferChecks}
 use Rattle.stream_spec.specs.Legal.{Octets, Legal}
+use Rattle.stream_spec.proofs.Bits.{bit-one, odd-mask, half-mask, mask-fits, two-octets}
 use Rattle.stream_spec.proofs.Fields.{fields-of, of-fields}
 use Rattle.stream_spec.proofs.Pack.{Wide, wide-pack, wide-slices}
 use Rattle.stream_spec.proofs.Each.{EachLane, EachTransfer, each-items, each-pack, each-slices}
 use Rattle.refusal.proofs.First.{first-none}
-use Rattle.stream_spec.proofs.Records.{odd-mask, half-mask, two-octets, length-octets, records-joined, octets-sized}
+use Rattle.stream_spec.proofs.Records.{length-octets, records-joined, octets-sized}
 
 -- ---- what a legal record's pair and kept bytes are
 
@@ -128,19 +129,13 @@ wide-transfers s xs = records-wide s (records s xs)
 
 -- ---- from transfers to a legal stream
 
-pub mask-fits : (bs : List Bool) → maskOf bs < 2 ^ length bs
-mask-fits [] = omega arith
-mask-fits (true ∷ bs) = rw (pow-suc 2 (length bs)) (omega (arith, mask-fits bs))
-mask-fits (false ∷ bs) = rw (pow-suc 2 (length bs)) (omega (arith, mask-fits bs))
-
 mask-octets : (bs : List Bool) → length bs ≤ widthMost → Octets (maskOctets bs)
 mask-octets bs h =
     let small : maskOf bs < 2 ^ widthMost = omega (arith, mask-fits bs, pow-mono h) in
     (omega arith, (omega arith, tt))
 
 pub bit-octet : (b : Bool) → bitOf b < octetValues
-bit-octet true = omega arith
-bit-octet false = omega arith
+bit-octet b = omega (arith, bit-one b)
 
 data-octets : (ls : List (Option Kept)) → EachLane PairFits ByteFits ls → Octets (map laneOctet ls)
 data-octets [] h = tt
@@ -181,8 +176,7 @@ record-unreserved s t h =
     rw (two-octets (maskOf (map keepBit (t .lanes))), two-octets (maskOf (map strbBit (t .lanes))), ← h) (lanes-unreserved (t .lanes))
 
 pub bit-low : (b : Bool) → bitOf b < 2 ^ transferFlags
-bit-low true = omega arith
-bit-low false = omega arith
+bit-low b = omega (arith, bit-one b)
 
 record-fields : (s : Shape) (t : Transfer Kept) → length (t .lanes) ≡ s .width → PairFits (t .pair) → fieldFault transferFlags s (octetsOf t) ≡ false
 record-fields s t h p =

@@ -2,6 +2,7 @@
 pub mod Cases
 pub mod Once
 pub mod Bools
+pub mod Bits
 pub mod Cut
 pub mod Pack
 pub mod Hold

@@ -8,6 +8,10 @@ use lib.ListN.{length, take, drop, length-append, length-drop, take-append-drop,
 use lib.Seq.{take-all, take-at, drop-at, drop-drop, length-take-le}
 use Rattle.stream_spec.specs.Memory.{inFront, Writing, Writes}
 
+-- what is lent from an octet on, to the end, is all that stands there
+pub lent-rest : (xs : List ℕ) (from : ℕ) → take (length xs - from) (drop from xs) ≡ drop from xs
+lent-rest xs from = take-all (length xs - from) (drop from xs) (omega (arith, length-drop from xs))
+
 -- ---- the start and the end
 
 -- nothing is written yet

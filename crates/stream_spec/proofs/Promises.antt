@@ -7,7 +7,7 @@ use borrow.Author.Tests.{eqb-true, eqb-false, eq-eqb, ne-eqb, ltb-true, lt-ltb, 
 use lib.Dec.{eqb, ltb}
 use Prim.Native.Nat.{ℕ, zero, suc, _+_, _-_, _*_, _/_, _%_, _^_, _≤_, _<_}
 use lib.Pow.{pow-pos, pow-mono, shr-shr}
-use native.Mathlib.Nat.{le-trans, one-mul, mod-le, le-div-iff-mul-le, div-one, div-div-eq-div-mul, pow-suc, mul-comm, suc-mul, zero-mul, div-add-mod', mul-le-mul-right, div-mul-le-self}
+use native.Mathlib.Nat.{le-trans, one-mul, mod-le, le-div-iff-mul-le, suc-mul, zero-mul, div-add-mod', mul-le-mul-right, div-mul-le-self}
 use native.Mathlib.Omega.{arith}
 use lib.ListN.{length, getD, drop, length-map, length-append, length-drop}
 use mathlib.Core.Option.{none}
@@ -18,6 +18,7 @@ use Rattle.stream_spec.specs.Layout.{bit, odd, size, tkeep, tstrb, atWid
 use Rattle.stream_spec.specs.Checks.{widthCheck, lengthCheck, indexCheck}
 use Rattle.stream_spec.specs.Answers.{dataRefusal, dataPart}
 use Rattle.stream_spec.specs.Promises.{SetAbove, FieldBits, DataOctets, WidthExactly, LengthExactly, ByteTypes, RepackingKeeps, PackedLegal, PackedLength, PackedFull, PackedOnly, Hold, Joins, Canonical, LaneKeeping, Findings, HarvestLegal, HarvestRepacks}
+use Rattle.stream_spec.proofs.Bits.{bit-zero, bit-suc}
 use Rattle.stream_spec.proofs.Size.{data-long}
 use Rattle.stream_spec.proofs.Bools.{or-split}
 use Rattle.refusal.proofs.First.{first-none}
@@ -48,12 +49,6 @@ lengthExactly s xs =
     )
 
 -- ---- byte types
-
-bit-zero : (n : ℕ) → bit 0 n ≡ odd n
-bit-zero n = rw (div-one n) refl
-
-bit-suc : (x n : ℕ) → bit (suc x) n ≡ bit x (n / 2)
-bit-suc x n = rw (pow-suc 2 x, mul-comm (2 ^ x) 2, ← div-div-eq-div-mul n 2 (2 ^ x)) refl
 
 -- a number above 0 has a bit that is set; f bounds how far up
 some-bit : (f n : ℕ) → 0 < n → n ≤ f → SetAbove 0 n

@@ -1,7 +1,6 @@
 -- Records and transfers: a stream of whole records divides into them and is joined from them, and a transfer's octets
 -- stand for that transfer. Assumes nothing.
 use mathlib.Core.Path.{_≡_, refl, sym, ap, ap₂, _∙_}
-use mathlib.Core.Bool.{Bool, true, false}
 use mathlib.Core.List.{List, [], _∷_, _++_, map, append-assoc}
 use mathlib.Core.Option.{Option, none, some}
 use Prim.Native.Nat.{ℕ, zero, suc, _+_, _-_, _*_, _/_, _%_, _≤_, _<_}
@@ -10,11 +9,11 @@ use native.Mathlib.Nat.{div-eq-sub-div, mod-eq-sub-mod, mod-eq-of-lt, zero-add, 
 use native.Mathlib.Decide.{decLe}
 use native.Mathlib.Omega.{arith}
 use lib.ListN.{length, take, drop, length-map, length-append, length-drop}
-use borrow.Author.Tests.{eq-eqb, ne-eqb}
 use lib.Seq.{length-take-le, take-all, take-at, drop-at, take-append-le, drop-append-le}
 use Rattle.stream_spec.specs.declared.Shape.{Shape}
 use Rattle.stream_spec.specs.Items.{Transfer, items}
-use Rattle.stream_spec.specs.Layout.{octetValues, bit, odd, bitOf, maskOf, size, atWidth, typesOf, laneType, laneOf, lanesOf, Kept, octet, position, keepBit, strbBit, laneOctet, transferOf, octetsOf, pieces, recordCount, records, joined, transfers, octets, streamItems, packedTransfers, packed}
+use Rattle.stream_spec.specs.Layout.{maskOf, size, atWidth, typesOf, laneType, laneOf, lanesOf, Kept, octet, position, keepBit, strbBit, laneOctet, transferOf, octetsOf, pieces, recordCount, records, joined, transfers, octets, streamItems, packedTransfers, packed}
+use Rattle.stream_spec.proofs.Bits.{bit-back, odd-mask, half-mask, two-octets}
 pub use Rattle.stream_spec.proofs.Size.{size-pos}
 use Rattle.stream_spec.proofs.Size.{length-octetsOf}
 use Rattle.stream_spec.proofs.Pack.{map-append, items-append, items-pack, wide-pack, Wide}
@@ -96,14 +95,6 @@ length-pieces z (suc n) xs = ap suc (length-pieces z n (drop z xs))
 
 -- ---- a transfer and its octets
 
-pub odd-mask : (b : Bool) (m : ℕ) → odd (bitOf b + 2 * m) ≡ b
-odd-mask true m = eq-eqb ((1 + 2 * m) % 2) 1 (omega arith)
-odd-mask false m = ne-eqb ((0 + 2 * m) % 2) 1 (omega arith)
-
-pub half-mask : (b : Bool) (m : ℕ) → (bitOf b + 2 * m) / 2 ≡ m
-half-mask true m = omega arith
-half-mask false m = omega arith
-
 -- a lane comes back from its two bits and its octet
 lane-back : (l : Option Kept) → laneOf (laneType (keepBit l) (strbBit l)) (laneOctet l) ≡ l
 lane-back none = refl
@@ -114,24 +105,15 @@ lanes-back : (ls : List (Option Kept))
     → lanesOf (typesOf (length ls) (maskOf (map keepBit ls)) (maskOf (map strbBit ls))) (map laneOctet ls) ≡ ls
 lanes-back [] = refl
 lanes-back (l ∷ ls) =
-    let k = maskOf (map keepBit ls) in
-    let t = maskOf (map strbBit ls) in
     rw (odd-mask (keepBit l) (maskOf (map keepBit ls)), odd-mask (strbBit l) (maskOf (map strbBit ls)))
     (rw (half-mask (keepBit l) (maskOf (map keepBit ls)), half-mask (strbBit l) (maskOf (map strbBit ls)))
     (rw (lane-back l, lanes-back ls) refl))
-
-pub two-octets : (m : ℕ) → m % octetValues + octetValues * (m / octetValues) ≡ m
-two-octets m = omega arith
-
-last-back : (b : Bool) → bit 0 (bitOf b) ≡ b
-last-back true = refl
-last-back false = refl
 
 -- a transfer of the shape's width comes back from its octets
 pub transfer-back : (s : Shape) (t : Transfer Kept) → length (t .lanes) ≡ s .width → transferOf s (octetsOf t) ≡ t
 transfer-back s t h =
     let short : length (map laneOctet (t .lanes)) ≤ s .width = omega (arith, length-map (t .lanes) laneOctet) in
-    rw (last-back (t .last), two-octets (maskOf (map keepBit (t .lanes))), two-octets (maskOf (map strbBit (t .lanes))))
+    rw (bit-back (t .last), two-octets (maskOf (map keepBit (t .lanes))), two-octets (maskOf (map strbBit (t .lanes))))
     (rw (take-all (s .width) (map laneOctet (t .lanes)) short, ← h, lanes-back (t .lanes)) refl)
 
 -- ---- transfers and their octets
