@@ -3,8 +3,8 @@ use mathlib.Core.Bool.{Bool, cond}
 use mathlib.Core.List.{List}
 use Prim.Native.Nat.{ℕ}
 use Rattle.stream_spec.specs.declared.Shape.{Shape}
-use Rattle.stream_spec.specs.Layout.{flags, pairOf, tkeep, tstrb}
-use Rattle.stream_spec.specs.Checks.{headFault, fieldFault, reservedFault, transferFlags}
+use Rattle.stream_spec.specs.Layout.{flags, pairOf, tkeep, tstrb, typesOf, anyReserved}
+use Rattle.stream_spec.specs.Checks.{headFault, transferFlags}
 use Rattle.stream_record.specs.declared.Header.{Header}
 use Rattle.stream_record.specs.declared.Fault.{Fault}
 use Rattle.stream_record.specs.declared.Fault.the-variants.{Sound, Field, Reserved}
@@ -18,5 +18,5 @@ abbrev pub headerFault : ℕ → Shape → Header → Bool
 headerFault used s h = headFault used s (h .flags) (h .tdest) (h .keep) (h .strb)
 
 -- the fault of a transfer record, FIELD before RESERVED
-abbrev pub faultOf : Shape → List ℕ → Fault
-faultOf s r = cond (fieldFault transferFlags s r) Field (cond (reservedFault s r) Reserved Sound)
+abbrev pub faultOf : Shape → Header → Fault
+faultOf s h = cond (headerFault transferFlags s h) Field (cond (anyReserved (typesOf (s .width) (h .keep) (h .strb))) Reserved Sound)

@@ -1,3 +1,4 @@
+pub mod Checked
 pub mod Header
 pub mod Usual
 pub mod Write

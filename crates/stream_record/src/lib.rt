@@ -1,12 +1,21 @@
 // A record's octets in code: its size, its header's fields, the faults of a width, a length and a record. What each octet is
 // stands in stream_spec's Layout, against which everything here and in the crates above is proved; the numbers of the layout
 // have their names in `layout`. Functions with a `requires` are for the crates above, which test first.
+mod checks;
+mod faults;
 pub mod layout;
 mod lookup;
 mod masks;
 mod usual;
 pub mod write;
 
+pub use checks::check_input;
+pub use checks::check_length;
+pub use checks::check_shapes;
+pub use checks::check_take;
+pub use faults::fault_of;
+pub use faults::find_fault;
+pub use faults::record_fault;
 use layout::CAPTURE_MOST;
 use layout::FLAGS;
 pub use layout::HEAD_OCTETS;
@@ -21,6 +30,7 @@ pub use lookup::data_start;
 pub use lookup::find_data;
 pub use masks::breaks;
 pub use masks::must_be_zero;
+use refusal::Refusal;
 use stream_spec::Shape;
 pub use usual::is_usual;
 use words::widen4;
@@ -44,6 +54,12 @@ pub struct Header {
 pub struct Zeros {
     pub low: u32,
     pub high: u32,
+}
+
+// What tests in a stated order answer: the first refusal, if there is one.
+pub enum Checked {
+    Passed,
+    Refused(Refusal),
 }
 
 // What is wrong with a transfer record.
