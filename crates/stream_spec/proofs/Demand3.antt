@@ -17,7 +17,8 @@ use Rattle.stream_spec.specs.Demand3.{Call, answerTo, accepted, Standing
 use Rattle.stream_spec.proofs.Pack.{pack-parted}
 use Rattle.stream_spec.proofs.Records.{packed-items, streamItems-append, octets-append}
 use Rattle.stream_spec.proofs.Legal.{packed-legal}
-use Rattle.stream_spec.proofs.Repack.{WidthFits, Takes, takes-whole, accepted-of, of-accepted, result-packed}
+use Rattle.stream_spec.proofs.Passed.{WidthFits}
+use Rattle.stream_spec.proofs.Repack.{Takes, takes-whole, accepted-of, of-accepted, result-packed}
 
 -- ---- lists of calls
 

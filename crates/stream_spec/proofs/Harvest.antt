@@ -1,11 +1,10 @@
 -- What an accepted harvest writes is a legal stream: its cycles had no bad field, and no rule is broken, so none of those
 -- with ARESETn and TVALID high has a reserved lane (R4). Assumes nothing.
-use mathlib.Core.Path.{_≡_, refl, ap}
+use mathlib.Core.Path.{_≡_, refl, ap, _∙_}
 use mathlib.Core.Bool.{Bool, true, false, _&&_}
 use mathlib.Core.List.{List, [], _∷_, _++_, map}
 use mathlib.Core.Option.{Option, none, some}
-use Prim.Native.Nat.{ℕ, suc, _*_, _%_, _≤_, _<_}
-use borrow.Author.Tests.{le-ltb, eq-eqb}
+use Prim.Native.Nat.{ℕ, suc, _*_, _≤_, _<_}
 use native.Mathlib.Nat.{le-trans, mul-mod-left, mul-le-mul-right, div-mul-le-self}
 use native.Mathlib.Omega.{arith}
 use lib.ListN.{length, length-map}
@@ -13,17 +12,18 @@ use Rattle.refusal.specs.declared.Refusal.the-variants.{Field}
 use Rattle.stream_spec.specs.declared.Shape.{Shape}
 use Rattle.stream_spec.specs.Layout.{tlast, tvalid, aresetn, tready, laneTypes, anyReserved, size, records, recordCount, joined, packed}
 use Rattle.refusal.specs.Checks.{Check, check, first}
-use Rattle.stream_spec.specs.Checks.{fieldFault, reservedFault, transferFlags, cycleFlags, captureMost, transferChecks, cycleChecks, widthCheck, lengthCheck, roomCheck}
+use Rattle.stream_spec.specs.Checks.{fieldFault, reservedFault, transferFlags, cycleFlags, captureMost, transferChecks, cycleChecks, shapeChecks, lengthCheck, takeChecks, roomCheck}
 use Rattle.stream_spec.specs.Handshake.{r4, Finding, findings, transferred, handshakes, asTransfer, harvested}
 use Rattle.stream_spec.specs.Answers.{judgeChecks, uncleanCheck, harvestRefusal}
 use Rattle.stream_spec.specs.Legal.{Octets}
+use Rattle.stream_spec.specs.Walk.{Passed}
 use Rattle.stream_spec.specs.Promises.{HarvestLegal, HarvestRepacks}
 use Rattle.stream_spec.proofs.Bools.{and-left}
 use Rattle.refusal.proofs.First.{first-none, none-first, append-none, append-passed}
 use Rattle.stream_spec.proofs.Records.{size-pos, Sized, length-pieces, length-joined, records-joined, records-sized}
 use Rattle.stream_spec.proofs.Fields.{fields-of, of-fields}
 use Rattle.stream_spec.proofs.Legal.{bit-octet, bit-low, octets-append, octets-drop, EachOctets, pieces-octets, Faultless, of-faultless}
-use Rattle.stream_spec.proofs.Repack.{width-fits, fits-width, length-fits}
+use Rattle.stream_spec.proofs.Passed.{checks-passed, passed-shape, fits-shapes, fits-length}
 use Rattle.stream_spec.proofs.Findings.{none-here}
 
 -- ---- what is known of each cycle of a take that harvest accepts
@@ -105,27 +105,24 @@ fewer (c ∷ cs) = go (transferred c) refl (fewer cs)
 -- ---- harvest
 
 -- what the checks of harvest let through
-harvest-good : (s : Shape) (xs : List ℕ) (room : ℕ) → harvestRefusal s xs room ≡ none
-    → (widthCheck (s .width) .found ≡ false) × Good s (records s xs) × (lengthCheck s xs .found ≡ false)
+harvest-good : (s : Shape) (xs : List ℕ) (room : ℕ) → harvestRefusal s xs room ≡ none → Passed s xs × Good s (records s xs)
 harvest-good s xs room e =
     let rules = map uncleanCheck (findings s 0 none (records s xs)) in
     let roomy = roomCheck (harvested s xs) room ∷ [] in
     let j = append-none (judgeChecks s xs) (rules ++ roomy) e in
-    let w = first-none (widthCheck (s .width)) (lengthCheck s xs ∷ cycleChecks s 0 (records s xs)) (j .0) in
-    let l = first-none (lengthCheck s xs) (cycleChecks s 0 (records s xs)) (w .1) in
+    let t = append-none (takeChecks s xs) (cycleChecks s 0 (records s xs)) (j .0) in
     let u = append-none rules roomy (j .1) in
-    (w .0, good s none (records s xs) 0 0 (l .1) (unclean-none (findings s 0 none (records s xs)) (u .0)), l .0)
+    (checks-passed s xs (t .0), good s none (records s xs) 0 0 (t .1) (unclean-none (findings s 0 none (records s xs)) (u .0)))
 
 pub harvestLegal : HarvestLegal
 harvestLegal s xs room o e =
     let g = harvest-good s xs room e in
-    let w = width-fits (s .width) (g .0) in
     let hs = handshakes (records s xs) in
     let f = fit s (records s xs) (records-sized s xs) (pieces-octets (recordCount s xs) (size s) xs o) (g .1) in
     let long = length-joined (size s) (map asTransfer hs) (f .sized) in (
       record {
-        widthLow = w .low;
-        widthHigh = w .high;
+        widthLow = g .0 .low;
+        widthHigh = g .0 .high;
         octets = f .octets;
         whole = rw long (mul-mod-left (length (map asTransfer hs)) (size s));
         faultless = rw (records-joined s (map asTransfer hs) (f .sized)) (of-faultless s 0 (map asTransfer hs) (f .faultless));
@@ -140,16 +137,14 @@ harvestLegal s xs room o e =
       ),
     )
 
--- a whole number of records, no longer than a take, passes the check of a length
-length-passes : (s : Shape) (xs : List ℕ) → length xs ≤ captureMost → length xs % size s ≡ 0 → lengthCheck s xs .found ≡ false
-length-passes s xs h w = rw (le-ltb captureMost (length xs) h, eq-eqb (length xs % size s) 0 w) refl
-
 pub harvestRepacks : HarvestRepacks
 harvestRepacks s xs room v lent o e w =
     let g = harvest-good s xs room e in
     let l = harvestLegal s xs room o e in
     let ys = harvested s xs in
-    let short : length (harvested s xs) ≤ captureMost = le-trans (l .1) (length-fits s xs (g .2) .0) in
-    let long = length-passes s ys short (l .0 .whole) in
-    rw (g .0, fits-width v (record { low = w .0; high = w .1 }), long)
+    let short : length (harvested s xs) ≤ captureMost = le-trans (l .1) (g .0 .short) in
+    let shape = passed-shape s xs (g .0) in
+    let later = transferChecks s 0 (records s ys) ++ roomCheck (packed s v ys) lent ∷ [] in
+    append-passed (shapeChecks s (v ∷ [])) (lengthCheck s ys ∷ later) (fits-shapes s v shape (record { low = w .0; high = w .1 }))
+    ∙ rw (fits-length s ys short (l .0 .whole))
     (append-passed (transferChecks s 0 (records s ys)) (roomCheck (packed s v ys) lent ∷ []) (l .0 .faultless))

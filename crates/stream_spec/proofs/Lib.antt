@@ -12,6 +12,7 @@ pub mod Fields
 pub mod Records
 pub mod RecordChecks
 pub mod Legal
+pub mod Passed
 pub mod Repack
 pub mod Walk
 pub mod Memory

@@ -15,14 +15,15 @@ use Rattle.stream_spec.specs.declared.Shape.{Shape}
 use Rattle.stream_spec.specs.Items.{Item, Transfer, items}
 use Rattle.stream_spec.specs.Packed.{pack, sliceTransfer, slices}
 use Rattle.stream_spec.specs.Layout.{bit, odd, size, tkeep, tstrb, atWidth, nullLane, laneType, typesOf, Kept, dataOctets, recordCount, records, transferOf, transfers, octets, streamItems, slicedTransfers}
-use Rattle.stream_spec.specs.Checks.{widthCheck, lengthCheck, indexCheck}
+use Rattle.stream_spec.specs.Checks.{takeChecks, indexCheck}
+use Rattle.stream_spec.specs.Walk.{Passed}
 use Rattle.stream_spec.specs.Answers.{dataRefusal, dataPart}
 use Rattle.stream_spec.specs.Promises.{SetAbove, FieldBits, DataOctets, WidthExactly, LengthExactly, ByteTypes, RepackingKeeps, PackedLegal, PackedLength, PackedFull, PackedOnly, Hold, Joins, Canonical, LaneKeeping, Findings, HarvestLegal, HarvestRepacks}
 use Rattle.stream_spec.proofs.Bits.{bit-zero, bit-suc}
 use Rattle.stream_spec.proofs.Size.{data-long}
 use Rattle.stream_spec.proofs.Bools.{or-split}
-use Rattle.refusal.proofs.First.{first-none}
-use Rattle.stream_spec.proofs.Repack.{WidthFits, width-fits}
+use Rattle.refusal.proofs.First.{first-none, append-none}
+use Rattle.stream_spec.proofs.Passed.{checks-passed}
 use Rattle.stream_spec.proofs.Pack.{pack-parted, length-spread, items-slices, wide-slices}
 use Rattle.stream_spec.proofs.Hold.{hold}
 use Rattle.stream_spec.proofs.Records.{packed-items, length-packed, transfers-back}
@@ -98,12 +99,11 @@ record-there s xs k h =
 data-of : (s : Shape) (xs : List ℕ) (k : ℕ) → k < recordCount s xs → length (dataOctets s (drop (k * size s) xs)) ≡ s .width
 data-of s xs k h = data-long s (drop (k * size s) xs) (omega (arith, length-drop (k * size s) xs, record-there s xs k h))
 
-pub data-there : (s : Shape) (xs : List ℕ) (k : ℕ) → dataRefusal s xs k ≡ none → WidthFits (s .width) × (k < recordCount s xs)
+pub data-there : (s : Shape) (xs : List ℕ) (k : ℕ) → dataRefusal s xs k ≡ none → Passed s xs × (k < recordCount s xs)
 data-there s xs k e =
-    let w = first-none (widthCheck (s .width)) (lengthCheck s xs ∷ indexCheck s xs k ∷ []) e in
-    let l = first-none (lengthCheck s xs) (indexCheck s xs k ∷ []) (w .1) in
-    let i = first-none (indexCheck s xs k) [] (l .1) in
-    (width-fits (s .width) (w .0), leb-false (recordCount s xs) k (i .0))
+    let t = append-none (takeChecks s xs) (indexCheck s xs k ∷ []) e in
+    let i = first-none (indexCheck s xs k) [] (t .1) in
+    (checks-passed s xs (t .0), leb-false (recordCount s xs) k (i .0))
 
 pub handsOut : DataOctets
 unfolding dataPart

@@ -1,43 +1,29 @@
 -- What an accepted repacking call means: its widths are from 1 to 16, its input is a take of whole records without fault,
 -- and its result is the packed form. Assumes nothing.
 use mathlib.Core.Path.{_≡_, refl}
-use mathlib.Core.Bool.{false, not}
+use mathlib.Core.Bool.{false}
 use mathlib.Core.List.{List, [], _∷_, _++_}
 use mathlib.Core.Option.{Option, none, some}
 use Prim.Native.Nat.{ℕ, _*_, _%_, _≤_}
 use native.Mathlib.Omega.{arith}
-use borrow.Author.Tests.{eqb-false, eqb-true, ltb-false, le-ltb, ne-eqb, not-false}
-use lib.Dec.{eqb, ltb}
+use borrow.Author.Tests.{ltb-false, le-ltb}
 use lib.ListN.{length, drop}
 use lib.Seq.{take-at}
 use Rattle.refusal.specs.declared.Refusal.{Refusal}
 use Rattle.stream_spec.specs.declared.Shape.{Shape}
-use Rattle.stream_spec.specs.Layout.{widthMost, size, atWidth, records, packedTransfers, packed}
+use Rattle.stream_spec.specs.Layout.{size, atWidth, records, packedTransfers, packed}
 use Rattle.refusal.specs.Checks.{first}
-use Rattle.stream_spec.specs.Checks.{widthCheck, captureMost, lengthCheck, transferChecks, roomCheck}
+use Rattle.stream_spec.specs.Checks.{shapeChecks, lengthCheck, transferChecks, roomCheck}
 use Rattle.stream_spec.specs.Answers.{written, repackRefusal, repackAnswer, repackAfter}
 use Rattle.stream_spec.specs.Demand3.{Call, answerTo, accepted, resultOf}
 use Rattle.refusal.proofs.First.{first-none, none-first, append-none, none-append}
-use Rattle.stream_spec.proofs.Bools.{neither}
+pub use Rattle.stream_spec.proofs.Passed.{WidthFits, width-fits, fits-width, length-fits}
+use Rattle.stream_spec.proofs.Passed.{ShapeFits, shapes-fit, fits-shapes}
 use Rattle.stream_spec.proofs.Records.{length-packed}
-
--- what the checks of a width and of a length let through
-pub record WidthFits (w : ℕ) : Type 0 where
-  pub low : 1 ≤ w
-  pub high : w ≤ widthMost
-
-pub width-fits : (w : ℕ) → widthCheck w .found ≡ false → WidthFits w
-width-fits w e =
-    let h = neither (eqb w 0) (ltb widthMost w) e in
-    let positive : w ≡ 0 → ⊥ = eqb-false w 0 (h .0) in
-    record { low = omega arith; high = ltb-false widthMost w (h .1) }
-
-pub fits-width : (w : ℕ) → WidthFits w → widthCheck w .found ≡ false
-fits-width w h = rw (ne-eqb w 0 (omega (arith, h .low)), le-ltb widthMost w (h .high)) refl
 
 -- the input that a repacking call accepts
 pub record Takes (s : Shape) (xs : List ℕ) : Type 0 where
-  pub width : WidthFits (s .width)
+  pub shape : ShapeFits s
   pub length : lengthCheck s xs .found ≡ false
   pub faultless : first (transferChecks s 0 (records s xs)) ≡ none
 
@@ -50,31 +36,24 @@ pub record Repacks (s : Shape) (v : ℕ) (xs : List ℕ) (room : ℕ) : Type 0 w
 pub repacks-of : (s : Shape) (v : ℕ) (xs : List ℕ) (room : ℕ) → repackRefusal s v xs room ≡ none → Repacks s v xs room
 repacks-of s v xs room e =
     let later = transferChecks s 0 (records s xs) ++ roomCheck (packed s v xs) room ∷ [] in
-    let w = first-none (widthCheck (s .width)) (widthCheck v ∷ lengthCheck s xs ∷ later) e in
-    let o = first-none (widthCheck v) (lengthCheck s xs ∷ later) (w .1) in
-    let l = first-none (lengthCheck s xs) later (o .1) in
+    let w = append-none (shapeChecks s (v ∷ [])) (lengthCheck s xs ∷ later) e in
+    let h = shapes-fit s v (w .0) in
+    let l = first-none (lengthCheck s xs) later (w .1) in
     let r = append-none (transferChecks s 0 (records s xs)) (roomCheck (packed s v xs) room ∷ []) (l .1) in
     let f = first-none (roomCheck (packed s v xs) room) [] (r .1) in
     record {
-      input = record { width = width-fits (s .width) (w .0); length = l .0; faultless = r .0 };
-      output = width-fits v (o .0);
+      input = record { shape = h .0; length = l .0; faultless = r .0 };
+      output = h .1;
       fits = ltb-false room (length (packed s v xs)) (f .0);
     }
 
 pub of-repacks : (s : Shape) (v : ℕ) (xs : List ℕ) (room : ℕ) → Repacks s v xs room → repackRefusal s v xs room ≡ none
 of-repacks s v xs room h =
     let later = transferChecks s 0 (records s xs) ++ roomCheck (packed s v xs) room ∷ [] in
-    none-first (widthCheck (s .width)) (widthCheck v ∷ lengthCheck s xs ∷ later) (fits-width (s .width) (h .input .width))
-    (none-first (widthCheck v) (lengthCheck s xs ∷ later) (fits-width v (h .output))
+    none-append (shapeChecks s (v ∷ [])) (lengthCheck s xs ∷ later) (fits-shapes s v (h .input .shape) (h .output))
     (none-first (lengthCheck s xs) later (h .input .length)
     (none-append (transferChecks s 0 (records s xs)) (roomCheck (packed s v xs) room ∷ []) (h .input .faultless)
-    (none-first (roomCheck (packed s v xs) room) [] (le-ltb room (length (packed s v xs)) (h .fits)) refl))))
-
--- what the check of a length lets through: a whole number of records, no longer than a take
-pub length-fits : (s : Shape) (xs : List ℕ) → lengthCheck s xs .found ≡ false → (length xs ≤ captureMost) × (length xs % size s ≡ 0)
-length-fits s xs e =
-    let h = neither (ltb captureMost (length xs)) (not (eqb (length xs % size s) 0)) e in
-    (ltb-false captureMost (length xs) (h .0), eqb-true (length xs % size s) 0 (not-false (eqb (length xs % size s) 0) (h .1)))
+    (none-first (roomCheck (packed s v xs) room) [] (le-ltb room (length (packed s v xs)) (h .fits)) refl)))
 
 -- the input of an accepted call is a whole number of records
 pub takes-whole : (s : Shape) (xs : List ℕ) → Takes s xs → length xs % size s ≡ 0

@@ -20,7 +20,7 @@ use Rattle.stream_spec.specs.Legal.{Octets, Legal}
 use Rattle.stream_spec.specs.Demand3.{Part, whole, answerTo, accepted, partCall}
 use Rattle.stream_spec.specs.Tables.{WidthTested, areOctets, isNone, isLegal, LegalTested, LegalTable, ApartTable, dividesFrom, DividesTested, DividesTable, AcceptedTable, numbersAre, AllAcceptedTested, AllAcceptedTable}
 use Rattle.stream_spec.proofs.Bools.{and-left, and-right, no-such}
-use Rattle.stream_spec.proofs.Repack.{width-fits, fits-width}
+use Rattle.stream_spec.proofs.Passed.{width-fits, fits-width}
 
 -- ---- widths
 

@@ -3,35 +3,24 @@
 use mathlib.Core.Path.{_≡_, refl, sym, ap, ap₂, _∙_, subst}
 use mathlib.Core.Bool.{false}
 use mathlib.Core.List.{List, [], _∷_}
-use mathlib.Core.Option.{none}
 use Prim.Native.Nat.{ℕ, suc, _+_, _-_, _/_, _%_, _≤_, _<_}
 use native.Mathlib.Nat.{zero-div, add-div-right}
 use native.Mathlib.Omega.{arith}
 use lib.ListN.{length, getD, take, drop, length-drop, drop-of-length-le}
 use lib.Seq.{drop-drop, length-take-le, getD-take, getD-drop}
-use Rattle.refusal.specs.Checks.{first}
-use Rattle.refusal.proofs.First.{first-none}
 use Rattle.stream_spec.specs.declared.Shape.{Shape}
 use Rattle.stream_spec.specs.Layout.{size, recordCount, records}
-use Rattle.stream_spec.specs.Checks.{widthCheck, lengthCheck, takeChecks}
+use Rattle.stream_spec.specs.Checks.{widthCheck, lengthCheck}
 use Rattle.stream_spec.specs.Walk.{Passed, Left, recordAt}
 use Rattle.stream_spec.proofs.Records.{size-pos, FirstRecord, first-record, length-pieces}
-use Rattle.stream_spec.proofs.Repack.{width-fits, length-fits}
+pub use Rattle.stream_spec.proofs.Passed.{checks-passed}
+use Rattle.stream_spec.proofs.Passed.{width-fits, take-passed}
 
 -- ---- the start
 
 -- what the tests let through
 pub passed : (s : Shape) (xs : List ℕ) → widthCheck (s .width) .found ≡ false → lengthCheck s xs .found ≡ false → Passed s xs
-passed s xs w l =
-    let f = width-fits (s .width) w in
-    let n = length-fits s xs l in
-    record { low = f .low; high = f .high; whole = n .1; short = n .0 }
-
--- the same from the list of checks
-pub checks-passed : (s : Shape) (xs : List ℕ) → first (takeChecks s xs) ≡ none → Passed s xs
-checks-passed s xs e =
-    let w = first-none (widthCheck (s .width)) (lengthCheck s xs ∷ []) e in
-    passed s xs (w .0) (first-none (lengthCheck s xs) [] (w .1) .0)
+passed s xs w l = let f = width-fits (s .width) w in take-passed s xs (record { low = f .low; high = f .high }) l
 
 -- a take of whole records is left from octet 0 on
 pub left-start : (s : Shape) (xs : List ℕ) → length xs % size s ≡ 0 → Left s xs 0
