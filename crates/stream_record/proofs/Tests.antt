@@ -4,7 +4,7 @@ use mathlib.Core.Path.{_≡_, refl, sym, ap, _∙_}
 use mathlib.Core.Bool.{Bool, true, false, cond}
 use mathlib.Core.List.{List, [], _∷_, _++_}
 use mathlib.Core.Option.{Option, none, some}
-use Prim.Native.Nat.{ℕ, _≤_}
+use Prim.Native.Nat.{ℕ}
 use Rattle.refusal.specs.declared.Refusal.{Refusal}
 use Rattle.refusal.specs.declared.Refusal.the-variants.{Width}
 use Rattle.refusal.specs.Checks.{Check, first}
@@ -12,8 +12,7 @@ use Rattle.refusal.proofs.First.{first-none, append-found, append-passed, appen
 use Rattle.stream_spec.specs.declared.Shape.{Shape}
 use Rattle.stream_spec.specs.Checks.{widthCheck, shapeChecks, lengthCheck, takeChecks}
 use Rattle.stream_spec.specs.Walk.{Passed as PassedTests}
-use Rattle.stream_spec.proofs.Repack.{WidthFits, width-fits, fits-width}
-use Rattle.stream_spec.proofs.Walk.{passed, checks-passed}
+use Rattle.stream_spec.proofs.Passed.{WidthFits, ShapeFits, shape-fits as of-shape, shapes-fit as of-shapes, take-passed as passed-both, checks-passed}
 use Rattle.stream_record.specs.declared.Checked.{Checked}
 use Rattle.stream_record.specs.declared.Checked.the-variants.{Passed, Refused}
 use Rattle.stream_record.specs.Checked.{checkedOf}
@@ -35,32 +34,28 @@ module _ (r : Checked) (cs : List (Check Refusal)) (e : checkedOf r ≡ first cs
 
 -- an input shape, and with it the width of an output
 pub record ShapesFit (s : Shape) (v : ℕ) : Type 0 where
-  pub input : WidthFits (s .width)
+  pub input : ShapeFits s
   pub output : WidthFits v
 
 module _ (r : Checked) (h : r ≡ Passed) (s : Shape) where
-  pub shape-fits : checkedOf r ≡ first (shapeChecks s []) → WidthFits (s .width)
-  shape-fits e = width-fits (s .width) (first-none (widthCheck (s .width)) [] (passed-is r (shapeChecks s []) e h) .0)
+  pub shape-fits : checkedOf r ≡ first (shapeChecks s []) → ShapeFits s
+  shape-fits e = of-shape s (passed-is r (shapeChecks s []) e h)
 
   pub shapes-fit : (v : ℕ) → checkedOf r ≡ first (shapeChecks s (v ∷ [])) → ShapesFit s v
-  shapes-fit v e =
-      let w = first-none (widthCheck (s .width)) (widthCheck v ∷ []) (passed-is r (shapeChecks s (v ∷ [])) e h) in
-      record { input = width-fits (s .width) (w .0); output = width-fits v (first-none (widthCheck v) [] (w .1) .0) }
+  shapes-fit v e = let w = of-shapes s v (passed-is r (shapeChecks s (v ∷ [])) e h) in record { input = w .0; output = w .1 }
 
   pub take-passed : (xs : List ℕ) → checkedOf r ≡ first (takeChecks s xs) → PassedTests s xs
   take-passed xs e = checks-passed s xs (passed-is r (takeChecks s xs) e h)
 
+  -- a length that is tested after the shape
+  pub length-passed : (xs : List ℕ) → ShapeFits s → checkedOf r ≡ first (lengthCheck s xs ∷ []) → PassedTests s xs
+  length-passed xs w e = passed-both s xs w (first-none (lengthCheck s xs) [] (passed-is r (lengthCheck s xs ∷ []) e h) .0)
+
   pub input-passed : (v : ℕ) (xs : List ℕ) → checkedOf r ≡ first (shapeChecks s (v ∷ []) ++ lengthCheck s xs ∷ []) → PassedTests s xs × WidthFits v
   input-passed v xs e =
-      let w = first-none (widthCheck (s .width)) (widthCheck v ∷ lengthCheck s xs ∷ []) (passed-is r (shapeChecks s (v ∷ []) ++ lengthCheck s xs ∷ []) e h) in
-      let o = first-none (widthCheck v) (lengthCheck s xs ∷ []) (w .1) in
-      let l = first-none (lengthCheck s xs) [] (o .1) in
-      (passed s xs (w .0) (l .0), width-fits v (o .0))
-
-  -- a length that is tested after the shape
-  pub length-passed : (xs : List ℕ) → WidthFits (s .width) → checkedOf r ≡ first (lengthCheck s xs ∷ []) → PassedTests s xs
-  length-passed xs w e =
-      passed s xs (fits-width (s .width) w) (first-none (lengthCheck s xs) [] (passed-is r (lengthCheck s xs ∷ []) e h) .0)
+      let t = append-none (shapeChecks s (v ∷ [])) (lengthCheck s xs ∷ []) (passed-is r (shapeChecks s (v ∷ []) ++ lengthCheck s xs ∷ []) e h) in
+      let w = of-shapes s v (t .0) in
+      (passed-both s xs (w .0) (first-none (lengthCheck s xs) [] (t .1) .0), w .1)
 
 -- ---- the tests in code
 
