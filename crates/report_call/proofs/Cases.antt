@@ -3,7 +3,7 @@ use mathlib.Core.Path.{_≡_, refl}
 use mathlib.Core.List.{map}
 use Rattle.stream_spec.specs.Layout.{size}
 use Rattle.stream_spec.specs.Answers.{judgeAnswer, fillAfter, repackAnswer, downsizeAnswer}
-use Rattle.report_setup.specs.Grammar.{sheetOf}
+use Rattle.report_setup_spec.specs.Grammar.{sheetOf}
 use Rattle.text.specs.Text.{decimal}
 use Rattle.report_call.specs.Report.{reportOf}
 use Rattle.report_call.specs.Cases.{cases, computed, expected}

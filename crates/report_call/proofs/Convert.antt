@@ -18,9 +18,9 @@ use Rattle.refusal.proofs.First.{first-none, append-none}
 use Rattle.stream_spec.proofs.Pack.{wide-slices}
 use Rattle.stream_spec.proofs.Records.{length-octets, length-packed}
 use Rattle.stream_spec.proofs.Repack.{repacks-of}
-use Rattle.report_setup.specs.declared.Setup.{Setup}
-use Rattle.report_setup.specs.declared.Mode.{Mode}
-use Rattle.report_setup.specs.declared.Mode.the-variants.{Pack, Lanes}
+use Rattle.report_setup_spec.specs.declared.Setup.{Setup}
+use Rattle.report_setup_spec.specs.declared.Mode.{Mode}
+use Rattle.report_setup_spec.specs.declared.Mode.the-variants.{Pack, Lanes}
 use Rattle.report_call.specs.declared.Verdict.the-variants.{Clean, Refused}
 use Rattle.report_call.specs.declared.outcome.Found.{Found}
 use Rattle.report_call.specs.Report.{shapeOf, packetCount, convertAnswer, convertResult, tally, converted, convertedTransfers}

@@ -8,8 +8,8 @@ use Rattle.stream_spec.specs.declared.Shape.{Shape}
 use Rattle.stream_spec.specs.declared.Written.{Written}
 use Rattle.stream_spec.specs.Layout.{size, streamItems}
 use Rattle.stream_spec.specs.Legal.{Legal}
-use Rattle.report_setup.specs.declared.Setup.{Setup}
-use Rattle.report_setup.specs.declared.Mode.{Mode}
+use Rattle.report_setup_spec.specs.declared.Setup.{Setup}
+use Rattle.report_setup_spec.specs.declared.Mode.{Mode}
 use Rattle.report_call.specs.declared.Tally.{Tally}
 use Rattle.report_call.specs.declared.Summary.{Summary}
 use Rattle.report_call.specs.declared.outcome.Found.{Found}

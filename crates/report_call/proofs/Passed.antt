@@ -12,9 +12,9 @@ use Rattle.refusal.specs.Checks.{first}
 use Rattle.stream_spec.specs.Checks.{widthCheck}
 use Rattle.refusal.proofs.First.{first-none}
 use Rattle.stream_spec.proofs.Repack.{WidthFits, width-fits}
-use Rattle.report_setup.specs.declared.Setup.{Setup}
-use Rattle.report_setup.specs.declared.Mode.{Mode}
-use Rattle.report_setup.specs.declared.Mode.the-variants.{Pack, Lanes}
+use Rattle.report_setup_spec.specs.declared.Setup.{Setup}
+use Rattle.report_setup_spec.specs.declared.Mode.{Mode}
+use Rattle.report_setup_spec.specs.declared.Mode.the-variants.{Pack, Lanes}
 use Rattle.report_call.specs.declared.outcome.Checked.{Checked}
 use Rattle.report_call.specs.declared.outcome.Checked.the-variants.{Passed, Refused}
 use Rattle.report_call.specs.Report.{shapeOf, ratioChecks, setupChecks}

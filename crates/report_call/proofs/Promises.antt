@@ -28,14 +28,14 @@ use Rattle.refusal.proofs.First.{first-none, append-found, append-passed}
 use Rattle.stream_spec.proofs.Legal.{octets-append, octets-drop, EachOctets, pieces-octets}
 use Rattle.stream_spec.proofs.Records.{length-pieces, size-pos}
 use Rattle.stream_spec.proofs.Promises.{repackingKeeps, laneKeeping, harvestLegal, harvestRepacks, packedLegal}
-use Rattle.report_setup.specs.declared.Setup.{Setup}
-use Rattle.report_setup.specs.declared.Mode.{Mode}
-use Rattle.report_setup.specs.declared.Mode.the-variants.{Pack, Lanes}
-use Rattle.report_setup.specs.declared.Tlast.{Tlast}
-use Rattle.report_setup.specs.declared.Tlast.the-variants.{Wired, Absent}
-use Rattle.report_setup.specs.declared.Sheet.{Sheet}
-use Rattle.report_setup.specs.declared.Sheet.the-variants.{Read, Refused as NoSheet}
-use Rattle.report_setup.specs.Grammar.{sheetOf, text as ascii}
+use Rattle.report_setup_spec.specs.declared.Setup.{Setup}
+use Rattle.report_setup_spec.specs.declared.Mode.{Mode}
+use Rattle.report_setup_spec.specs.declared.Mode.the-variants.{Pack, Lanes}
+use Rattle.report_setup_spec.specs.declared.Tlast.{Tlast}
+use Rattle.report_setup_spec.specs.declared.Tlast.the-variants.{Wired, Absent}
+use Rattle.report_setup_spec.specs.declared.Sheet.{Sheet}
+use Rattle.report_setup_spec.specs.declared.Sheet.the-variants.{Read, Refused as NoSheet}
+use Rattle.report_setup_spec.specs.Grammar.{sheetOf, text as ascii}
 use Rattle.report_call.specs.declared.Tally.{Tally}
 use Rattle.report_call.specs.declared.Verdict.the-variants.{Clean, Broken, Refused}
 use Rattle.report_call.specs.Report.{Outcome, shapeOf, prepared, cyclesOf, transfersOf, packetCount, convertAnswer, convertResult, tally, converted, convertedTransfers, judged, captureOutcome, ratioChecks, setupChecks, unless, setupOutcome, sheetOutcome, outcomeOf, Whole, whole, reportOf, front}

@@ -16,12 +16,12 @@ use Rattle.refusal.specs.Checks.{first}
 use Rattle.stream_spec.specs.Checks.{widthCheck, lengthCheck}
 use Rattle.stream_spec.specs.Handshake.{harvested}
 use Rattle.stream_spec.specs.Answers.{judgeAnswer, fillAfter}
-use Rattle.report_setup.specs.declared.Setup.{Setup}
-use Rattle.report_setup.specs.declared.Tlast.{Tlast}
-use Rattle.report_setup.specs.declared.Tlast.the-variants.{Wired, Absent}
-use Rattle.report_setup.specs.declared.Sheet.{Sheet}
-use Rattle.report_setup.specs.declared.Sheet.the-variants.{Read, Refused as NoSheet}
-use Rattle.report_setup.specs.Grammar.{sheetOf}
+use Rattle.report_setup_spec.specs.declared.Setup.{Setup}
+use Rattle.report_setup_spec.specs.declared.Tlast.{Tlast}
+use Rattle.report_setup_spec.specs.declared.Tlast.the-variants.{Wired, Absent}
+use Rattle.report_setup_spec.specs.declared.Sheet.{Sheet}
+use Rattle.report_setup_spec.specs.declared.Sheet.the-variants.{Read, Refused as NoSheet}
+use Rattle.report_setup_spec.specs.Grammar.{sheetOf}
 use Rattle.text.specs.Text.{Put}
 use Rattle.report_call.specs.declared.Verdict.{Verdict}
 use Rattle.report_call.specs.declared.Verdict.the-variants.{Broken, Refused}

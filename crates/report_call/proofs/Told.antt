@@ -8,7 +8,7 @@ use native.Mathlib.Omega.{arith}
 use borrow.Author.Tests.{lt-ltb, le-ltb}
 use lib.ListN.{length, take, drop, length-append}
 use lib.Seq.{take-append-seam}
-use Rattle.report_setup.specs.Grammar.{text as ascii}
+use Rattle.report_setup_spec.specs.Grammar.{text as ascii}
 use Rattle.text.specs.Text.{decimal, line, lf, Put}
 use Rattle.text.proofs.Laws.{decimal-20, put-long, put-put}
 use Rattle.refusal.specs.Code.{codeOf}

@@ -18,12 +18,12 @@ use Rattle.stream_spec.specs.Handshake.{Finding, firstFinding}
 use Rattle.stream_spec.specs.Answers.{judgeAnswer, repackAnswer}
 use Rattle.stream_spec.specs.Legal.{Octets}
 use Rattle.stream_spec.proofs.Tables.{octets-tested}
-use Rattle.report_setup.specs.declared.Setup.{Setup}
-use Rattle.report_setup.specs.declared.Mode.the-variants.{Pack, Lanes}
-use Rattle.report_setup.specs.declared.Tlast.the-variants.{Wired}
-use Rattle.report_setup.specs.declared.Sheet.the-variants.{Read, Refused as NoSheet}
-use Rattle.report_setup.specs.Grammar.{sheetOf}
-use Rattle.report_setup.specs.Answers.{sheetValues}
+use Rattle.report_setup_spec.specs.declared.Setup.{Setup}
+use Rattle.report_setup_spec.specs.declared.Mode.the-variants.{Pack, Lanes}
+use Rattle.report_setup_spec.specs.declared.Tlast.the-variants.{Wired}
+use Rattle.report_setup_spec.specs.declared.Sheet.the-variants.{Read, Refused as NoSheet}
+use Rattle.report_setup_spec.specs.Grammar.{sheetOf}
+use Rattle.report_setup_spec.specs.Answers.{sheetValues}
 use Rattle.report_call.specs.declared.Tally.{Tally}
 use Rattle.report_call.specs.declared.Verdict.the-variants.{Clean, Broken, Refused}
 use Rattle.report_call.specs.Report.{shapeOf, cyclesOf, tally, setupOutcome, sheetOutcome, verdictValues, textOf, whole, reportOf, front}

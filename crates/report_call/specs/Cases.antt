@@ -5,7 +5,7 @@ use mathlib.Core.List.{List, [], _∷_, _++_}
 use mathlib.Core.Option.{Option, none, some}
 use Prim.Native.Nat.{ℕ}
 use Prim.Native.String.{String}
-use Rattle.report_setup.specs.Grammar.{text as ascii}
+use Rattle.report_setup_spec.specs.Grammar.{text as ascii}
 use Rattle.report_call.specs.Report.{Word, saysClean, saysBroken, saysRefused, Values, verdictValues, Whole, reportOf}
 
 -- what a technician sees: the text that is printed, and the octets of `out.bin`; and the verdict's numbers

@@ -15,11 +15,11 @@ use Rattle.refusal.specs.Checks.{Check, first}
 use Rattle.stream_spec.specs.Checks.{lengthCheck, cycleChecks, roomCheck}
 use Rattle.stream_spec.specs.Handshake.{Finding, firstFinding, transferCount}
 use Rattle.stream_spec.specs.Legal.{Octets, Legal}
-use Rattle.report_setup.specs.declared.Setup.{Setup}
-use Rattle.report_setup.specs.declared.Mode.{Mode}
-use Rattle.report_setup.specs.declared.Mode.the-variants.{Pack, Lanes}
-use Rattle.report_setup.specs.declared.Sheet.the-variants.{Read}
-use Rattle.report_setup.specs.Grammar.{sheetOf}
+use Rattle.report_setup_spec.specs.declared.Setup.{Setup}
+use Rattle.report_setup_spec.specs.declared.Mode.{Mode}
+use Rattle.report_setup_spec.specs.declared.Mode.the-variants.{Pack, Lanes}
+use Rattle.report_setup_spec.specs.declared.Sheet.the-variants.{Read}
+use Rattle.report_setup_spec.specs.Grammar.{sheetOf}
 use Rattle.report_call.specs.declared.Tally.{Tally}
 use Rattle.report_call.specs.declared.Verdict.{Verdict}
 use Rattle.report_call.specs.declared.Verdict.the-variants.{Clean, Broken, Refused}

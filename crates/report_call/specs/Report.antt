@@ -21,14 +21,14 @@ use Rattle.refusal.specs.Checks.{Check, first}
 use Rattle.stream_spec.specs.Checks.{shapeChecks, ratioCheck}
 use Rattle.stream_spec.specs.Handshake.{harvested}
 use Rattle.stream_spec.specs.Answers.{judgeAnswer, fillInAfter, repackAnswer, downsizeAnswer}
-use Rattle.report_setup.specs.declared.Setup.{Setup}
-use Rattle.report_setup.specs.declared.Mode.{Mode}
-use Rattle.report_setup.specs.declared.Mode.the-variants.{Pack, Lanes}
-use Rattle.report_setup.specs.declared.Tlast.{Tlast}
-use Rattle.report_setup.specs.declared.Tlast.the-variants.{Wired, Absent}
-use Rattle.report_setup.specs.declared.Sheet.{Sheet}
-use Rattle.report_setup.specs.declared.Sheet.the-variants.{Read, Refused as NoSheet}
-use Rattle.report_setup.specs.Grammar.{sheetOf, text as ascii}
+use Rattle.report_setup_spec.specs.declared.Setup.{Setup}
+use Rattle.report_setup_spec.specs.declared.Mode.{Mode}
+use Rattle.report_setup_spec.specs.declared.Mode.the-variants.{Pack, Lanes}
+use Rattle.report_setup_spec.specs.declared.Tlast.{Tlast}
+use Rattle.report_setup_spec.specs.declared.Tlast.the-variants.{Wired, Absent}
+use Rattle.report_setup_spec.specs.declared.Sheet.{Sheet}
+use Rattle.report_setup_spec.specs.declared.Sheet.the-variants.{Read, Refused as NoSheet}
+use Rattle.report_setup_spec.specs.Grammar.{sheetOf, text as ascii}
 use Rattle.text.specs.Text.{line}
 use Rattle.report_call.specs.declared.Tally.{Tally}
 use Rattle.report_call.specs.declared.Verdict.{Verdict}

@@ -3,10 +3,10 @@
 use crate::Tally;
 use crate::Verdict;
 use refusal::Refusal;
-use report_setup::Mode;
-use report_setup::Setup;
-use report_setup::Sheet;
-use report_setup::Tlast;
+use report_setup_spec::Mode;
+use report_setup_spec::Setup;
+use report_setup_spec::Sheet;
+use report_setup_spec::Tlast;
 use stream_spec::Shape;
 use stream_spec::Written;
 ghost use mathlib.Core.Path.{_≡_};

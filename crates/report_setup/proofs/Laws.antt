@@ -1,5 +1,5 @@
--- The grammar, as the code walks it: the first line by the place of its LF, a key octet by octet, and what each reader's answer
--- makes of a line. Assumes nothing.
+-- The grammar, as the code walks it: the first line by the place of its LF, a key octet by octet, what each reader's answer makes
+-- of a line, and one line after the other. Which of its words a line holds is in Words. Assumes nothing.
 use mathlib.Core.Bool.{Bool, true, false, cond, _&&_}
 use mathlib.Core.List.{List, [], _∷_}
 use mathlib.Core.Option.{Option, none, some}
@@ -12,23 +12,19 @@ use lib.Dec.{eqb, leb}
 use lib.ListN.{length, getD, take, drop, length-drop, drop-of-length-le}
 use lib.Seq.{drop-cons, drop-drop, take-nil, take-all, length-take-le}
 use borrow.Author.Tests.{eq-eqb, ne-eqb, le-leb, lt-leb, leb-true, eqb-true, eqb-false}
-use Rattle.report_setup.specs.Grammar.{text, line, firstLine, after, entry, lineOf, nothingLeft, Word, isWord, oneOf, modes, tlasts, isDigit, number, sheetOf}
-use Rattle.report_setup.specs.Reading.{LineEnd, Begins, yes, no, Ended, EndSays, ends, no-end, NumberSays, numeral, no-numeral, Reads, NumberLineSays, number-read, number-refused, ModeLineSays, mode-read, mode-refused, TlastLineSays, tlast-read, tlast-refused}
-use Rattle.report_setup.specs.declared.End.{End}
-use Rattle.report_setup.specs.declared.End.the-variants.{At, Missing}
-use Rattle.report_setup.specs.declared.Decimal.{Decimal}
-use Rattle.report_setup.specs.declared.Decimal.the-variants.{Is, Missing as NoNumber}
-use Rattle.report_setup.specs.declared.NumberLine.{NumberLine}
-use Rattle.report_setup.specs.declared.NumberLine.the-variants.{Read as NumberLine·Read, Refused as NumberLine·Refused}
-use Rattle.report_setup.specs.declared.ModeLine.{ModeLine}
-use Rattle.report_setup.specs.declared.ModeLine.the-variants.{Read as ModeLine·Read, Refused as ModeLine·Refused}
-use Rattle.report_setup.specs.declared.TlastLine.{TlastLine}
-use Rattle.report_setup.specs.declared.TlastLine.the-variants.{Read as TlastLine·Read, Refused as TlastLine·Refused}
-use Rattle.report_setup.specs.declared.Mode.{Mode}
-use Rattle.report_setup.specs.declared.Tlast.{Tlast}
-use Rattle.report_setup.specs.declared.Sheet.{Sheet}
-use Rattle.report_setup.specs.declared.Sheet.the-variants.{Read, Refused}
-use Rattle.report_setup.specs.Answers.{sheetValues, Parsed}
+use Rattle.report_setup_spec.specs.declared.Mode.{Mode}
+use Rattle.report_setup_spec.specs.declared.Mode.the-variants.{Lanes}
+use Rattle.report_setup_spec.specs.declared.Tlast.{Tlast}
+use Rattle.report_setup_spec.specs.declared.Tlast.the-variants.{Absent}
+use Rattle.report_setup_spec.specs.declared.Sheet.{Sheet}
+use Rattle.report_setup_spec.specs.declared.Sheet.the-variants.{Read, Refused}
+use Rattle.report_setup_spec.specs.Grammar.{text, Line as Held, line, longer as longerLine, on, firstLine, after, entry, lineOf, nothingLeft, Word, isWord, oneOf, modes, tlasts, number, sheetOf}
+use Rattle.report_setup_spec.specs.Answers.{sheetValues, Parsed}
+use Rattle.report_setup.specs.declared.Value.{Value}
+use Rattle.report_setup.specs.declared.Value.the-variants.{Is, Missing}
+use Rattle.report_setup.specs.declared.Line.{Line}
+use Rattle.report_setup.specs.declared.Line.the-variants.{Read as Line·Read, Refused as Line·Refused}
+use Rattle.report_setup.specs.Reading.{told, LineEnd, Begins, yes, no, Ended, EndSays, ends, no-end, Reads, LineSays, line-read, line-refused, longer, wordsOf, shift, place, meaning, Means}
 
 -- ---- the first line
 
@@ -197,7 +193,7 @@ module _ (key xs : List ℕ) (from : ℕ) (l : from ≤ length xs) (n : ℕ) (h 
         let same : from + (n + 1) ≡ from + n + 1 = omega arith in
         ap (drop (n + 1)) rest-is ∙ drop-drop (n + 1) from xs ∙ ap (λ (j : ℕ). drop j xs) same
 
-    key-start : Begins key (take n rest) true → EndSays key xs from (At (from + n))
+    key-start : Begins key (take n rest) true → EndSays key xs from (Is (from + n))
     key-start (yes l f) =
         let k : length key ≤ n = omega (arith, l, line-length) in
         ends {n = from + n}
@@ -210,65 +206,50 @@ module _ (key xs : List ℕ) (from : ℕ) (l : from ≤ length xs) (n : ℕ) (h 
               ∙ ap₂ (λ (v r : List ℕ). some (line v r)) (value k) next);
         })
 
-    pub line-found : {b : Bool} → b ≡ true → Begins key (take n rest) b → EndSays key xs from (At (from + n))
+    pub line-found : {b : Bool} → b ≡ true → Begins key (take n rest) b → EndSays key xs from (Is (from + n))
     line-found e b = key-start (subst (Begins key (take n rest)) e b)
 
--- ---- what a reader makes of a line
+-- ---- a number, or none
 
-end-of : {key xs : List ℕ} {from n : ℕ} → EndSays key xs from (At n) → Ended key xs from n
+pub told-is : (o : Option ℕ) {n : ℕ} → Is n ≡ told o → o ≡ some n
+told-is none e = let z : _≡_ {A = ℕ} 0 1 = cc in absurd (omega arith)
+told-is (some m) e = cc
+
+pub told-missing : (o : Option ℕ) → Missing ≡ told o → o ≡ none
+told-missing none e = refl
+told-missing (some m) e = let z : _≡_ {A = ℕ} 0 1 = cc in absurd (omega arith)
+
+-- ---- what a reader makes of the line at a place: `at` is what `value_end` answered
+
+end-of : {key xs : List ℕ} {from n : ℕ} → EndSays key xs from (Is n) → Ended key xs from n
 end-of (ends h) = h
 
 missing-of : {key xs : List ℕ} {from : ℕ} → EndSays key xs from Missing → entry key (drop from xs) ≡ none
 missing-of (no-end h) = h
 
-module _ {key xs : List ℕ} {from : ℕ} {e : End} where
-  pub has-end : {n : ℕ} → e ≡ At n → EndSays key xs from e → Ended key xs from n
-  has-end p h = end-of (subst (EndSays key xs from) p h)
+pub has-end : {key xs : List ℕ} {from : ℕ} {at : Value} {n : ℕ} → at ≡ Is n → EndSays key xs from at → Ended key xs from n
+has-end {key} {xs} {from} p h = end-of (subst (EndSays key xs from) p h)
 
-  pub no-value : {A : Type 0} (reader : List ℕ → Option A) → e ≡ Missing → EndSays key xs from e → lineOf key reader (drop from xs) ≡ none
-  no-value reader p h = rw (missing-of (subst (EndSays key xs from) p h))
+module _ (reader : List ℕ → Option ℕ) (key xs : List ℕ) (from : ℕ) (at : Value) (h : EndSays key xs from at) where
+  pub no-line-there : at ≡ Missing → LineSays (lineOf key reader (drop from xs)) xs Line·Refused
+  no-line-there p = line-refused (rw (missing-of (subst (EndSays key xs from) p h)))
 
-module _ {A : Type 0} (reader : List ℕ → Option A) {key xs : List ℕ} {from n : ℕ} (h : Ended key xs from n) where
-  abbrev found : List ℕ
-  found = take (n - (from + length key)) (drop (from + length key) xs)
+  module _ (n : ℕ) (p : at ≡ Is n) where
+    abbrev read-value : List ℕ
+    read-value = take (n - (from + length key)) (drop (from + length key) xs)
 
-  pub line-refused : reader found ≡ none → lineOf key reader (drop from xs) ≡ none
-  line-refused e = rw (h .is, e)
+    ended : Ended key xs from n
+    ended = has-end p h
 
-  pub line-read : {v : A} → reader found ≡ some v → Reads (lineOf key reader (drop from xs)) xs v (n + 1)
-  line-read e = record { within = omega (arith, h .inside); is = rw (h .is, e) }
+    -- d is what the value was told to be
+    module _ (d : Value) (e : d ≡ told (reader read-value)) where
+      pub not-read : d ≡ Missing → LineSays (lineOf key reader (drop from xs)) xs Line·Refused
+      not-read q = line-refused (rw (ended .is, told-missing (reader read-value) (sym q ∙ e)))
 
--- ---- one of two words
-
-module _ {A : Type 0} (v w : Word A) (value : List ℕ) where
-  pub first-word : isWord (v .spelt) value ≡ true → oneOf (v ∷ w ∷ []) value ≡ some (v .means)
-  first-word e = rw e
-
-  pub second-word : isWord (v .spelt) value ≡ false → isWord (w .spelt) value ≡ true → oneOf (v ∷ w ∷ []) value ≡ some (w .means)
-  second-word e f = rw (e, f)
-
-  pub neither-word : isWord (v .spelt) value ≡ false → isWord (w .spelt) value ≡ false → oneOf (v ∷ w ∷ []) value ≡ none
-  neither-word e f = rw (e, f)
-
--- ---- digits
-
-pub digit-yes : (x : ℕ) → 48 ≤ x → x ≤ 57 → isDigit x ≡ true
-digit-yes x l h = rw (le-leb 48 x l) (le-leb x 57 h)
-
-pub digit-below : (x : ℕ) → x < 48 → isDigit x ≡ false
-digit-below x l = rw (lt-leb 48 x l)
-
-pub digit-above : (x : ℕ) → 48 ≤ x → 57 < x → isDigit x ≡ false
-digit-above x l h = rw (le-leb 48 x l) (lt-leb x 57 h)
-
-pub both : (a b : Bool) → (a && b) ≡ true → (a ≡ true) × (b ≡ true)
-both true b e = (refl, e)
-both false b e = let z : _≡_ {A = ℕ} 0 1 = cc in absurd (omega arith)
-
-pub digit-range : (x : ℕ) → isDigit x ≡ true → (48 ≤ x) × (x ≤ 57)
-digit-range x e =
-    let p : (leb 48 x ≡ true) × (leb x 57 ≡ true) = both (leb 48 x) (leb x 57) e in
-    (leb-true 48 x (p .0), leb-true x 57 (p .1))
+      pub is-read : (v : ℕ) → d ≡ Is v → LineSays (lineOf key reader (drop from xs)) xs (Line·Read v (n + 1))
+      is-read v q =
+          line-read {v = v} {n = n + 1}
+          (record { within = omega (arith, ended .inside); is = rw (ended .is, told-is (reader read-value) (sym q ∙ e)) })
 
 -- ---- numbers, by their length
 
@@ -283,68 +264,26 @@ two-octets (x ∷ []) e = absurd (omega arith)
 two-octets (x ∷ y ∷ []) e = refl
 two-octets (x ∷ y ∷ z ∷ v) e = absurd (omega arith)
 
-no-number : (v : List ℕ) → (length v ≡ 1 → ⊥) → (length v ≡ 2 → ⊥) → number v ≡ none
-no-number [] e f = refl
-no-number (x ∷ []) e f = absurd (e refl)
-no-number (x ∷ y ∷ []) e f = absurd (f refl)
-no-number (x ∷ y ∷ z ∷ v) e f = refl
-
-pub other-length : (v : List ℕ) → (length v ≡ 1 → ⊥) → (length v ≡ 2 → ⊥) → NumberSays v NoNumber
-other-length v e f = no-numeral (no-number v e f)
-
-numeral-of : {value : List ℕ} {n : ℕ} → NumberSays value (Is n) → number value ≡ some n
-numeral-of (numeral h) = h
-
-no-numeral-of : {value : List ℕ} → NumberSays value NoNumber → number value ≡ none
-no-numeral-of (no-numeral h) = h
-
-module _ {value : List ℕ} {d : Decimal} where
-  pub is-number : {n : ℕ} → d ≡ Is n → NumberSays value d → number value ≡ some n
-  is-number p h = numeral-of (subst (NumberSays value) p h)
-
-  pub not-number : d ≡ NoNumber → NumberSays value d → number value ≡ none
-  not-number p h = no-numeral-of (subst (NumberSays value) p h)
+pub other-length : (v : List ℕ) → (length v ≡ 1 → ⊥) → (length v ≡ 2 → ⊥) → Missing ≡ told (number v)
+other-length [] e f = refl
+other-length (x ∷ []) e f = absurd (e refl)
+other-length (x ∷ y ∷ []) e f = absurd (f refl)
+other-length (x ∷ y ∷ z ∷ v) e f = refl
 
 -- ---- the sheet, line by line
 
-number-read-of : {key xs : List ℕ} {from v n : ℕ} → NumberLineSays key xs from (NumberLine·Read v n) → Reads (lineOf key number (drop from xs)) xs v n
-number-read-of (number-read h) = h
+reads-of : {found : Option (Held ℕ)} {xs : List ℕ} {v n : ℕ} → LineSays found xs (Line·Read v n) → Reads found xs v n
+reads-of (line-read h) = h
 
-number-refused-of : {key xs : List ℕ} {from : ℕ} → NumberLineSays key xs from NumberLine·Refused → lineOf key number (drop from xs) ≡ none
-number-refused-of (number-refused h) = h
+refused-of : {found : Option (Held ℕ)} {xs : List ℕ} → LineSays found xs Line·Refused → found ≡ none
+refused-of (line-refused h) = h
 
-mode-read-of : {xs : List ℕ} {from : ℕ} {v : Mode} {n : ℕ} → ModeLineSays xs from (ModeLine·Read v n) → Reads (lineOf (text "mode=") (oneOf modes) (drop from xs)) xs v n
-mode-read-of (mode-read h) = h
+module _ {found : Option (Held ℕ)} {xs : List ℕ} {l : Line} where
+  pub read : {v n : ℕ} → l ≡ Line·Read v n → LineSays found xs l → Reads found xs v n
+  read p h = reads-of (subst (LineSays found xs) p h)
 
-mode-refused-of : {xs : List ℕ} {from : ℕ} → ModeLineSays xs from ModeLine·Refused → lineOf (text "mode=") (oneOf modes) (drop from xs) ≡ none
-mode-refused-of (mode-refused h) = h
-
-tlast-read-of : {xs : List ℕ} {from : ℕ} {v : Tlast} {n : ℕ} → TlastLineSays xs from (TlastLine·Read v n) → Reads (lineOf (text "tlast=") (oneOf tlasts) (drop from xs)) xs v n
-tlast-read-of (tlast-read h) = h
-
-tlast-refused-of : {xs : List ℕ} {from : ℕ} → TlastLineSays xs from TlastLine·Refused → lineOf (text "tlast=") (oneOf tlasts) (drop from xs) ≡ none
-tlast-refused-of (tlast-refused h) = h
-
-module _ {key xs : List ℕ} {from : ℕ} {l : NumberLine} where
-  pub read-number : {v n : ℕ} → l ≡ NumberLine·Read v n → NumberLineSays key xs from l → Reads (lineOf key number (drop from xs)) xs v n
-  read-number p h = number-read-of (subst (NumberLineSays key xs from) p h)
-
-  pub refused-number : l ≡ NumberLine·Refused → NumberLineSays key xs from l → lineOf key number (drop from xs) ≡ none
-  refused-number p h = number-refused-of (subst (NumberLineSays key xs from) p h)
-
-module _ {xs : List ℕ} {from : ℕ} {l : ModeLine} where
-  pub read-mode : {v : Mode} {n : ℕ} → l ≡ ModeLine·Read v n → ModeLineSays xs from l → Reads (lineOf (text "mode=") (oneOf modes) (drop from xs)) xs v n
-  read-mode p h = mode-read-of (subst (ModeLineSays xs from) p h)
-
-  pub refused-mode : l ≡ ModeLine·Refused → ModeLineSays xs from l → lineOf (text "mode=") (oneOf modes) (drop from xs) ≡ none
-  refused-mode p h = mode-refused-of (subst (ModeLineSays xs from) p h)
-
-module _ {xs : List ℕ} {from : ℕ} {l : TlastLine} where
-  pub read-tlast : {v : Tlast} {n : ℕ} → l ≡ TlastLine·Read v n → TlastLineSays xs from l → Reads (lineOf (text "tlast=") (oneOf tlasts) (drop from xs)) xs v n
-  read-tlast p h = tlast-read-of (subst (TlastLineSays xs from) p h)
-
-  pub refused-tlast : l ≡ TlastLine·Refused → TlastLineSays xs from l → lineOf (text "tlast=") (oneOf tlasts) (drop from xs) ≡ none
-  refused-tlast p h = tlast-refused-of (subst (TlastLineSays xs from) p h)
+  pub refused : l ≡ Line·Refused → LineSays found xs l → found ≡ none
+  refused p h = refused-of (subst (LineSays found xs) p h)
 
 pub first-refused : (xs : List ℕ) → lineOf (text "width_in=") number xs ≡ none → Refused ≡ sheetOf xs
 unfolding sheetOf

@@ -1,5 +1,3 @@
-pub mod Cases
+-- Laws of the parts of a sheet, as the code walks them.
 pub mod Laws
-pub mod Promises
-pub mod Once
-pub mod Witnesses
+pub mod Words

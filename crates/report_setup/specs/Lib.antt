@@ -1,5 +1,2 @@
-pub mod Grammar
-pub mod Answers
+-- What the functions of this crate answer, for their contracts.
 pub mod Reading
-pub mod Cases
-pub mod Promises

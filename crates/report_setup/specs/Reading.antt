@@ -1,23 +1,21 @@
--- What the functions that read a part of a sheet answer, against Grammar.
-use mathlib.Core.Bool.{Bool, true, false}
-use mathlib.Core.List.{List}
+-- What the functions that read a part of a sheet answer, against Grammar of report_setup_spec.
+use mathlib.Core.Bool.{Bool, true, false, cond}
+use mathlib.Core.List.{List, [], _∷_}
 use mathlib.Core.Option.{Option, none, some}
 use mathlib.Core.Path.{_≡_}
-use Prim.Native.Nat.{ℕ, _+_, _-_, _≤_, _<_}
+use Prim.Native.Nat.{ℕ, zero, suc, _+_, _-_, _≤_, _<_}
+use lib.Dec.{eqb}
 use lib.ListN.{length, take, drop}
-use Rattle.report_setup.specs.declared.Mode.{Mode}
-use Rattle.report_setup.specs.declared.Tlast.{Tlast}
-use Rattle.report_setup.specs.declared.End.{End}
-use Rattle.report_setup.specs.declared.End.the-variants.{At as End·At, Missing as End·Missing}
-use Rattle.report_setup.specs.declared.Decimal.{Decimal}
-use Rattle.report_setup.specs.declared.Decimal.the-variants.{Is, Missing as Decimal·Missing}
-use Rattle.report_setup.specs.declared.NumberLine.{NumberLine}
-use Rattle.report_setup.specs.declared.NumberLine.the-variants.{Read as NumberLine·Read, Refused as NumberLine·Refused}
-use Rattle.report_setup.specs.declared.ModeLine.{ModeLine}
-use Rattle.report_setup.specs.declared.ModeLine.the-variants.{Read as ModeLine·Read, Refused as ModeLine·Refused}
-use Rattle.report_setup.specs.declared.TlastLine.{TlastLine}
-use Rattle.report_setup.specs.declared.TlastLine.the-variants.{Read as TlastLine·Read, Refused as TlastLine·Refused}
-use Rattle.report_setup.specs.Grammar.{Line, text, line, firstLine, after, entry, lineOf, number, oneOf, modes, tlasts}
+use Rattle.report_setup_spec.specs.Grammar.{lineFeed, Line as Held, line, firstLine, after, entry, Word, isWord}
+use Rattle.report_setup.specs.declared.Value.{Value}
+use Rattle.report_setup.specs.declared.Value.the-variants.{Is, Missing}
+use Rattle.report_setup.specs.declared.Line.{Line}
+use Rattle.report_setup.specs.declared.Line.the-variants.{Read, Refused}
+
+-- a number that was read, or none
+abbrev pub told : Option ℕ → Value
+told (some n) = Is n
+told none = Missing
 
 -- the first LF stands at n, or there is none and n is the length
 pub record LineEnd (xs : List ℕ) (n : ℕ) : Type 0 where
@@ -36,27 +34,43 @@ pub record Ended (key xs : List ℕ) (from n : ℕ) : Type 0 where
   pub inside : n < length xs
   pub is : entry key (drop from xs) ≡ some (line (take (n - (from + length key)) (drop (from + length key) xs)) (drop (n + 1) xs))
 
-pub data EndSays (key xs : List ℕ) (from : ℕ) : End → Type 0 where
-  ends : {n : ℕ} → Ended key xs from n → EndSays key xs from (End·At n)
-  no-end : entry key (drop from xs) ≡ none → EndSays key xs from End·Missing
-
-pub data NumberSays (value : List ℕ) : Decimal → Type 0 where
-  numeral : {n : ℕ} → number value ≡ some n → NumberSays value (Is n)
-  no-numeral : number value ≡ none → NumberSays value Decimal·Missing
+pub data EndSays (key xs : List ℕ) (from : ℕ) : Value → Type 0 where
+  ends : {n : ℕ} → Ended key xs from n → EndSays key xs from (Is n)
+  no-end : entry key (drop from xs) ≡ none → EndSays key xs from Missing
 
 -- a line is read as v, and the next one starts at n
-pub record Reads {A : Type 0} (found : Option (Line A)) (xs : List ℕ) (v : A) (n : ℕ) : Type 0 where
+pub record Reads {A : Type 0} (found : Option (Held A)) (xs : List ℕ) (v : A) (n : ℕ) : Type 0 where
   pub within : n ≤ length xs
   pub is : found ≡ some (line v (drop n xs))
 
-pub data NumberLineSays (key xs : List ℕ) (from : ℕ) : NumberLine → Type 0 where
-  number-read : {v n : ℕ} → Reads (lineOf key number (drop from xs)) xs v n → NumberLineSays key xs from (NumberLine·Read v n)
-  number-refused : lineOf key number (drop from xs) ≡ none → NumberLineSays key xs from NumberLine·Refused
+pub data LineSays (found : Option (Held ℕ)) (xs : List ℕ) : Line → Type 0 where
+  line-read : {v n : ℕ} → Reads found xs v n → LineSays found xs (Read v n)
+  line-refused : found ≡ none → LineSays found xs Refused
 
-pub data ModeLineSays (xs : List ℕ) (from : ℕ) : ModeLine → Type 0 where
-  mode-read : {v : Mode} → {n : ℕ} → Reads (lineOf (text "mode=") (oneOf modes) (drop from xs)) xs v n → ModeLineSays xs from (ModeLine·Read v n)
-  mode-refused : lineOf (text "mode=") (oneOf modes) (drop from xs) ≡ none → ModeLineSays xs from ModeLine·Refused
+-- ---- a line's words, as the code has them: one text, in which a LF ends each
 
-pub data TlastLineSays (xs : List ℕ) (from : ℕ) : TlastLine → Type 0 where
-  tlast-read : {v : Tlast} → {n : ℕ} → Reads (lineOf (text "tlast=") (oneOf tlasts) (drop from xs)) xs v n → TlastLineSays xs from (TlastLine·Read v n)
-  tlast-refused : lineOf (text "tlast=") (oneOf tlasts) (drop from xs) ≡ none → TlastLineSays xs from TlastLine·Refused
+abbrev pub longer : ℕ → List (List ℕ) → List (List ℕ)
+longer x [] = []
+longer x (w ∷ ws) = (x ∷ w) ∷ ws
+
+abbrev pub wordsOf : List ℕ → List (List ℕ)
+wordsOf [] = []
+wordsOf (x ∷ xs) = cond (eqb x lineFeed) ([] ∷ wordsOf xs) (longer x (wordsOf xs))
+
+-- which of these words a value is, counted from n
+abbrev pub shift : ℕ → Option ℕ → Option ℕ
+shift n none = none
+shift n (some k) = some (n + k)
+
+abbrev pub place : List (List ℕ) → List ℕ → Option ℕ
+place [] value = none
+place (w ∷ ws) value = cond (isWord w value) (some 0) (shift 1 (place ws value))
+
+-- what word k means, where there is one
+abbrev pub meaning : {A : Type 0} → List (Word A) → ℕ → Option A
+meaning [] k = none
+meaning (w ∷ ws) zero = some (w .means)
+meaning (w ∷ ws) (suc k) = meaning ws k
+
+abbrev pub Means : {A : Type 0} → List (Word A) → ℕ → A → Type 0
+Means {A} ws k m = (a : A) → meaning ws k ≡ some a → m ≡ a

@@ -1,84 +1,48 @@
-// The setup sheet of the report program (paper 01, 'The report program'): its four lines, read from octets. What a sheet says
-// is in specs/Grammar, and the number and values that an answer stands for are in specs/Answers. A width is any number from 0 to
-// 99 here: which widths are allowed is decided in the crate report_call.
+// The setup sheet of the report program (paper 01, 'The report program'): its four lines, read from octets. The types are in
+// report_setup_spec, and so is what a sheet says (specs/Grammar) and what the answer shows (specs/Answers). A width is any number
+// from 0 to 99 here: which widths are allowed is decided in the crate report_call.
+use report_setup_spec::Mode;
+use report_setup_spec::Setup;
+use report_setup_spec::Sheet;
+use report_setup_spec::Tlast;
 ghost use mathlib.Core.List.{[], _∷_};
 ghost use mathlib.Core.Path.{_≡_};
 ghost use Prim.Native.Nat.{_≤_};
-ghost use lib.ListN.{length};
-ghost use Rattle.report_setup.specs.Grammar.{isDigit, isWord};
-ghost use Rattle.report_setup.specs.Answers.{Parsed};
-ghost use Rattle.report_setup.specs.Reading.{LineEnd, Begins, EndSays, NumberSays, NumberLineSays, ModeLineSays, TlastLineSays};
+ghost use lib.ListN.{length, drop};
+ghost use Rattle.report_setup_spec.specs.Grammar.{isDigit, isWord, number, lineOf, modes, tlasts};
+ghost use Rattle.report_setup_spec.specs.Answers.{Parsed};
+ghost use Rattle.report_setup.specs.Reading.{told, LineEnd, Begins, EndSays, LineSays, place, wordsOf, Means};
 
-// `mode=pack`: repacking. `mode=lanes`: lane-keeping downsizing.
-pub enum Mode {
-    Pack,
-    Lanes,
-}
-
-// `tlast=wired`: TLAST is as sampled. `tlast=none`: the port has no such wire, and TLAST is filled in first.
-pub enum Tlast {
-    Wired,
-    Absent,
-}
-
-// What a sheet says. The widths are as written, 0 to 99.
-pub struct Setup {
-    pub width_in: usize,
-    pub width_out: usize,
-    pub mode: Mode,
-    pub tlast: Tlast,
-}
-
-// A sheet that was read, or one that is not as paper 01 has it.
-pub enum Sheet {
-    Read(Setup),
-    Refused,
-}
-
-// Where the value of a line ends, which is where its LF stands.
-enum End {
-    At(usize),
-    Missing,
-}
-
-// A number of one or two digits.
-enum Decimal {
+// A number that was read from a text, if there is one.
+enum Value {
     Is(usize),
     Missing,
 }
 
-// A line that was read: its value, and the place after its LF.
-enum NumberLine {
+// A line that was read: the number that it holds, or which of its words, and the place after its LF.
+enum Line {
     Read(usize, usize),
     Refused,
 }
 
-enum ModeLine {
-    Read(Mode, usize),
-    Refused,
-}
-
-enum TlastLine {
-    Read(Tlast, usize),
-    Refused,
-}
-
-// What the octets of a sheet say.
+// What the octets of a sheet say. The words of a line are LF-ended and count from 0.
 pub fn parse(sheet: &[u8]) -> Sheet
     ensures { λ r. ⌜ Parsed (now (sheet .entry)) r ⌝ }
 {
-    let NumberLine::Read(width_in, second) = number_line(sheet, 0, b"width_in=") else {
+    let Line::Read(width_in, second) = number_line(sheet, 0, b"width_in=") else {
         return Sheet::Refused;
     };
-    let NumberLine::Read(width_out, third) = number_line(sheet, second, b"width_out=") else {
+    let Line::Read(width_out, third) = number_line(sheet, second, b"width_out=") else {
         return Sheet::Refused;
     };
-    let ModeLine::Read(mode, fourth) = mode_line(sheet, third) else {
+    let Line::Read(word, fourth) = word_line(sheet, third, b"mode=", b"pack\nlanes\n") else {
         return Sheet::Refused;
     };
-    let TlastLine::Read(tlast, end) = tlast_line(sheet, fourth) else {
+    let mode = mode_of(word);
+    let Line::Read(wire, end) = word_line(sheet, fourth, b"tlast=", b"wired\nnone\n") else {
         return Sheet::Refused;
     };
+    let tlast = tlast_of(wire);
     if end < sheet.len() {
         return Sheet::Refused;
     }
@@ -90,75 +54,91 @@ pub fn parse(sheet: &[u8]) -> Sheet
     })
 }
 
+// What word k of `mode=` means.
+fn mode_of(k: usize) -> Mode
+    ensures { λ r. ⌜ Means modes k r ⌝ }
+{
+    match k {
+        0 => Mode::Pack,
+        _ => Mode::Lanes,
+    }
+}
+
+// What word k of `tlast=` means.
+fn tlast_of(k: usize) -> Tlast
+    ensures { λ r. ⌜ Means tlasts k r ⌝ }
+{
+    match k {
+        0 => Tlast::Wired,
+        _ => Tlast::Absent,
+    }
+}
+
 // The line at a place, as this key and a number.
-fn number_line(text: &[u8], from: usize, key: &[u8]) -> NumberLine
+fn number_line(text: &[u8], from: usize, key: &[u8]) -> Line
     requires { ⌜ from ≤ length (now text) ⌝ }
-    ensures { λ r. ⌜ NumberLineSays (now (key .entry)) (now (text .entry)) from r ⌝ }
+    ensures { λ r. ⌜ LineSays (lineOf (now (key .entry)) number (drop from (now (text .entry)))) (now (text .entry)) r ⌝ }
 {
-    let End::At(end) = value_end(text, from, key) else {
-        return NumberLine::Refused;
+    let Value::Is(end) = value_end(text, from, key) else {
+        return Line::Refused;
     };
     let start = from + key.len();
-    let Decimal::Is(n) = number(&text[start..end]) else {
-        return NumberLine::Refused;
+    let Value::Is(n) = number(&text[start..end]) else {
+        return Line::Refused;
     };
-    NumberLine::Read(n, end + 1)
+    Line::Read(n, end + 1)
 }
 
-// The line at a place, as `mode=` and one of its words.
-fn mode_line(text: &[u8], from: usize) -> ModeLine
+// The line at a place, as this key and one of these words.
+fn word_line(text: &[u8], from: usize, key: &[u8], words: &[u8]) -> Line
     requires { ⌜ from ≤ length (now text) ⌝ }
-    ensures { λ r. ⌜ ModeLineSays (now (text .entry)) from r ⌝ }
+    ensures { λ r. ⌜ LineSays (lineOf (now (key .entry)) (place (wordsOf (now (words .entry)))) (drop from (now (text .entry)))) (now (text .entry)) r ⌝ }
 {
-    let key = b"mode=";
-    let End::At(end) = value_end(text, from, key) else {
-        return ModeLine::Refused;
+    let Value::Is(end) = value_end(text, from, key) else {
+        return Line::Refused;
     };
     let start = from + key.len();
-    let value = &text[start..end];
-    if is_word(value, b"pack") {
-        return ModeLine::Read(Mode::Pack, end + 1);
-    }
-    if is_word(value, b"lanes") {
-        return ModeLine::Read(Mode::Lanes, end + 1);
-    }
-    ModeLine::Refused
+    let Value::Is(k) = word_place(&text[start..end], words) else {
+        return Line::Refused;
+    };
+    Line::Read(k, end + 1)
 }
 
-// The line at a place, as `tlast=` and one of its words.
-fn tlast_line(text: &[u8], from: usize) -> TlastLine
-    requires { ⌜ from ≤ length (now text) ⌝ }
-    ensures { λ r. ⌜ TlastLineSays (now (text .entry)) from r ⌝ }
+// Which of these LF-ended words a value is.
+fn word_place(value: &[u8], words: &[u8]) -> Value
+    ensures { λ r. ⌜ r ≡ told (place (wordsOf (now (words .entry))) (now (value .entry))) ⌝ }
 {
-    let key = b"tlast=";
-    let End::At(end) = value_end(text, from, key) else {
-        return TlastLine::Refused;
-    };
-    let start = from + key.len();
-    let value = &text[start..end];
-    if is_word(value, b"wired") {
-        return TlastLine::Read(Tlast::Wired, end + 1);
+    let mut at = 0;
+    let mut k = 0;
+    while at < words.len() {
+        let rest = &words[at..];
+        let n = line_end(rest);
+        if n == rest.len() {
+            return Value::Missing;
+        }
+        if is_word(value, &rest[..n]) {
+            return Value::Is(k);
+        }
+        at += n + 1;
+        k += 1;
     }
-    if is_word(value, b"none") {
-        return TlastLine::Read(Tlast::Absent, end + 1);
-    }
-    TlastLine::Refused
+    Value::Missing
 }
 
 // Where the line at a place ends, if a LF ends it and this key begins it.
-fn value_end(text: &[u8], from: usize, key: &[u8]) -> End
+fn value_end(text: &[u8], from: usize, key: &[u8]) -> Value
     requires { ⌜ from ≤ length (now text) ⌝ }
     ensures { λ r. ⌜ EndSays (now (key .entry)) (now (text .entry)) from r ⌝ }
 {
     let rest = &text[from..];
     let n = line_end(rest);
     if n == rest.len() {
-        return End::Missing;
+        return Value::Missing;
     }
     if begins(&rest[..n], key) {
-        return End::At(from + n);
+        return Value::Is(from + n);
     }
-    End::Missing
+    Value::Missing
 }
 
 // How many octets stand in front of the first LF; all of them where there is none.
@@ -203,8 +183,8 @@ fn is_word(value: &[u8], word: &[u8]) -> bool
 }
 
 // A number from 0 to 99 without leading zeros.
-fn number(value: &[u8]) -> Decimal
-    ensures { λ r. ⌜ NumberSays (now (value .entry)) r ⌝ }
+fn number(value: &[u8]) -> Value
+    ensures { λ r. ⌜ r ≡ told (number (now (value .entry))) ⌝ }
 {
     if value.len() == 1 {
         return one_digit(value[0]);
@@ -212,30 +192,30 @@ fn number(value: &[u8]) -> Decimal
     if value.len() == 2 {
         return two_digits(value[0], value[1]);
     }
-    Decimal::Missing
+    Value::Missing
 }
 
-fn one_digit(x: u8) -> Decimal
-    ensures { λ r. ⌜ NumberSays (x ∷ []) r ⌝ }
+fn one_digit(x: u8) -> Value
+    ensures { λ r. ⌜ r ≡ told (number (x ∷ [])) ⌝ }
 {
     if is_digit(x) {
-        return Decimal::Is((x - b'0') as usize);
+        return Value::Is((x - b'0') as usize);
     }
-    Decimal::Missing
+    Value::Missing
 }
 
-fn two_digits(x: u8, y: u8) -> Decimal
-    ensures { λ r. ⌜ NumberSays (x ∷ y ∷ []) r ⌝ }
+fn two_digits(x: u8, y: u8) -> Value
+    ensures { λ r. ⌜ r ≡ told (number (x ∷ y ∷ [])) ⌝ }
 {
     if x == b'0' {
-        return Decimal::Missing;
+        return Value::Missing;
     }
     if is_digit(x) {
         if is_digit(y) {
-            return Decimal::Is(10 * (x - b'0') as usize + (y - b'0') as usize);
+            return Value::Is(10 * (x - b'0') as usize + (y - b'0') as usize);
         }
     }
-    Decimal::Missing
+    Value::Missing
 }
 
 fn is_digit(x: u8) -> bool

@@ -1,7 +1,7 @@
 -- `report_setup::is_digit` meets its contract: the two ends of the range. Assumes nothing.
 use mathlib.Core.Path.{sym}
 use native.Mathlib.Omega.{arith}
-use Rattle.report_setup.proofs.Laws.{digit-yes, digit-below, digit-above}
+use Rattle.report_setup_spec.proofs.Digits.{digit-yes, digit-below, digit-above}
 use Rattle.report_setup.proofs.is_digit.Statement.{statement}
 use Rattle.report_setup.proofs.is_digit.Tie as tie
 

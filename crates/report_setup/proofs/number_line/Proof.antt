@@ -1,8 +1,7 @@
 -- `report_setup::number_line` meets its contract: the key, then a number. Assumes nothing.
 use native.Mathlib.Omega.{arith}
-use Rattle.report_setup.specs.Grammar.{number}
-use Rattle.report_setup.specs.Reading.{number-read, number-refused}
-use Rattle.report_setup.proofs.Laws.{has-end, no-value, line-refused, line-read, is-number, not-number}
+use Rattle.report_setup_spec.specs.Grammar.{number as numberOf}
+use Rattle.report_setup.proofs.Laws.{has-end, no-line-there, not-read, is-read}
 use borrow.Author.Needs.{needs}
 use Rattle.report_setup.proofs.number_line.Statement.{statement}
 use Rattle.report_setup.proofs.number_line.Tie as tie
@@ -17,7 +16,10 @@ enum-told : tie.Need-enum-told
 enum-told c = search needs
 
 returns : tie.Need-returns
-returns c = number-refused (no-value number (c .enum-told .given .1) (c .before .before .value-end .ensures))
+returns c =
+    let ended = c .before .before in
+    let call = ended .before .before .before in
+    no-line-there numberOf (call .args .key .now) (call .args .text .now) (call .args .from) (ended .value-end .result) (ended .value-end .ensures) (c .enum-told .given .1)
 
 add-start : tie.Need-add-start
 add-start c = search needs
@@ -41,13 +43,29 @@ enum-told-2 : tie.Need-enum-told-2
 enum-told-2 c = search needs
 
 returns-2 : tie.Need-returns-2
-returns-2 c = number-refused (line-refused number (has-end (c .before .before .before .before .before .end .given .1) (c .before .before .before .before .before .before .before .value-end .ensures)) (not-number (c .enum-told2 .given .1) (c .before .before .number .ensures)))
+returns-2 c =
+    let known = c .before .before in
+    let end = known .before .before .before .end .given in
+    let ended = known .before .before .before .before .before in
+    let call = ended .before .before .before in
+    not-read numberOf (call .args .key .now) (call .args .text .now) (call .args .from) (ended .value-end .result) (ended .value-end .ensures) (end .0 .0) (end .1)
+    (known .number .result) (known .number .ensures) (c .enum-told2 .given .1)
 
 add-t8 : tie.Need-add-t8
-add-t8 c = omega (arith, has-end (c .before .before .before .before .before .before .end .given .1) (c .before .before .before .before .before .before .before .before .value-end .ensures))
+add-t8 c =
+    let known = c .before .before .before in
+    let end = known .before .before .before .end .given in
+    let ended = known .before .before .before .before .before in
+    omega (arith, has-end (end .1) (ended .value-end .ensures))
 
 returns-3 : tie.Need-returns-3
-returns-3 c = number-read (line-read number (has-end (c .before .before .before .before .before .before .end .given .1) (c .before .before .before .before .before .before .before .before .value-end .ensures)) (is-number (c .before .n .given .1) (c .before .before .before .number .ensures)))
+returns-3 c =
+    let known = c .before .before .before in
+    let end = known .before .before .before .end .given in
+    let ended = known .before .before .before .before .before in
+    let call = ended .before .before .before in
+    is-read numberOf (call .args .key .now) (call .args .text .now) (call .args .from) (ended .value-end .result) (ended .value-end .ensures) (end .0 .0) (end .1)
+    (known .number .result) (known .number .ensures) (c .before .n .given .0 .0) (c .before .n .given .1)
 
 pub number-line-spec : {M : Type 1} → statement M
 number-line-spec =

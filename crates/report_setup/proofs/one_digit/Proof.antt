@@ -1,8 +1,6 @@
 -- `report_setup::one_digit` meets its contract. Assumes nothing.
 use mathlib.Core.Path.{sym, _∙_}
-use Prim.Native.Nat.{_-_}
-use Rattle.report_setup.specs.Reading.{numeral, no-numeral}
-use Rattle.report_setup.proofs.Laws.{digit-range}
+use Rattle.report_setup_spec.proofs.Digits.{digit-range}
 use borrow.Author.Needs.{needs}
 use Rattle.report_setup.proofs.one_digit.Statement.{statement}
 use Rattle.report_setup.proofs.one_digit.Tie as tie
@@ -17,10 +15,10 @@ cast-t4 : tie.Need-cast-t4
 cast-t4 c = search needs
 
 returns : tie.Need-returns
-returns c = numeral {n = c .before .before .args .x - 48} (rw (sym (c .before .is-digit .ensures) ∙ c .if1 .taken))
+returns c = rw (sym (c .before .is-digit .ensures) ∙ c .if1 .taken)
 
 returns-2 : tie.Need-returns-2
-returns-2 c = no-numeral (rw (sym (c .before .is-digit .ensures) ∙ c .if1 .left))
+returns-2 c = rw (sym (c .before .is-digit .ensures) ∙ c .if1 .left)
 
 pub one-digit-spec : {M : Type 1} → statement M
 one-digit-spec = tie.close (tie.spec is-digit-requires sub-t3 cast-t4 returns returns-2)

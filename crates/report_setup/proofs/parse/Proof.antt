@@ -1,5 +1,7 @@
--- `report_setup::parse` meets its contract: each line in its turn, and nothing after the fourth. Assumes nothing.
-use Rattle.report_setup.proofs.Laws.{read-number, refused-number, read-mode, refused-mode, read-tlast, refused-tlast, first-refused, second-refused, third-refused, fourth-refused, end-refused, sheet-read, parsed}
+-- `report_setup::parse` meets its contract: each line in its turn, and nothing after the fourth. The lets name what is known after each
+-- line. Assumes nothing.
+use Rattle.report_setup.proofs.Laws.{read, refused, first-refused, second-refused, third-refused, fourth-refused, end-refused, sheet-read, parsed}
+use Rattle.report_setup.proofs.Words.{mode-read, mode-refused, tlast-read, tlast-refused}
 use borrow.Author.Needs.{needs}
 use Rattle.report_setup.proofs.parse.Statement.{statement}
 use Rattle.report_setup.proofs.parse.Tie as tie
@@ -17,13 +19,17 @@ enum-told : tie.Need-enum-told
 enum-told c = search needs
 
 returns : tie.Need-returns
-returns c = parsed (first-refused (c .before .before .before .before .before .args .sheet .now) (refused-number (c .enum-told .given .1) (c .before .before .number-line .ensures)))
+returns c =
+    let line = c .before .before in
+    parsed (first-refused (line .before .before .before .args .sheet .now) (refused (c .enum-told .given .1) (line .number-line .ensures)))
 
 slice-aggregate-number-line-2 : tie.Need-slice-aggregate-number-line-2
 slice-aggregate-number-line-2 c = search needs
 
 number-line-requires-2 : tie.Need-number-line-requires-2
-number-line-requires-2 c κs = read-number (c .before .before .width-in .given .1) (c .before .before .before .before .number-line .ensures) .within
+number-line-requires-2 c κs =
+    let first = c .before .before in
+    read (first .width-in .given .1) (first .before .before .number-line .ensures) .within
 
 enum-known-width-out : tie.Need-enum-known-width-out
 enum-known-width-out c = search needs
@@ -32,37 +38,111 @@ enum-told-2 : tie.Need-enum-told-2
 enum-told-2 c = search needs
 
 returns-2 : tie.Need-returns-2
-returns-2 c = parsed (second-refused (read-number (c .before .before .before .before .before .width-in .given .1) (c .before .before .before .before .before .before .before .number-line .ensures)) (refused-number (c .enum-told2 .given .1) (c .before .before .number-line2 .ensures)))
+returns-2 c =
+    let first = c .before .before .before .before .before in
+    parsed
+    (second-refused
+    (read (first .width-in .given .1) (first .before .before .number-line .ensures))
+    (refused (c .enum-told2 .given .1) (c .before .before .number-line2 .ensures)))
 
-mode-line-requires : tie.Need-mode-line-requires
-mode-line-requires c κs = read-number (c .before .width-out .given .1) (c .before .before .before .number-line2 .ensures) .within
+slice-aggregate-word-line : tie.Need-slice-aggregate-word-line
+slice-aggregate-word-line c = search needs
 
-enum-known-mode : tie.Need-enum-known-mode
-enum-known-mode c = search needs
+slice-aggregate-word-line-2 : tie.Need-slice-aggregate-word-line-2
+slice-aggregate-word-line-2 c = search needs
+
+word-line-requires : tie.Need-word-line-requires
+word-line-requires c κs =
+    let second = c .before .before .before in
+    read (second .width-out .given .1) (second .before .before .number-line2 .ensures) .within
+
+enum-known-word : tie.Need-enum-known-word
+enum-known-word c = search needs
 
 enum-told-3 : tie.Need-enum-told-3
 enum-told-3 c = search needs
 
 returns-3 : tie.Need-returns-3
-returns-3 c = parsed (third-refused (read-number (c .before .before .before .before .before .before .before .before .before .width-in .given .1) (c .before .before .before .before .before .before .before .before .before .before .before .number-line .ensures)) (read-number (c .before .before .before .before .width-out .given .1) (c .before .before .before .before .before .before .number-line2 .ensures)) (refused-mode (c .enum-told3 .given .1) (c .before .before .mode-line .ensures)))
+returns-3 c =
+    let second = c .before .before .before .before .before .before in
+    let first = second .before .before .before .before .before in
+    let call = first .before .before .before .before .before in
+    parsed
+    (third-refused
+    (read (first .width-in .given .1) (first .before .before .number-line .ensures))
+    (read (second .width-out .given .1) (second .before .before .number-line2 .ensures))
+    (mode-refused (call .args .sheet .now) (second .width-out .given .0 .1 .0) (refused (c .enum-told3 .given .1) (c .before .before .word-line .ensures))))
 
-tlast-line-requires : tie.Need-tlast-line-requires
-tlast-line-requires c κs = read-mode (c .before .mode .given .1) (c .before .before .before .mode-line .ensures) .within
+mode-of-requires : tie.Need-mode-of-requires
+mode-of-requires c κs = search needs
 
-enum-known-tlast : tie.Need-enum-known-tlast
-enum-known-tlast c = search needs
+slice-aggregate-word-line-3 : tie.Need-slice-aggregate-word-line-3
+slice-aggregate-word-line-3 c = search needs
+
+slice-aggregate-word-line-4 : tie.Need-slice-aggregate-word-line-4
+slice-aggregate-word-line-4 c = search needs
+
+word-line-requires-2 : tie.Need-word-line-requires-2
+word-line-requires-2 c κs =
+    let third = c .before .before .before .before in
+    read (third .word .given .1) (third .before .before .word-line .ensures) .within
+
+enum-known-wire : tie.Need-enum-known-wire
+enum-known-wire c = search needs
 
 enum-told-4 : tie.Need-enum-told-4
 enum-told-4 c = search needs
 
 returns-4 : tie.Need-returns-4
-returns-4 c = parsed (fourth-refused (read-number (c .before .before .before .before .before .before .before .before .before .before .before .before .before .width-in .given .1) (c .before .before .before .before .before .before .before .before .before .before .before .before .before .before .before .number-line .ensures)) (read-number (c .before .before .before .before .before .before .before .before .width-out .given .1) (c .before .before .before .before .before .before .before .before .before .before .number-line2 .ensures)) (read-mode (c .before .before .before .before .mode .given .1) (c .before .before .before .before .before .before .mode-line .ensures)) (refused-tlast (c .enum-told4 .given .1) (c .before .before .tlast-line .ensures)))
+returns-4 c =
+    let meant = c .before .before .before .before .before in
+    let third = meant .before .before in
+    let second = third .before .before .before .before .before .before in
+    let first = second .before .before .before .before .before in
+    let call = first .before .before .before .before .before in
+    parsed
+    (fourth-refused
+    (read (first .width-in .given .1) (first .before .before .number-line .ensures))
+    (read (second .width-out .given .1) (second .before .before .number-line2 .ensures))
+    (mode-read (call .args .sheet .now) (second .width-out .given .0 .1 .0) (third .word .given .0 .0) (third .word .given .0 .1 .0) (meant .mode-of .result) (meant .mode-of .ensures) (read (third .word .given .1) (third .before .before .word-line .ensures)))
+    (tlast-refused (call .args .sheet .now) (third .word .given .0 .1 .0) (refused (c .enum-told4 .given .1) (c .before .before .word-line2 .ensures))))
+
+tlast-of-requires : tie.Need-tlast-of-requires
+tlast-of-requires c κs = search needs
 
 returns-5 : tie.Need-returns-5
-returns-5 c = parsed (end-refused (read-number (c .before .before .before .before .before .before .before .before .before .before .before .before .before .before .before .width-in .given .1) (c .before .before .before .before .before .before .before .before .before .before .before .before .before .before .before .before .before .number-line .ensures)) (read-number (c .before .before .before .before .before .before .before .before .before .before .width-out .given .1) (c .before .before .before .before .before .before .before .before .before .before .before .before .number-line2 .ensures)) (read-mode (c .before .before .before .before .before .before .mode .given .1) (c .before .before .before .before .before .before .before .before .mode-line .ensures)) (read-tlast (c .before .before .tlast .given .1) (c .before .before .before .before .tlast-line .ensures)) (c .if1 .taken))
+returns-5 c =
+    let end = c .before in
+    let fourth = end .before .before in
+    let meant = fourth .before .before .before .before .before in
+    let third = meant .before .before in
+    let second = third .before .before .before .before .before .before in
+    let first = second .before .before .before .before .before in
+    let call = first .before .before .before .before .before in
+    parsed
+    (end-refused
+    (read (first .width-in .given .1) (first .before .before .number-line .ensures))
+    (read (second .width-out .given .1) (second .before .before .number-line2 .ensures))
+    (mode-read (call .args .sheet .now) (second .width-out .given .0 .1 .0) (third .word .given .0 .0) (third .word .given .0 .1 .0) (meant .mode-of .result) (meant .mode-of .ensures) (read (third .word .given .1) (third .before .before .word-line .ensures)))
+    (tlast-read (call .args .sheet .now) (third .word .given .0 .1 .0) (fourth .wire .given .0 .0) (fourth .wire .given .0 .1 .0) (end .tlast-of .result) (end .tlast-of .ensures) (read (fourth .wire .given .1) (fourth .before .before .word-line2 .ensures)))
+    (c .if1 .taken))
 
 returns-6 : tie.Need-returns-6
-returns-6 c = parsed (sheet-read (read-number (c .before .before .before .before .before .before .before .before .before .before .before .before .before .before .before .width-in .given .1) (c .before .before .before .before .before .before .before .before .before .before .before .before .before .before .before .before .before .number-line .ensures)) (read-number (c .before .before .before .before .before .before .before .before .before .before .width-out .given .1) (c .before .before .before .before .before .before .before .before .before .before .before .before .number-line2 .ensures)) (read-mode (c .before .before .before .before .before .before .mode .given .1) (c .before .before .before .before .before .before .before .before .mode-line .ensures)) (read-tlast (c .before .before .tlast .given .1) (c .before .before .before .before .tlast-line .ensures)) (c .if1 .left))
+returns-6 c =
+    let end = c .before in
+    let fourth = end .before .before in
+    let meant = fourth .before .before .before .before .before in
+    let third = meant .before .before in
+    let second = third .before .before .before .before .before .before in
+    let first = second .before .before .before .before .before in
+    let call = first .before .before .before .before .before in
+    parsed
+    (sheet-read
+    (read (first .width-in .given .1) (first .before .before .number-line .ensures))
+    (read (second .width-out .given .1) (second .before .before .number-line2 .ensures))
+    (mode-read (call .args .sheet .now) (second .width-out .given .0 .1 .0) (third .word .given .0 .0) (third .word .given .0 .1 .0) (meant .mode-of .result) (meant .mode-of .ensures) (read (third .word .given .1) (third .before .before .word-line .ensures)))
+    (tlast-read (call .args .sheet .now) (third .word .given .0 .1 .0) (fourth .wire .given .0 .0) (fourth .wire .given .0 .1 .0) (end .tlast-of .result) (end .tlast-of .ensures) (read (fourth .wire .given .1) (fourth .before .before .word-line2 .ensures)))
+    (c .if1 .left))
 
 pub parse-spec : {M : Type 1} → statement M
 parse-spec =
@@ -78,13 +158,19 @@ parse-spec =
     enum-known-width-out
     enum-told-2
     returns-2
-    mode-line-requires
-    enum-known-mode
+    slice-aggregate-word-line
+    slice-aggregate-word-line-2
+    word-line-requires
+    enum-known-word
     enum-told-3
     returns-3
-    tlast-line-requires
-    enum-known-tlast
+    mode-of-requires
+    slice-aggregate-word-line-3
+    slice-aggregate-word-line-4
+    word-line-requires-2
+    enum-known-wire
     enum-told-4
     returns-4
+    tlast-of-requires
     returns-5
     returns-6)

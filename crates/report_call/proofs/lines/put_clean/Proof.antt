@@ -1,6 +1,6 @@
 -- `report_call::lines::put_clean` meets its contract: a line after the others, in 128 octets. Assumes nothing.
 use native.Mathlib.Omega.{arith}
-use Rattle.report_setup.specs.Grammar.{text as ascii}
+use Rattle.report_setup_spec.specs.Grammar.{text as ascii}
 use Rattle.report_call.proofs.Told.{clean-fit, room-3, three-put}
 use borrow.Author.Needs.{needs}
 use Rattle.report_call.proofs.lines.put_clean.Statement.{statement}

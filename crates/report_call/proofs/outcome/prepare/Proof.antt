@@ -1,7 +1,7 @@
 -- `report_call::outcome::prepare` meets its contract: nothing, or fill-in. Assumes nothing.
 use mathlib.Core.Path.{sym, ap, _∙_}
 use borrow.Author.Needs.{needs}
-use Rattle.report_setup.specs.declared.Tlast.{Tlast}
+use Rattle.report_setup_spec.specs.declared.Tlast.{Tlast}
 use Rattle.report_call.specs.Report.{prepared}
 use Rattle.report_call.proofs.outcome.prepare.Statement.{statement}
 use Rattle.report_call.proofs.outcome.prepare.Tie as tie

@@ -5,10 +5,10 @@ use mathlib.Core.Option.{some}
 use mathlib.Core.Path.{_≡_}
 use Prim.Native.Nat.{ℕ, _+_, _/_, _%_, _≤_}
 use lib.Dec.{ltb}
-use Rattle.report_setup.specs.declared.Setup.{Setup}
-use Rattle.report_setup.specs.declared.Sheet.the-variants.{Read}
-use Rattle.report_setup.specs.Grammar.{text, number, sheetOf}
-use Rattle.report_setup.specs.Answers.{Values, sheetValues}
+use Rattle.report_setup_spec.specs.declared.Setup.{Setup}
+use Rattle.report_setup_spec.specs.declared.Sheet.the-variants.{Read}
+use Rattle.report_setup_spec.specs.Grammar.{text, number, sheetOf}
+use Rattle.report_setup_spec.specs.Answers.{Values, sheetValues}
 
 -- a number up to 99 in decimal, without a leading zero
 abbrev pub numeral : ℕ → List ℕ

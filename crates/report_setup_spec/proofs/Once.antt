@@ -3,8 +3,8 @@
 use mathlib.Core.List.{List}
 use mathlib.Core.Path.{_≡_, sym, _∙_}
 use Prim.Native.Nat.{ℕ}
-use Rattle.report_setup.specs.declared.Sheet.{Sheet}
-use Rattle.report_setup.specs.Answers.{sheetValues, Parsed}
+use Rattle.report_setup_spec.specs.declared.Sheet.{Sheet}
+use Rattle.report_setup_spec.specs.Answers.{sheetValues, Parsed}
 
 pub parsed-once : {sheet : List ℕ} {a b : Sheet} → Parsed sheet a → Parsed sheet b → (a ≡ b) × (sheetValues a ≡ sheetValues b)
 parsed-once p q = (p .is ∙ sym (q .is), p .says ∙ sym (q .says))

@@ -2,10 +2,10 @@
 -- what was typed from paper 01. Assumes nothing.
 use mathlib.Core.List.{List, map}
 use mathlib.Core.Path.{_≡_, refl}
-use Rattle.report_setup.specs.declared.Sheet.{Sheet}
-use Rattle.report_setup.specs.Grammar.{text, sheetOf}
-use Rattle.report_setup.specs.Answers.{sheetValues}
-use Rattle.report_setup.specs.Cases.{Told, Case, workedCases}
+use Rattle.report_setup_spec.specs.declared.Sheet.{Sheet}
+use Rattle.report_setup_spec.specs.Grammar.{text, sheetOf}
+use Rattle.report_setup_spec.specs.Answers.{sheetValues}
+use Rattle.report_setup_spec.specs.Cases.{Told, Case, workedCases}
 
 abbrev told : Sheet → Told
 told s = record { answer = s; shows = sheetValues s }

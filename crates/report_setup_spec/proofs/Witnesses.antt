@@ -5,14 +5,14 @@ use mathlib.Core.Option.{some}
 use mathlib.Core.Path.{_≡_, sym, _∙_}
 use Prim.Native.Nat.{ℕ, _≤_}
 use native.Mathlib.Omega.{arith}
-use Rattle.report_setup.specs.declared.Mode.{Mode}
-use Rattle.report_setup.specs.declared.Mode.the-variants.{Pack, Lanes}
-use Rattle.report_setup.specs.declared.Tlast.{Tlast}
-use Rattle.report_setup.specs.declared.Tlast.the-variants.{Wired, Absent}
-use Rattle.report_setup.specs.declared.Setup.{Setup}
-use Rattle.report_setup.specs.declared.Sheet.the-variants.{Read}
-use Rattle.report_setup.specs.Grammar.{text, number, sheetOf}
-use Rattle.report_setup.proofs.Promises.{numbers-exactly, sheets-exactly}
+use Rattle.report_setup_spec.specs.declared.Mode.{Mode}
+use Rattle.report_setup_spec.specs.declared.Mode.the-variants.{Pack, Lanes}
+use Rattle.report_setup_spec.specs.declared.Tlast.{Tlast}
+use Rattle.report_setup_spec.specs.declared.Tlast.the-variants.{Wired, Absent}
+use Rattle.report_setup_spec.specs.declared.Setup.{Setup}
+use Rattle.report_setup_spec.specs.declared.Sheet.the-variants.{Read}
+use Rattle.report_setup_spec.specs.Grammar.{text, number, sheetOf}
+use Rattle.report_setup_spec.proofs.Promises.{numbers-exactly, sheets-exactly}
 
 -- ---- numbers
 

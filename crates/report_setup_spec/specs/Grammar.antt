@@ -9,12 +9,12 @@ use Prim.Native.Nat.{ℕ, zero, suc, _+_, _-_, _*_}
 use Prim.Native.Char.{code}
 use Prim.Native.String.{String, len, charAt}
 use lib.Dec.{eqb, leb}
-use Rattle.report_setup.specs.declared.Mode.{Mode}
-use Rattle.report_setup.specs.declared.Mode.the-variants.{Pack, Lanes}
-use Rattle.report_setup.specs.declared.Tlast.{Tlast}
-use Rattle.report_setup.specs.declared.Tlast.the-variants.{Wired, Absent}
-use Rattle.report_setup.specs.declared.Sheet.{Sheet}
-use Rattle.report_setup.specs.declared.Sheet.the-variants.{Read, Refused}
+use Rattle.report_setup_spec.specs.declared.Mode.{Mode}
+use Rattle.report_setup_spec.specs.declared.Mode.the-variants.{Pack, Lanes}
+use Rattle.report_setup_spec.specs.declared.Tlast.{Tlast}
+use Rattle.report_setup_spec.specs.declared.Tlast.the-variants.{Wired, Absent}
+use Rattle.report_setup_spec.specs.declared.Sheet.{Sheet}
+use Rattle.report_setup_spec.specs.declared.Sheet.the-variants.{Read, Refused}
 
 -- ---- texts
 

@@ -4,14 +4,14 @@
 use mathlib.Core.List.{List, [], _∷_}
 use Prim.Native.Nat.{ℕ}
 use Prim.Native.String.{String}
-use Rattle.report_setup.specs.declared.Mode.{Mode}
-use Rattle.report_setup.specs.declared.Mode.the-variants.{Pack, Lanes}
-use Rattle.report_setup.specs.declared.Tlast.{Tlast}
-use Rattle.report_setup.specs.declared.Tlast.the-variants.{Wired, Absent}
-use Rattle.report_setup.specs.declared.Sheet.{Sheet}
-use Rattle.report_setup.specs.declared.Sheet.the-variants.{Read, Refused}
-use Rattle.report_setup.specs.Grammar.{text}
-use Rattle.report_setup.specs.Answers.{Values}
+use Rattle.report_setup_spec.specs.declared.Mode.{Mode}
+use Rattle.report_setup_spec.specs.declared.Mode.the-variants.{Pack, Lanes}
+use Rattle.report_setup_spec.specs.declared.Tlast.{Tlast}
+use Rattle.report_setup_spec.specs.declared.Tlast.the-variants.{Wired, Absent}
+use Rattle.report_setup_spec.specs.declared.Sheet.{Sheet}
+use Rattle.report_setup_spec.specs.declared.Sheet.the-variants.{Read, Refused}
+use Rattle.report_setup_spec.specs.Grammar.{text}
+use Rattle.report_setup_spec.specs.Answers.{Values}
 
 -- an answer, and the numbers and words that it shows
 pub record Told : Type 0 where

@@ -7,17 +7,17 @@ use Prim.Native.Nat.{ℕ, _+_, _-_, _*_, _/_, _%_, _≤_, _<_}
 use native.Mathlib.Omega.{arith}
 use lib.Dec.{eqb, ltb}
 use borrow.Author.Tests.{lt-ltb, le-ltb, ltb-true, ltb-false, eq-eqb, ne-eqb, eqb-true, eqb-false, not-true}
-use Rattle.report_setup.specs.Grammar.{isDigit, number, Line, line, longer, on, firstLine, after, entry, lineOf, oneOf, isWord, nothingLeft, modes, tlasts, text, onLine, ending, sheetOf}
-use Rattle.report_setup.specs.declared.Mode.{Mode}
-use Rattle.report_setup.specs.declared.Mode.the-variants.{Pack, Lanes}
-use Rattle.report_setup.specs.declared.Tlast.{Tlast}
-use Rattle.report_setup.specs.declared.Tlast.the-variants.{Wired, Absent}
-use Rattle.report_setup.specs.declared.Setup.{Setup}
-use Rattle.report_setup.specs.declared.Sheet.{Sheet}
-use Rattle.report_setup.specs.declared.Sheet.the-variants.{Read, Refused}
-use Rattle.report_setup.specs.Answers.{modeWord, tlastWord}
-use Rattle.report_setup.specs.Promises.{numeral, NumbersExactly, lineText, sheetText, SheetsExactly}
-use Rattle.report_setup.proofs.Laws.{both, digit-yes, digit-range}
+use Rattle.report_setup_spec.specs.Grammar.{isDigit, number, Line, line, longer, on, firstLine, after, entry, lineOf, oneOf, isWord, nothingLeft, modes, tlasts, text, onLine, ending, sheetOf}
+use Rattle.report_setup_spec.specs.declared.Mode.{Mode}
+use Rattle.report_setup_spec.specs.declared.Mode.the-variants.{Pack, Lanes}
+use Rattle.report_setup_spec.specs.declared.Tlast.{Tlast}
+use Rattle.report_setup_spec.specs.declared.Tlast.the-variants.{Wired, Absent}
+use Rattle.report_setup_spec.specs.declared.Setup.{Setup}
+use Rattle.report_setup_spec.specs.declared.Sheet.{Sheet}
+use Rattle.report_setup_spec.specs.declared.Sheet.the-variants.{Read, Refused}
+use Rattle.report_setup_spec.specs.Answers.{modeWord, tlastWord}
+use Rattle.report_setup_spec.specs.Promises.{numeral, NumbersExactly, lineText, sheetText, SheetsExactly}
+use Rattle.report_setup_spec.proofs.Digits.{both, digit-yes, digit-range}
 
 -- ---- each number is read
 

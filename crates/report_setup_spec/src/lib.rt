@@ -1,0 +1,29 @@
+// The types that reading a setup sheet answers with (paper 01, 'The report program'). The call that reads one is in the crate
+// report_setup above; what a sheet says is in specs/Grammar, the number and values that an answer stands for in specs/Answers,
+// and the laws about both in proofs/. No octet is read here.
+
+// `mode=pack`: repacking. `mode=lanes`: lane-keeping downsizing.
+pub enum Mode {
+    Pack,
+    Lanes,
+}
+
+// `tlast=wired`: TLAST is as sampled. `tlast=none`: the port has no such wire, and TLAST is filled in first.
+pub enum Tlast {
+    Wired,
+    Absent,
+}
+
+// What a sheet says. The widths are as written, 0 to 99: which of them are allowed is decided in the crate report_call.
+pub struct Setup {
+    pub width_in: usize,
+    pub width_out: usize,
+    pub mode: Mode,
+    pub tlast: Tlast,
+}
+
+// A sheet that was read, or one that is not as paper 01 has it.
+pub enum Sheet {
+    Read(Setup),
+    Refused,
+}
