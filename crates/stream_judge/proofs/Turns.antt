@@ -23,6 +23,7 @@ use Rattle.stream_spec.specs.Checks.{fieldFault, cycleFlags, cycleChecks, width
 use Rattle.stream_spec.specs.Handshake.{waited, waits, r1, r2, r3, r4, transferred, handshakes, Finding, finding, ruleChecks, findings}
 use Rattle.stream_spec.specs.Answers.{verdict, verdictValues, judgeAnswer, Judged}
 use Rattle.stream_spec.specs.Walk.{Passed, recordAt}
+use Rattle.stream_spec.proofs.Bits.{bit-one}
 use Rattle.stream_spec.proofs.Size.{size-pos}
 use Rattle.stream_spec.proofs.Walk.{left-start, record-long, left-next, records-next, few-next, no-records}
 use Rattle.stream_record.specs.declared.Header.{Header}
@@ -121,12 +122,8 @@ module _ (s : Shape) (xs : List ℕ) (from j at k : ℕ) (w : Finding) (h : Look
 
 -- ---- before a finding
 
-bit-low : (t : Bool) → bitOf t ≤ 1
-bit-low true = omega arith
-bit-low false = omega arith
-
 pub at-most-one : (n f : ℕ) → n ≡ bitOf (transfersBy f) → n ≤ 1
-at-most-one n f e = rw e (bit-low (transfersBy f))
+at-most-one n f e = rw e (bit-one (transfersBy f))
 
 pub turning-start : (s : Shape) (xs : List ℕ) → Passed s xs → Turning s xs 0 0 0 0 false
 turning-start s xs p =

@@ -1,6 +1,5 @@
 pub mod Tests
 pub mod RecordFaults
-pub mod Flags
 pub mod Field
 pub mod DataPart
 pub mod Fill
