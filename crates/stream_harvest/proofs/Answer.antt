@@ -8,7 +8,7 @@ use Prim.Native.Nat.{ℕ, _*_, _≤_, _<_}
 use native.Mathlib.Nat.{mul-le-mul-right, div-mul-le-self}
 use native.Mathlib.Omega.{arith}
 use borrow.Author.Tests.{lt-ltb, le-ltb}
-use lib.ListN.{length, drop, length-map}
+use lib.ListN.{length, length-map}
 use Rattle.refusal.specs.declared.Refusal.{Refusal}
 use Rattle.refusal.specs.declared.Refusal.the-variants.{Unclean, Room}
 use Rattle.stream_spec.specs.declared.Shape.{Shape}
@@ -16,14 +16,16 @@ use Rattle.stream_spec.specs.declared.Verdict.{Verdict}
 use Rattle.stream_spec.specs.declared.Verdict.the-variants.{Clean, Broken, Refused}
 use Rattle.stream_spec.specs.declared.Written.{Written}
 use Rattle.stream_spec.specs.declared.Written.the-variants.{Records, Refused as NotWritten}
-use Rattle.stream_spec.specs.Layout.{size, records, recordCount}
+use Rattle.stream_spec.specs.Layout.{widthMost, size, records, recordCount}
 use Rattle.refusal.specs.Checks.{Check, first}
-use Rattle.stream_spec.specs.Checks.{widthCheck, lengthCheck, cycleChecks, roomCheck}
+use Rattle.stream_spec.specs.Checks.{captureMost, takeChecks, cycleChecks, roomCheck}
 use Rattle.stream_spec.specs.Handshake.{Finding, findings, firstFinding, transferred, handshakes, asTransfer, transferCount, harvested}
 use Rattle.stream_spec.specs.Answers.{verdict, writtenValues, judgeChecks, judgeAnswer, uncleanCheck, harvestRefusal, harvestAnswer, harvestAfter, Harvested}
-use Rattle.refusal.proofs.First.{first-none}
+use Rattle.refusal.proofs.First.{append-none}
 use Rattle.stream_spec.proofs.Records.{size-pos, Sized, length-joined, length-pieces, records-sized}
-use Rattle.stream_spec.proofs.Repack.{width-fits, length-fits}
+use Rattle.stream_spec.specs.Memory.{inFront}
+use Rattle.stream_spec.specs.Walk.{Passed}
+use Rattle.stream_spec.proofs.Walk.{checks-passed}
 use Rattle.stream_spec.proofs.Harvest.{fewer, length-kept}
 use Rattle.stream_harvest.specs.Filling.{TakeFits}
 
@@ -130,21 +132,19 @@ module _ (s : Shape) (xs : List ℕ) (v : Verdict) (judged : v ≡ judgeAnswer s
     unfolding judgeAnswer
     passed = is-clean (first (judgeChecks s xs)) (firstFinding s xs) n (transferCount s xs) (sym clean ∙ judged)
 
-    tests : (widthCheck (s .width) .found ≡ false) × (lengthCheck s xs .found ≡ false)
-    tests =
-        let w = first-none (widthCheck (s .width)) (lengthCheck s xs ∷ cycleChecks s 0 (records s xs)) (passed .accepted) in
-        (w .0, first-none (lengthCheck s xs) (cycleChecks s 0 (records s xs)) (w .1) .0)
+    tests : Passed s xs
+    tests = checks-passed s xs (append-none (takeChecks s xs) (cycleChecks s 0 (records s xs)) (passed .accepted) .0)
 
-    pub clean-width : s .width ≤ 16
-    clean-width = width-fits (s .width) (tests .0) .high
+    pub clean-width : s .width ≤ widthMost
+    clean-width = tests .high
 
     -- the code has the record's size in z
     module _ (z : ℕ) (q : z ≡ size s) where
       long-is : n * z ≡ length (harvested s xs)
       long-is = ap₂ (λ (a b : ℕ). a * b) (passed .count) q ∙ sym (harvested-long s xs)
 
-      pub clean-short : n * z ≤ 65536
-      clean-short = omega (arith, long-is, harvested-long s xs, harvested-short s xs, length-fits s xs (tests .1) .0)
+      pub clean-short : n * z ≤ captureMost
+      clean-short = omega (arith, long-is, harvested-long s xs, harvested-short s xs, tests .short)
 
       module _ (before : List ℕ) where
         by-room : harvestRefusal s xs (length before) ≡ first (roomCheck (harvested s xs) (length before) ∷ [])
@@ -156,9 +156,9 @@ module _ (s : Shape) (xs : List ℕ) (v : Verdict) (judged : v ≡ judgeAnswer s
             refused-by before Room (by-room ∙ rw (lt-ltb (length before) (length (harvested s xs)) short) refl)
 
         pub harvest-fits : n * z ≤ length before → TakeFits s xs before
-        harvest-fits l = record { low = width-fits (s .width) (tests .0) .low; width = clean-width; whole = length-fits s xs (tests .1) .1; room = omega (arith, long-is) }
+        harvest-fits l = record { passed = tests; room = omega (arith, long-is) }
 
-        pub harvest-written : n * z ≤ length before → (after : List ℕ) → after ≡ harvested s xs ++ drop (length (harvested s xs)) before
+        pub harvest-written : n * z ≤ length before → (after : List ℕ) → after ≡ inFront (harvested s xs) before
             → Harvested s xs before after (Records n)
         unfolding harvestAnswer harvestAfter
         harvest-written l after e =

@@ -7,14 +7,15 @@ use native.Mathlib.Nat.{div-one}
 use native.Mathlib.Omega.{arith}
 use borrow.Author.Tests.{eqb-true, eqb-false}
 use lib.Dec.{eqb}
-use lib.ListN.{length, getD, take, drop, set, length-set, length-drop, take-append-drop}
-use lib.Seq.{take-all, length-take-le, drop-drop}
+use lib.ListN.{length, getD, take, drop, set, length-set, length-drop}
+use lib.Seq.{take-all, take-add, length-take-le, drop-drop}
 use Rattle.stream_spec.specs.Layout.{bit, bitOf}
 use Rattle.stream_spec.specs.Handshake.{asTransfer}
+use Rattle.stream_spec.specs.Memory.{inFront}
 use Rattle.stream_spec.proofs.Harvest.{length-kept}
 use Rattle.words.specs.Splice.{splice}
 use Rattle.words.specs.Words.{padded}
-use Rattle.words.proofs.Splice.{splice-over}
+use Rattle.words.proofs.Splice.{splice-long, splice-splice}
 
 -- TLAST as a number is the lowest bit of octet 0
 pub low-bit : (n : ℕ) → bitOf (bit 0 n) ≡ n % 2
@@ -27,53 +28,59 @@ low-bit n = rw (div-one n) (go (eqb (n % 2) 1) refl)
 pub same-length : (rec : List ℕ) → 0 < length rec → length (asTransfer rec) ≡ length rec
 same-length rec h = length-kept (length rec) rec h refl
 
--- the first k octets of a row, all of which are wanted
-padded-take : (k : ℕ) (xs : List ℕ) → k ≤ length xs → padded k k xs ≡ take k xs
-padded-take zero xs h = refl
-padded-take (suc k) [] h = absurd (omega arith)
-padded-take (suc k) (x ∷ xs) h = ap {B = List ℕ} (λ l. x ∷ l) (padded-take k xs (omega arith))
+-- ---- one group
 
--- a part of a record up to its end
+-- the part from `at` on is lent, and the first n octets of it are wanted
+padded-take : (n : ℕ) (xs : List ℕ) → n ≤ length xs → padded n n xs ≡ take n xs
+padded-take zero xs h = refl
+padded-take (suc n) [] h = absurd (omega arith)
+padded-take (suc n) (x ∷ xs) h = ap {B = List ℕ} (λ l. x ∷ l) (padded-take n xs (omega arith))
+
 part-all : (i : ℕ) (rec : List ℕ) → take (length rec - i) (drop i rec) ≡ drop i rec
 part-all i rec = take-all (length rec - i) (drop i rec) (omega (arith, length-drop i rec))
 
--- octet 0, and all others behind it
-tail-put : (rec out : List ℕ) → 0 < length rec → length rec ≤ length out
-    → splice 1 (drop 1 rec) (set out 0 (getD rec 0 0 % 2)) ≡ asTransfer rec ++ drop (length rec) out
-tail-put [] out h l = absurd (omega arith)
-tail-put (x ∷ rec) [] h l = absurd (omega arith)
-tail-put (x ∷ rec) (y ∷ out) h l =
-    let far : 1 + length rec ≡ suc (length rec) = omega arith in
-    rw (far, low-bit x) refl
+pub part-long : (i : ℕ) (rec : List ℕ) → length (take (length rec - i) (drop i rec)) ≡ length rec - i
+part-long i rec = rw (part-all i rec) (length-drop i rec)
 
--- how long the parts are that are lent
-pub part-long : (i : ℕ) (rec : List ℕ) → i ≤ length rec → length (take (length rec - i) (drop i rec)) ≡ length rec - i
-part-long i rec h = rw (part-all i rec) (length-drop i rec)
+pub group-is : (n i : ℕ) (rec : List ℕ) → i + n ≤ length rec → padded n n (take (length rec - i) (drop i rec)) ≡ take n (drop i rec)
+group-is n i rec h = rw (part-all i rec) (padded-take n (drop i rec) (omega (arith, length-drop i rec)))
 
-module _ (rec out : List ℕ) (low : 8 ≤ length rec) (room : length rec ≤ length out) (after : List ℕ)
-    (e : after ≡ splice 1 (padded 7 7 (take (length rec - 1) (drop 1 rec))) (set out 0 (getD rec 0 0 % 2))) where
-  seven : padded 7 7 (take (length rec - 1) (drop 1 rec)) ≡ take 7 (drop 1 rec)
-  seven = rw (part-all 1 rec) (padded-take 7 (drop 1 rec) (omega (arith, length-drop 1 rec)))
+-- ---- the record, group by group
 
-  -- a record of eight octets is put ..
-  pub short-put : length rec ≤ 8 → after ≡ asTransfer rec ++ drop (length rec) out
-  short-put h =
-      let all : take 7 (drop 1 rec) ≡ drop 1 rec = take-all 7 (drop 1 rec) (omega (arith, length-drop 1 rec)) in
-      e ∙ ap (λ (xs : List ℕ). splice 1 xs (set out 0 (getD rec 0 0 % 2))) (seven ∙ all) ∙ tail-put rec out (omega arith) room
+-- octet 0 and j octets behind it stand in the output
+abbrev pub copied : List ℕ → List ℕ → ℕ → List ℕ
+copied rec out j = splice 1 (take j (drop 1 rec)) (set out 0 (getD rec 0 0 % 2))
 
-  -- .. and a longer one, by a second group
-  pub long-put : 8 < length rec → (last : List ℕ)
-      → last ≡ splice 8 (padded (length rec - 8) (length rec - 8) (take (length rec - 8) (drop 8 rec))) after
-      → last ≡ asTransfer rec ++ drop (length rec) out
-  long-put h last f =
-      let first-long : length (take 7 (drop 1 rec)) ≡ 7 = length-take-le 7 (drop 1 rec) (omega (arith, length-drop 1 rec)) in
-      let rest : padded (length rec - 8) (length rec - 8) (take (length rec - 8) (drop 8 rec)) ≡ drop 8 rec =
-      rw (part-all 8 rec) (padded-take (length rec - 8) (drop 8 rec) (omega (arith, length-drop 8 rec)) ∙ part-all 8 rec) in
-      let joined : take 7 (take 7 (drop 1 rec)) ++ drop 8 rec ≡ drop 1 rec =
-      rw (take-all 7 (take 7 (drop 1 rec)) (omega arith), ← drop-drop 7 1 rec) (take-append-drop 7 (drop 1 rec)) in
-      f
-      ∙ ap₂ (λ (xs o : List ℕ). splice 8 xs o) rest (e ∙ ap (λ (xs : List ℕ). splice 1 xs (set out 0 (getD rec 0 0 % 2))) seven)
-      ∙ splice-over 1 7 (take 7 (drop 1 rec)) (drop 8 rec) (set out 0 (getD rec 0 0 % 2)) (omega arith) (omega arith)
-      (omega (arith, length-drop 8 rec, length-set out 0 (getD rec 0 0 % 2)))
-      ∙ ap (λ (xs : List ℕ). splice 1 xs (set out 0 (getD rec 0 0 % 2))) joined
-      ∙ tail-put rec out (omega arith) room
+module _ (rec out : List ℕ) (room : length rec ≤ length out) where
+  group-long : (n i : ℕ) → i + n ≤ length rec → length (take n (drop i rec)) ≡ n
+  group-long n i h = length-take-le n (drop i rec) (omega (arith, length-drop i rec))
+
+  pub copied-long : (j : ℕ) → 1 + j ≤ length rec → length (copied rec out j) ≡ length out
+  copied-long j h =
+      splice-long 1 (take j (drop 1 rec)) (set out 0 (getD rec 0 0 % 2)) (omega (arith, group-long j 1 h, length-set out 0 (getD rec 0 0 % 2)))
+      ∙ length-set out 0 (getD rec 0 0 % 2)
+
+  -- n octets more
+  pub copied-more : (j n : ℕ) → 1 + j + n ≤ length rec → splice (1 + j) (take n (drop (1 + j) rec)) (copied rec out j) ≡ copied rec out (j + n)
+  copied-more j n h =
+      let zeroth = set out 0 (getD rec 0 0 % 2) in
+      let long : length (take j (drop 1 rec)) ≡ j = group-long j 1 (omega arith) in
+      let fits : 1 + length (take j (drop 1 rec)) + length (take n (drop (1 + j) rec)) ≤ length (set out 0 (getD rec 0 0 % 2)) =
+      omega (arith, long, group-long n (1 + j) h, length-set out 0 (getD rec 0 0 % 2)) in
+      let behind : take n (drop (1 + j) rec) ≡ take n (drop j (drop 1 rec)) = ap (take n) (sym (drop-drop j 1 rec)) in
+      ap (λ (i : ℕ). splice (1 + i) (take n (drop (1 + j) rec)) (copied rec out j)) (sym long)
+      ∙ splice-splice 1 (take j (drop 1 rec)) (take n (drop (1 + j) rec)) zeroth fits
+      ∙ ap (λ (xs : List ℕ). splice 1 xs (set out 0 (getD rec 0 0 % 2))) (ap (λ (xs : List ℕ). take j (drop 1 rec) ++ xs) behind ∙ sym (take-add j n (drop 1 rec)))
+
+  -- all of them
+  pub copied-all : (j : ℕ) → 1 + j ≡ length rec → copied rec out j ≡ inFront (asTransfer rec) out
+  copied-all j e =
+      ap (λ (xs : List ℕ). splice 1 xs (set out 0 (getD rec 0 0 % 2))) (take-all j (drop 1 rec) (omega (arith, length-drop 1 rec)))
+      ∙ go rec out (omega arith) room
+    where
+      go : (rec out : List ℕ) → 0 < length rec → length rec ≤ length out → splice 1 (drop 1 rec) (set out 0 (getD rec 0 0 % 2)) ≡ inFront (asTransfer rec) out
+      go [] out h l = absurd (omega arith)
+      go (x ∷ rec) [] h l = absurd (omega arith)
+      go (x ∷ rec) (y ∷ out) h l =
+          let far : 1 + length rec ≡ suc (length rec) = omega arith in
+          rw (far, low-bit x) refl

@@ -1,13 +1,14 @@
 -- One cycle of the pass: what it adds to the output, from the code's number of its transfers. Assumes nothing.
-use mathlib.Core.Path.{_≡_, refl, sym, ap, _∙_}
+use mathlib.Core.Path.{_≡_, refl, sym, _∙_}
 use mathlib.Core.Bool.{Bool, true, false}
-use mathlib.Core.List.{List, _++_}
-use Prim.Native.Nat.{ℕ, _≤_, _<_}
+use mathlib.Core.List.{List}
+use Prim.Native.Nat.{ℕ, _<_}
 use native.Mathlib.Omega.{arith}
-use lib.ListN.{length, drop}
+use lib.ListN.{length}
 use Rattle.stream_spec.specs.Layout.{bitOf}
 use Rattle.stream_spec.specs.Handshake.{transferred, asTransfer}
-use Rattle.stream_harvest.specs.Filling.{added, CycleFits, CyclePut}
+use Rattle.stream_spec.specs.Memory.{inFront}
+use Rattle.stream_harvest.specs.Filling.{added, RecordFits, CycleFits, CyclePut}
 use Rattle.stream_harvest.proofs.Copied.{same-length}
 
 module _ (c out : List ℕ) (fits : CycleFits c out) (n : ℕ) (is : n ≡ bitOf (transferred c)) where
@@ -33,13 +34,11 @@ module _ (c out : List ℕ) (fits : CycleFits c out) (n : ℕ) (is : n ≡ bitOf
   put-none z = record { is = rw (no-transfer z) refl; leaves = rw (no-transfer z) refl }
 
   -- a transfer finds room ..
-  pub put-room : (n ≡ 0 → ⊥) → (8 ≤ length c) × (length c ≤ 23) × (length c ≤ length out)
+  pub put-room : (n ≡ 0 → ⊥) → RecordFits c out
   put-room z =
       let added-is : length (added c) ≡ length c = rw (a-transfer z) (same-length c some) in
-      (fits .low, fits .high, omega (arith, fits .room))
+      record { low = fits .low; high = fits .high; room = omega (arith, fits .room) }
 
   -- .. and adds its record
-  pub put-one : (n ≡ 0 → ⊥) → (after : List ℕ) → after ≡ asTransfer c ++ drop (length c) out → CyclePut c out after (length c)
-  put-one z after e =
-      let long = same-length c some in
-      record { is = rw (a-transfer z) (sym long); leaves = rw (a-transfer z) (e ∙ ap (λ (k : ℕ). asTransfer c ++ drop k out) (sym long)) }
+  pub put-one : (n ≡ 0 → ⊥) → (after : List ℕ) → after ≡ inFront (asTransfer c) out → CyclePut c out after (length c)
+  put-one z after e = record { is = rw (a-transfer z) (sym (same-length c some)); leaves = rw (a-transfer z) e }

@@ -1,29 +1,46 @@
 // Harvesting: the transfers of a judged take, written into a lent output. What is written is stream_spec's `harvested`, and
 // the rules that a take must keep are judged by the crate stream_judge. No rule is read here, and nothing is repacked.
 use refusal::Refusal;
+use stream_record::layout::FLAGS;
+use stream_record::layout::SIZE_LEAST;
+use stream_record::layout::TID;
 use stream_spec::Shape;
 use stream_spec::Verdict;
 use stream_spec::Written;
 ghost use mathlib.Core.Path.{_≡_};
-ghost use mathlib.Core.List.{_++_};
-ghost use Prim.Native.Nat.{_≤_};
-ghost use lib.ListN.{length, drop};
+ghost use lib.ListN.{take, drop};
+ghost use Rattle.words.specs.Splice.{splice};
 ghost use Rattle.stream_spec.specs.Handshake.{asTransfer, harvested};
+ghost use Rattle.stream_spec.specs.Memory.{inFront};
 ghost use Rattle.stream_spec.specs.Answers.{Harvested};
-ghost use Rattle.stream_harvest.specs.Filling.{CycleFits, CyclePut, TakeFits};
+ghost use Rattle.stream_harvest.specs.Filling.{RecordFits, PartFits, CycleFits, CyclePut, TakeFits};
+
+// Copies n octets of the record, from octet `at` on, to the same places of `out`.
+fn copy(rec: &[u8], out: &mut [u8], at: usize, n: usize)
+    requires { ⌜ PartFits (now rec) (now out) at n ⌝ }
+    ensures { λ _. ⌜ now (out .exit) ≡ splice at (take n (drop at (now (rec .entry)))) (now (out .entry)) ⌝ }
+{
+    words::place(out, at, &rec[at..], n, n);
+}
 
 // Writes the cycle record `rec` as a transfer record at the front of `out`: octet 0 has TLAST alone, and the others are
-// as sampled, moved in groups.
+// as sampled, moved in groups of up to sixteen.
 fn put_transfer(rec: &[u8], out: &mut [u8])
-    requires { ⌜ (8 ≤ length (now rec)) × (length (now rec) ≤ 23) × (length (now rec) ≤ length (now out)) ⌝ }
-    ensures { λ r. ⌜ now (out .exit) ≡ asTransfer (now (rec .entry)) ++ drop (length (now (rec .entry))) (now (out .entry)) ⌝ }
+    requires { ⌜ RecordFits (now rec) (now out) ⌝ }
+    ensures { λ _. ⌜ now (out .exit) ≡ inFront (asTransfer (now (rec .entry))) (now (out .entry)) ⌝ }
 {
     let n = rec.len();
-    out[0] = rec[0] % 2;
-    words::place(out, 1, &rec[1..], 7, 7);
-    if 8 < n {
-        words::place(out, 8, &rec[8..], n - 8, n - 8);
+    out[FLAGS] = rec[FLAGS] % 2;
+    copy(rec, out, TID, 7);
+    if n == SIZE_LEAST {
+        return;
     }
+    if n <= 24 {
+        copy(rec, out, 8, n - 8);
+        return;
+    }
+    copy(rec, out, 8, 16);
+    copy(rec, out, 24, n - 24);
 }
 
 // Writes the record of one cycle at the front of `out`, if it is a transfer, and answers how many octets it wrote.
@@ -31,7 +48,7 @@ fn put_cycle(rec: &[u8], out: &mut [u8]) -> usize
     requires { ⌜ CycleFits (now rec) (now out) ⌝ }
     ensures { λ r. ⌜ CyclePut (now (rec .entry)) (now (out .entry)) (now (out .exit)) r ⌝ }
 {
-    if stream_judge::transfers(rec[0] as u32) == 0 {
+    if stream_judge::transfers(rec[FLAGS] as u32) == 0 {
         return 0;
     }
     put_transfer(rec, out);
@@ -41,7 +58,7 @@ fn put_cycle(rec: &[u8], out: &mut [u8]) -> usize
 // Writes the transfers of a clean take for which there is room. Each is written by a helper lent `out` from its offset on.
 fn put_cycles(s: Shape, capture: &[u8], out: &mut [u8])
     requires { ⌜ TakeFits s (now capture) (now out) ⌝ }
-    ensures { λ r. ⌜ now (out .exit) ≡ harvested s (now (capture .entry)) ++ drop (length (harvested s (now (capture .entry)))) (now (out .entry)) ⌝ }
+    ensures { λ _. ⌜ now (out .exit) ≡ inFront (harvested s (now (capture .entry))) (now (out .entry)) ⌝ }
 {
     let size = stream_record::record_size(s);
     let mut at = 0;

@@ -5,6 +5,9 @@ use Rattle.stream_harvest.proofs.Cycle.{put-none, put-room, put-one}
 use Rattle.stream_harvest.proofs.put_cycle.Statement.{statement}
 use Rattle.stream_harvest.proofs.put_cycle.Tie as tie
 
+abbrev entry : tie.After-transfers → tie.Start
+entry c = c .before .before .before .before
+
 shared-slice-read-transfers : tie.Need-shared-slice-read-transfers
 shared-slice-read-transfers c = search needs
 
@@ -15,16 +18,27 @@ transfers-requires : tie.Need-transfers-requires
 transfers-requires c κs = search needs
 
 returns : tie.Need-returns
-returns c = put-none (c .before .before .before .before .before .args .rec .now) (c .before .before .before .before .before .args .out .now) (c .before .before .before .before .before .pre) (c .before .transfers .result) (c .before .transfers .ensures) (c .if1 .taken)
+returns c =
+    let n = c .before .transfers in
+    let e = entry (c .before) in
+    put-none (e .args .rec .now) (e .args .out .now) (e .pre) (n .result) (n .ensures) (c .if1 .taken)
 
 put-transfer-requires : tie.Need-put-transfer-requires
-put-transfer-requires c κs = put-room (c .before .before .before .before .before .before .args .rec .now) (c .before .before .before .before .before .before .args .out .now) (c .before .before .before .before .before .before .pre) (c .before .before .transfers .result) (c .before .before .transfers .ensures) (c .before .if1 .left)
+put-transfer-requires c κs =
+    let n = c .before .before .transfers in
+    let e = entry (c .before .before) in
+    put-room (e .args .rec .now) (e .args .out .now) (e .pre) (n .result) (n .ensures) (c .before .if1 .left)
 
 same-length : tie.Need-same-length
 same-length c = search needs
 
 returns-2 : tie.Need-returns-2
-returns-2 c = put-one (c .before .before .before .before .before .before .before .before .before .args .rec .now) (c .before .before .before .before .before .before .before .before .before .args .out .now) (c .before .before .before .before .before .before .before .before .before .pre) (c .before .before .before .before .before .transfers .result) (c .before .before .before .before .before .transfers .ensures) (c .before .before .before .before .if1 .left) (c .before .before .put-transfer .last .1 .0) (c .before .before .put-transfer .ensures)
+returns-2 c =
+    let put = c .before .before in
+    let some = put .before .before in
+    let n = some .before .transfers in
+    let e = entry (some .before) in
+    put-one (e .args .rec .now) (e .args .out .now) (e .pre) (n .result) (n .ensures) (some .if1 .left) (put .put-transfer .last .1 .0) (put .put-transfer .ensures)
 
 pub put-cycle-spec : {M : Type 1} → statement M
 put-cycle-spec =

@@ -2,14 +2,16 @@
 -- what the take gives. The shape is not read in the loop, so it is said of each shape with records of this size. Assumes
 -- nothing.
 use mathlib.Core.Path.{_≡_, sym, _∙_}
-use Prim.Native.Nat.{_-_}
+use mathlib.Core.List.{List}
+use Prim.Native.Nat.{ℕ, _+_, _-_, _≤_}
 use native.Mathlib.Omega.{arith}
 use lib.ListN.{length}
 use Rattle.stream_spec.specs.declared.Shape.{Shape}
 use Rattle.stream_spec.specs.Layout.{size as sizeOf}
-use Rattle.stream_spec.proofs.Records.{size-pos}
+use Rattle.stream_spec.proofs.Size.{size-pos}
+use Rattle.stream_spec.proofs.Walk.{record-fits}
 use Rattle.stream_harvest.specs.Filling.{Filling}
-use Rattle.stream_harvest.proofs.Fill.{filling-start, part-room, lent-room, asks, adds, goes-on, filled}
+use Rattle.stream_harvest.proofs.Fill.{filling-start, asks, adds, goes-on, filled}
 use Rattle.stream_harvest.proofs.put_cycles.Statement.{statement}
 use Rattle.stream_harvest.proofs.put_cycles.Tie as tie
 
@@ -19,14 +21,53 @@ Inv-loop capture out₀ size at₀ to₀ out at to = (s : Shape) → size ≡ si
 abbrev μ-loop : tie.MeasureT-loop
 μ-loop capture out₀ size at₀ to₀ out at to = length capture - at
 
+-- ---- what is known in a turn, and what is known behind the loop's end
+
+abbrev Turns : Type 0
+Turns = tie.At-loop Inv-loop μ-loop
+
+abbrev entry : Turns → tie.Start Inv-loop μ-loop
+entry t = t .before .before .before .before
+
+abbrev shape : Turns → Shape
+shape t = entry t .args .s
+
+abbrev octets : Turns → List ℕ
+octets t = entry t .args .capture .now
+
+abbrev lent : Turns → List ℕ
+lent t = entry t .args .out .now
+
+abbrev long : Turns → ℕ
+long t = t .before .record-size .result
+
+filling : (t : Turns) → Filling (shape t) (octets t) (lent t) (t .loop .out) (t .loop .at) (t .loop .to)
+filling t = t .loop .inv (shape t) (t .before .record-size .ensures)
+
+written : (t : Turns) → t .loop .to ≤ length (t .loop .out)
+written t = omega (arith, filling t .writing .room)
+
+fits : (c : tie.In-loop Inv-loop μ-loop) → c .before .loop .at + long (c .before) ≤ length (octets (c .before))
+fits c =
+    let t = c .before in
+    record-fits (shape t) (octets t) (t .loop .at) (filling t .left) (c .loop-test .taken) (long t) (t .before .record-size .ensures)
+
+-- the turn, from its end
+abbrev turn : tie.After-slice-known2 Inv-loop μ-loop → tie.In-loop Inv-loop μ-loop
+turn c = c .before .before .before .before .before
+
+-- ---- the needs
+
 record-size-requires : tie.Need-record-size-requires Inv-loop μ-loop
-record-size-requires c κs = c .before .before .pre .width
+record-size-requires c κs = c .before .before .pre .passed .high
 
 loop-holds : tie.Need-loop-holds Inv-loop μ-loop
-loop-holds c = λ s q. filling-start (c .before .before .before .args .s) s (c .before .before .before .args .capture .now) (c .before .before .before .args .out .now) (sym q ∙ c .record-size .ensures) (c .before .before .before .pre)
+loop-holds c =
+    let e = c .before .before .before in
+    λ s q. filling-start (e .args .s) s (e .args .capture .now) (e .args .out .now) (sym q ∙ c .record-size .ensures) (e .pre)
 
 add-next : tie.Need-add-next Inv-loop μ-loop
-add-next c = omega (arith, part-room (c .before .before .before .before .before .args .s) (c .before .before .before .before .before .args .capture .now) (c .before .before .before .before .before .args .out .now) (c .before .loop .out) (c .before .loop .at) (c .before .loop .to) (c .before .loop .inv (c .before .before .before .before .before .args .s) (c .before .before .record-size .ensures)) (c .loop-test .taken) (c .before .before .record-size .result) (c .before .before .record-size .ensures))
+add-next c = omega (arith, fits c)
 
 sub-put-cycle : tie.Need-sub-put-cycle Inv-loop μ-loop
 sub-put-cycle c = omega arith
@@ -35,34 +76,51 @@ part-put-cycle-start : tie.Need-part-put-cycle-start Inv-loop μ-loop
 part-put-cycle-start c = omega arith
 
 part-put-cycle-end : tie.Need-part-put-cycle-end Inv-loop μ-loop
-part-put-cycle-end c = part-room (c .before .before .before .before .before .args .s) (c .before .before .before .before .before .args .capture .now) (c .before .before .before .before .before .args .out .now) (c .before .loop .out) (c .before .loop .at) (c .before .loop .to) (c .before .loop .inv (c .before .before .before .before .before .args .s) (c .before .before .record-size .ensures)) (c .loop-test .taken) (c .before .before .record-size .result) (c .before .before .record-size .ensures)
+part-put-cycle-end c = fits c
 
 sub-put-cycle-2 : tie.Need-sub-put-cycle-2 Inv-loop μ-loop
-sub-put-cycle-2 c = lent-room (c .before .before .before .before .before .before .args .s) (c .before .before .before .before .before .before .args .capture .now) (c .before .before .before .before .before .before .args .out .now) (c .before .before .loop .out) (c .before .before .loop .at) (c .before .before .loop .to) (c .before .before .loop .inv (c .before .before .before .before .before .before .args .s) (c .before .before .before .record-size .ensures)) (c .before .loop-test .taken) (c .before .before .before .record-size .result) (c .before .before .before .record-size .ensures)
+sub-put-cycle-2 c = written (c .before .before)
 
 part-put-cycle-start-2 : tie.Need-part-put-cycle-start-2 Inv-loop μ-loop
-part-put-cycle-start-2 c = lent-room (c .before .before .before .before .before .before .args .s) (c .before .before .before .before .before .before .args .capture .now) (c .before .before .before .before .before .before .args .out .now) (c .before .before .loop .out) (c .before .before .loop .at) (c .before .before .loop .to) (c .before .before .loop .inv (c .before .before .before .before .before .before .args .s) (c .before .before .before .record-size .ensures)) (c .before .loop-test .taken) (c .before .before .before .record-size .result) (c .before .before .before .record-size .ensures)
+part-put-cycle-start-2 c = written (c .before .before)
 
 part-put-cycle-end-2 : tie.Need-part-put-cycle-end-2 Inv-loop μ-loop
 part-put-cycle-end-2 c = omega arith
 
 put-cycle-requires : tie.Need-put-cycle-requires Inv-loop μ-loop
-put-cycle-requires c κs = asks (c .before .before .before .before .before .before .before .args .s) (c .before .before .before .before .before .before .before .args .capture .now) (c .before .before .before .before .before .before .before .args .out .now) (c .before .before .before .loop .out) (c .before .before .before .loop .at) (c .before .before .before .loop .to) (c .before .before .before .loop .inv (c .before .before .before .before .before .before .before .args .s) (c .before .before .before .before .record-size .ensures)) (c .before .before .loop-test .taken) (c .before .before .before .before .record-size .result) (c .before .before .before .before .record-size .ensures) (c .before .before .before .before .before .before .before .pre .low) (c .before .before .before .before .before .before .before .pre .width)
+put-cycle-requires c κs =
+    let turn = c .before .before in
+    let t = turn .before in
+    asks (shape t) (octets t) (lent t) (t .loop .out) (t .loop .at) (t .loop .to) (filling t) (turn .loop-test .taken) (long t)
+    (t .before .record-size .ensures) (entry t .pre .passed)
 
 add-to : tie.Need-add-to Inv-loop μ-loop
-add-to c = omega (arith, c .before .before .before .before .before .before .before .before .before .before .good .1 .1 .0 .0, c .before .before .before .before .before .before .loop .inv (c .before .before .before .before .before .before .before .before .before .before .args .s) (c .before .before .before .before .before .before .before .record-size .ensures) .long, adds (c .before .before .before .before .before .before .before .before .before .before .args .s) (c .before .before .before .before .before .before .before .before .before .before .args .capture .now) (c .before .before .before .before .before .before .before .before .before .before .args .out .now) (c .before .before .before .before .before .before .loop .out) (c .before .before .before .before .before .before .loop .at) (c .before .before .before .before .before .before .loop .to) (c .before .before .before .before .before .before .loop .inv (c .before .before .before .before .before .before .before .before .before .before .args .s) (c .before .before .before .before .before .before .before .record-size .ensures)) (c .before .before .before .before .before .loop-test .taken) (c .before .before .before .before .before .before .before .record-size .result) (c .before .before .before .before .before .before .before .record-size .ensures) (c .before .before .put-cycle .last .1 .0) (c .before .before .put-cycle .result) (c .before .before .put-cycle .ensures))
+add-to c =
+    let t = turn c .before in
+    let put = c .before .before .put-cycle in
+    let more = adds (shape t) (octets t) (lent t) (t .loop .out) (t .loop .at) (t .loop .to) (filling t) (turn c .loop-test .taken) (long t)
+    (t .before .record-size .ensures) (put .last .1 .0) (put .result) (put .ensures) in
+    omega (arith, entry t .good .1 .1 .0 .0, filling t .writing .same, more)
 
 loop-less : tie.Need-loop-less Inv-loop μ-loop
-loop-less c = omega (arith, part-room (c .before .before .before .before .before .before .before .before .before .before .args .s) (c .before .before .before .before .before .before .before .before .before .before .args .capture .now) (c .before .before .before .before .before .before .before .before .before .before .args .out .now) (c .before .before .before .before .before .before .loop .out) (c .before .before .before .before .before .before .loop .at) (c .before .before .before .before .before .before .loop .to) (c .before .before .before .before .before .before .loop .inv (c .before .before .before .before .before .before .before .before .before .before .args .s) (c .before .before .before .before .before .before .before .record-size .ensures)) (c .before .before .before .before .before .loop-test .taken) (c .before .before .before .before .before .before .before .record-size .result) (c .before .before .before .before .before .before .before .record-size .ensures), c .before .before .before .before .before .before .before .record-size .ensures, size-pos (c .before .before .before .before .before .before .before .before .before .before .args .s))
+loop-less c =
+    let t = turn c .before in
+    omega (arith, fits (turn c), t .before .record-size .ensures, size-pos (shape t))
 
 loop-again : tie.Need-loop-again Inv-loop μ-loop
-loop-again c = λ s q. goes-on s (c .before .before .before .before .before .before .before .before .before .before .args .capture .now) (c .before .before .before .before .before .before .before .before .before .before .args .out .now) (c .before .before .before .before .before .before .loop .out) (c .before .before .before .before .before .before .loop .at) (c .before .before .before .before .before .before .loop .to) (c .before .before .before .before .before .before .loop .inv s q) (c .before .before .before .before .before .loop-test .taken) (c .before .before .before .before .before .before .before .record-size .result) q (c .before .before .put-cycle .last .1 .0) (c .before .before .put-cycle .result) (c .before .before .put-cycle .ensures)
+loop-again c =
+    let t = turn c .before in
+    let put = c .before .before .put-cycle in
+    λ s q. goes-on s (octets t) (lent t) (t .loop .out) (t .loop .at) (t .loop .to) (t .loop .inv s q) (turn c .loop-test .taken) (long t) q
+    (put .last .1 .0) (put .result) (put .ensures)
 
 same-length : tie.Need-same-length Inv-loop μ-loop
-same-length c = c .before .loop .inv (c .before .before .before .before .before .args .s) (c .before .before .record-size .ensures) .long
+same-length c = filling (c .before) .writing .same
 
 returns : tie.Need-returns Inv-loop μ-loop
-returns c = filled (c .before .before .before .before .before .args .s) (c .before .before .before .before .before .args .capture .now) (c .before .before .before .before .before .args .out .now) (c .before .loop .out) (c .before .loop .at) (c .before .loop .to) (c .before .loop .inv (c .before .before .before .before .before .args .s) (c .before .before .record-size .ensures)) (c .loop-test .left)
+returns c =
+    let t = c .before in
+    filled (shape t) (octets t) (lent t) (t .loop .out) (t .loop .at) (t .loop .to) (filling t) (c .loop-test .left)
 
 pub put-cycles-spec : {M : Type 1} → statement M
 put-cycles-spec =
