@@ -1,6 +1,7 @@
 // Fill-in of TLAST, for ports that have no such wire: bit 0 of octet 0 of every record of a lent take is set to a level, and
 // nothing else is touched. Judging is in the crate stream_judge, harvesting in stream_harvest.
-use refusal::Refusal;
+use stream_record::Checked;
+use stream_record::layout::FLAGS;
 use stream_spec::Shape;
 use stream_spec::Written;
 ghost use mathlib.Core.Path.{_≡_};
@@ -9,7 +10,8 @@ ghost use lib.ListN.{length};
 ghost use Rattle.stream_spec.specs.Layout.{bitOf};
 ghost use Rattle.stream_spec.specs.Handshake.{baseLevel, withLast};
 ghost use Rattle.stream_spec.specs.Answers.{FilledIn};
-ghost use Rattle.stream_fill_in.specs.Filling.{Fills, Filled};
+ghost use Rattle.stream_spec.specs.Walk.{Passed};
+ghost use Rattle.stream_fill_in.specs.Filling.{Filled};
 
 // A level as a bit.
 fn bit(level: bool) -> u8
@@ -26,13 +28,13 @@ fn put_last(rec: &mut [u8], level: bool)
     requires { ⌜ 0 < length (now rec) ⌝ }
     ensures { λ _. ⌜ now (rec .exit) ≡ withLast level (now (rec .entry)) ⌝ }
 {
-    rec[0] = rec[0] / 2 * 2 + bit(level);
+    rec[FLAGS] = rec[FLAGS] / 2 * 2 + bit(level);
 }
 
-// Sets TLAST of each record, and answers how many there are. Width and length have passed their tests. Each record is
+// Sets TLAST of each record, and answers how many there are. Shape and length have passed their tests. Each record is
 // written by a helper lent the take from its offset on.
 fn fill(s: Shape, capture: &mut [u8], level: bool) -> usize
-    requires { ⌜ Fills s (now capture) ⌝ }
+    requires { ⌜ Passed s (now capture) ⌝ }
     ensures { λ r. ⌜ Filled level s (now (capture .entry)) (now (capture .exit)) r ⌝ }
 {
     let mut at = 0;
@@ -45,17 +47,14 @@ fn fill(s: Shape, capture: &mut [u8], level: bool) -> usize
     k
 }
 
-// Sets TLAST of every record of the lent take to this level. Only a width or a length is refused.
+// Sets TLAST of every record of the lent take to this level. Only a shape or a length is refused.
 pub fn set_last(s: Shape, capture: &mut [u8], level: bool) -> Written
     ensures { λ r. ⌜ FilledIn level s (now (capture .entry)) (now (capture .exit)) r ⌝ }
 {
-    if stream_record::bad_width(s.width) {
-        return Written::Refused(Refusal::Width);
+    match stream_record::check_take(s, capture) {
+        Checked::Refused(why) => Written::Refused(why),
+        Checked::Passed => Written::Records(fill(s, capture, level)),
     }
-    if stream_record::bad_length(s, capture) {
-        return Written::Refused(Refusal::Length);
-    }
-    Written::Records(fill(s, capture, level))
 }
 
 // Fill-in as paper 01 has it: low.

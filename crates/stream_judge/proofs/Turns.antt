@@ -13,23 +13,27 @@ use lib.Dec.{eqb}
 use lib.ListN.{length, take, drop, length-drop}
 use lib.Seq.{length-take-le}
 use Rattle.refusal.specs.declared.Refusal.{Refusal}
-use Rattle.refusal.specs.declared.Refusal.the-variants.{Width, Length, Field}
+use Rattle.refusal.specs.declared.Refusal.the-variants.{Field}
 use Rattle.stream_spec.specs.declared.Shape.{Shape}
 use Rattle.stream_spec.specs.declared.Verdict.{Verdict}
 use Rattle.stream_spec.specs.declared.Verdict.the-variants.{Clean, Broken, Refused}
 use Rattle.stream_spec.specs.Layout.{bitOf, widthMost, size, records}
 use Rattle.refusal.specs.Checks.{Check, first}
-use Rattle.stream_spec.specs.Checks.{fieldFault, cycleFlags, cycleChecks, widthCheck, lengthCheck}
+use Rattle.stream_spec.specs.Checks.{fieldFault, cycleFlags, cycleChecks, takeChecks}
 use Rattle.stream_spec.specs.Handshake.{waited, waits, r1, r2, r3, r4, transferred, handshakes, Finding, finding, ruleChecks, findings}
 use Rattle.stream_spec.specs.Answers.{verdict, verdictValues, judgeAnswer, Judged}
 use Rattle.stream_spec.specs.Walk.{Passed, recordAt}
 use Rattle.stream_spec.proofs.Bits.{bit-one}
 use Rattle.stream_spec.proofs.Size.{size-pos}
 use Rattle.stream_spec.proofs.Walk.{left-start, record-long, left-next, records-next, few-next, no-records}
+use Rattle.stream_record.specs.declared.Checked.{Checked}
+use Rattle.stream_record.specs.declared.Checked.the-variants.{Passed as Yes, Refused as Not}
 use Rattle.stream_record.specs.declared.Header.{Header}
 use Rattle.stream_record.specs.declared.Zeros.{Zeros}
 use Rattle.stream_record.specs.Header.{headerOf, headerFault}
+use Rattle.stream_record.specs.Checked.{checkedOf}
 use Rattle.stream_record.specs.Zeros.{zerosOf}
+use Rattle.stream_record.proofs.Tests.{refused-front, passed-front}
 use Rattle.stream_judge.specs.Scan.{waitsBy, transfersBy, beforeOf, lowestRule, CycleAt, verdictFrom, Turning, verdictBehind, Behind, Looking}
 
 -- ---- one cycle more of a verdict
@@ -225,21 +229,18 @@ module _ (s : Shape) (xs : List ℕ) (from at k count : ℕ) (wait : Bool) (h : 
                 ∙ left-from;
           }
 
--- ---- judging
+-- ---- judging, from what the tests of shape and length told
 
-module _ (s : Shape) (xs : List ℕ) where
+module _ (s : Shape) (xs : List ℕ) (r : Checked) (told : checkedOf r ≡ first (takeChecks s xs)) where
   judged : (v : Verdict) → v ≡ judgeAnswer s xs → Judged s xs v
   judged v e = record { is = e; shows = ap verdictValues e }
 
-  pub judged-width : widthCheck (s .width) .found ≡ true → Judged s xs (Refused Width)
+  pub judged-refused : (f : Refusal) → r ≡ Not f → Judged s xs (Refused f)
   unfolding judgeAnswer
-  judged-width w = judged (Refused Width) (rw w refl)
+  judged-refused f h = judged (Refused f) (rw (refused-front r (takeChecks s xs) told (cycleChecks s 0 (records s xs)) f h) refl)
 
-  pub judged-length : widthCheck (s .width) .found ≡ false → lengthCheck s xs .found ≡ true → Judged s xs (Refused Length)
+  pub judged-cycles : r ≡ Yes → (v : Verdict) → v ≡ verdictFrom s none 0 (records s xs) 0 → Judged s xs v
   unfolding judgeAnswer
-  judged-length w l = judged (Refused Length) (rw (w, l) refl)
-
-  pub judged-cycles : widthCheck (s .width) .found ≡ false → lengthCheck s xs .found ≡ false → (v : Verdict)
-      → v ≡ verdictFrom s none 0 (records s xs) 0 → Judged s xs v
-  unfolding judgeAnswer
-  judged-cycles w l v e = judged v (e ∙ rw (w, l, zero-add (length (handshakes (records s xs)))) refl)
+  judged-cycles h v e =
+      judged v
+      (e ∙ rw (passed-front r (takeChecks s xs) told (cycleChecks s 0 (records s xs)) h, zero-add (length (handshakes (records s xs)))) refl)

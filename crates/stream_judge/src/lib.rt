@@ -1,6 +1,7 @@
 // Judging a take of cycle records against the handshake rules. A record's octets are read by the crate stream_record; what the
 // rules say is in stream_spec's Handshake.
 use refusal::Refusal;
+use stream_record::Checked;
 use stream_record::Header;
 use stream_record::Zeros;
 use stream_record::layout::CYCLE_FLAGS;
@@ -204,11 +205,8 @@ fn judge_cycles(s: Shape, capture: &[u8]) -> Verdict
 pub fn judge(s: Shape, capture: &[u8]) -> Verdict
     ensures { λ r. ⌜ Judged s (now (capture .entry)) r ⌝ }
 {
-    if stream_record::bad_width(s.width) {
-        return Verdict::Refused(Refusal::Width);
+    match stream_record::check_take(s, capture) {
+        Checked::Refused(why) => Verdict::Refused(why),
+        Checked::Passed => judge_cycles(s, capture),
     }
-    if stream_record::bad_length(s, capture) {
-        return Verdict::Refused(Refusal::Length);
-    }
-    judge_cycles(s, capture)
 }

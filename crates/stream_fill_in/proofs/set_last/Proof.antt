@@ -1,44 +1,59 @@
 -- `stream_fill_in::set_last` meets its contract: the tests in paper 01's order, then the records. Assumes nothing.
-use mathlib.Core.Path.{sym, _∙_}
-use Rattle.stream_spec.proofs.Repack.{width-fits}
-use Rattle.stream_fill_in.proofs.Laws.{fills, refused-width, refused-length, filled}
+use Rattle.stream_record.proofs.Tests.{take-passed}
+use Rattle.stream_fill_in.proofs.Laws.{refused, filled}
 use borrow.Author.Needs.{needs}
 use Rattle.stream_fill_in.proofs.set_last.Statement.{statement}
 use Rattle.stream_fill_in.proofs.set_last.Tie as tie
 
-bad-width-requires : tie.Need-bad-width-requires
-bad-width-requires c κs = search needs
+abbrev entry : tie.After-check-take → tie.Start
+entry c = c .before .before .before
 
-returns : tie.Need-returns
-returns c = refused-width (c .before .before .before .args .level) (c .before .before .before .args .s) (c .before .before .before .args .capture .now) (sym (c .before .bad-width .ensures) ∙ c .if1 .taken)
+check-take-requires : tie.Need-check-take-requires
+check-take-requires c κs = search needs
 
-bad-length-requires : tie.Need-bad-length-requires
-bad-length-requires c κs = width-fits (c .before .before .before .before .args .s .width) (sym (c .before .before .bad-width .ensures) ∙ c .before .if1 .left) .high
+enum-known-why : tie.Need-enum-known-why
+enum-known-why c = search needs
+
+enum-told : tie.Need-enum-told
+enum-told c = search needs
+
+fill-requires : tie.Need-fill-requires
+fill-requires c κs =
+    let t = c .before .before .before in
+    let a = entry t .args in
+    take-passed (t .check-take .result) (c .before .enum-told .given .1) (a .s) (a .capture .now) (t .check-take .ensures)
 
 same-length : tie.Need-same-length
 same-length c = search needs
 
-returns-2 : tie.Need-returns-2
-returns-2 c = refused-length (c .before .before .before .before .before .before .args .level) (c .before .before .before .before .before .before .args .s) (c .before .before .before .before .before .before .args .capture .now) (sym (c .before .before .before .before .bad-width .ensures) ∙ c .before .before .before .if1 .left) (sym (c .before .bad-length .ensures) ∙ c .if2 .taken)
-
-fill-requires : tie.Need-fill-requires
-fill-requires c κs = fills (c .before .before .before .before .before .before .before .args .level) (c .before .before .before .before .before .before .before .args .s) (c .before .before .before .before .before .before .before .args .capture .now) (sym (c .before .before .before .before .before .bad-width .ensures) ∙ c .before .before .before .before .if1 .left) (sym (c .before .before .bad-length .ensures) ∙ c .before .if2 .left)
+returns : tie.Need-returns
+returns c =
+    let t = c .before .before .before in
+    let a = entry t .args in
+    let f = c .before .why .given in
+    refused (a .level) (a .s) (a .capture .now) (t .check-take .result) (t .check-take .ensures) (f .0 .0) (f .1)
 
 same-length-2 : tie.Need-same-length-2
 same-length-2 c = search needs
 
-returns-3 : tie.Need-returns-3
-returns-3 c = filled (c .before .before .before .before .before .before .before .before .before .before .args .level) (c .before .before .before .before .before .before .before .before .before .before .args .s) (c .before .before .before .before .before .before .before .before .before .before .args .capture .now) (sym (c .before .before .before .before .before .before .before .before .bad-width .ensures) ∙ c .before .before .before .before .before .before .before .if1 .left) (sym (c .before .before .before .before .before .bad-length .ensures) ∙ c .before .before .before .before .if2 .left) (c .before .before .fill .last .1 .0) (c .before .before .fill .result) (c .before .before .fill .ensures)
+returns-2 : tie.Need-returns-2
+returns-2 c =
+    let fill = c .before .before in
+    let told = fill .before .before in
+    let t = told .before .before in
+    let a = entry t .args in
+    filled (a .level) (a .s) (a .capture .now) (t .check-take .result) (t .check-take .ensures) (told .enum-told .given .1)
+    (fill .fill .last .1 .0) (fill .fill .result) (fill .fill .ensures)
 
 pub set-last-spec : {M : Type 1} → statement M
 set-last-spec =
     tie.close
     (tie.spec
-    bad-width-requires
-    returns
-    bad-length-requires
-    same-length
-    returns-2
+    check-take-requires
+    enum-known-why
+    enum-told
     fill-requires
+    same-length
+    returns
     same-length-2
-    returns-3)
+    returns-2)
