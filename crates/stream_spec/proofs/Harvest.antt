@@ -12,7 +12,7 @@ use Rattle.refusal.specs.declared.Refusal.the-variants.{Field}
 use Rattle.stream_spec.specs.declared.Shape.{Shape}
 use Rattle.stream_spec.specs.Layout.{tlast, tvalid, aresetn, tready, laneTypes, anyReserved, size, records, recordCount, joined, packed}
 use Rattle.refusal.specs.Checks.{Check, check, first}
-use Rattle.stream_spec.specs.Checks.{fieldFault, reservedFault, transferFlags, cycleFlags, captureMost, transferChecks, cycleChecks, shapeChecks, lengthCheck, takeChecks, roomCheck}
+use Rattle.stream_spec.specs.Checks.{fieldFault, reservedFault, transferFlags, cycleFlags, captureMost, transferChecks, cycleFaults, cycleChecks, shapeChecks, lengthCheck, takeChecks, roomCheck}
 use Rattle.stream_spec.specs.Handshake.{r4, Finding, findings, transferred, handshakes, asTransfer, harvested}
 use Rattle.stream_spec.specs.Answers.{judgeChecks, uncleanCheck, harvestRefusal}
 use Rattle.stream_spec.specs.Legal.{Octets}
@@ -22,6 +22,7 @@ use Rattle.stream_spec.proofs.Bools.{and-left}
 use Rattle.refusal.proofs.First.{first-none, none-first, append-none, append-passed}
 use Rattle.stream_spec.proofs.Records.{size-pos, Sized, length-pieces, length-joined, records-joined, records-sized}
 use Rattle.stream_spec.proofs.Fields.{fields-of, of-fields}
+use Rattle.stream_spec.proofs.RecordChecks.{each-none}
 use Rattle.stream_spec.proofs.Legal.{bit-octet, bit-low, octets-append, octets-drop, EachOctets, pieces-octets, Faultless, of-faultless}
 use Rattle.stream_spec.proofs.Passed.{checks-passed, passed-shape, fits-shapes, fits-length}
 use Rattle.stream_spec.proofs.Findings.{none-here}
@@ -36,9 +37,10 @@ Good s (c ∷ cs) = (fieldFault cycleFlags s c ≡ false) × (r4 s c ≡ false) 
 good : (s : Shape) (b : Option (List ℕ)) (cs : List (List ℕ)) (k i : ℕ) → first (cycleChecks s k cs) ≡ none → first (findings s i b cs) ≡ none → Good s cs
 good s b [] k i e f = tt
 good s b (c ∷ cs) k i e f =
-    let field = first-none (check (fieldFault cycleFlags s c) (Field k)) (cycleChecks s (suc k) cs) e in
+    let h = each-none (cycleFaults s) k c cs e in
+    let field = first-none (check (fieldFault cycleFlags s c) (Field k)) [] (h .0) in
     let rules = none-here s b c cs i f in
-    (field .0, rules .0 4, good s (some c) cs (suc k) (suc i) (field .1) (rules .1))
+    (field .0, rules .0 4, good s (some c) cs (suc k) (suc i) (h .1) (rules .1))
 
 unclean-none : (fs : List (Check Finding)) → first (map uncleanCheck fs) ≡ none → first fs ≡ none
 unclean-none [] e = refl

@@ -14,10 +14,11 @@ use Rattle.stream_spec.specs.Items.{Pair, Transfer}
 use Rattle.stream_spec.specs.Layout.{widthMost, tdestMost, headOctets, octetValues, bitOf, maskOf, flags, tkeep, tstrb, dataOctets, laneTypes, size, atWidth, typesOf, LaneType, dataLane, positionLane, nullLane, reservedLane, laneType, laneOf, lanesOf, isReserved, anyReserved, Kept, octet, position, keepBit, strbBit, laneOctet, maskOctets, transferOf, octetsOf, pieces, records, recordCount, transfers, octets, streamItems, packedTransfers, packed, slicedTransfers, sliced}
 use Rattle.refusal.specs.declared.Refusal.the-variants.{Field, Reserved}
 use Rattle.refusal.specs.Checks.{check, first}
-use Rattle.stream_spec.specs.Checks.{fieldFault, reservedFault, transferFlags, transferChecks}
+use Rattle.stream_spec.specs.Checks.{fieldFault, reservedFault, transferFlags, transferFaults, transferChecks}
 use Rattle.stream_spec.specs.Legal.{Octets, Legal}
 use Rattle.stream_spec.proofs.Bits.{bit-one, odd-mask, half-mask, mask-fits, two-octets}
 use Rattle.stream_spec.proofs.Fields.{fields-of, of-fields}
+use Rattle.stream_spec.proofs.RecordChecks.{each-none, none-each}
 use Rattle.stream_spec.proofs.Pack.{Wide, wide-pack, wide-slices}
 use Rattle.stream_spec.proofs.Each.{EachLane, EachTransfer, each-items, each-pack, each-slices}
 use Rattle.refusal.proofs.First.{first-none}
@@ -67,13 +68,14 @@ Faultless s (r ∷ rs) = (fieldFault transferFlags s r ≡ false) × (reservedFa
 pub faultless-of : (s : Shape) (k : ℕ) (rs : List (List ℕ)) → first (transferChecks s k rs) ≡ none → Faultless s rs
 faultless-of s k [] e = tt
 faultless-of s k (r ∷ rs) e =
-    let field = first-none (check (fieldFault transferFlags s r) (Field k)) (check (reservedFault s r) (Reserved k) ∷ transferChecks s (suc k) rs) e in
-    let reserved = first-none (check (reservedFault s r) (Reserved k)) (transferChecks s (suc k) rs) (field .1) in
-    (field .0, reserved .0, faultless-of s (suc k) rs (reserved .1))
+    let h = each-none (transferFaults s) k r rs e in
+    let field = first-none (check (fieldFault transferFlags s r) (Field k)) (check (reservedFault s r) (Reserved k) ∷ []) (h .0) in
+    let reserved = first-none (check (reservedFault s r) (Reserved k)) [] (field .1) in
+    (field .0, reserved .0, faultless-of s (suc k) rs (h .1))
 
 pub of-faultless : (s : Shape) (k : ℕ) (rs : List (List ℕ)) → Faultless s rs → first (transferChecks s k rs) ≡ none
 of-faultless s k [] h = refl
-of-faultless s k (r ∷ rs) h = rw (h .0, h .1) (of-faultless s (suc k) rs (h .2))
+of-faultless s k (r ∷ rs) h = none-each (transferFaults s) k r rs (rw (h .0, h .1) refl) (of-faultless s (suc k) rs (h .2))
 
 -- ---- from a legal stream to its transfers
 
