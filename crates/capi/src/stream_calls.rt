@@ -127,10 +127,10 @@ pub extern "C" fn urd_data_octets(width: usize, capture: &[u8], k: usize) -> Par
     ensures { λ a. ⌜ ShowsPart a (shape width) (now (capture .entry)) k ⌝ }
 {
     let s = Shape { width };
-    let octets = stream_record::data_octets(s, capture, k);
+    let octets = stream_data::data_octets(s, capture, k);
     PartAnswer {
-        refusal: number_of(stream_record::find_data(s, capture, k)),
-        start: stream_record::data_start(s, capture, k) as u64,
+        refusal: number_of(stream_data::find_data(s, capture, k)),
+        start: stream_data::data_start(s, capture, k) as u64,
         length: octets.len() as u64,
     }
 }

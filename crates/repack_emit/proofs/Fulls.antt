@@ -12,7 +12,7 @@ use Rattle.stream_spec.specs.Packed.{spread}
 use Rattle.stream_spec.specs.Layout.{size, octetsOf}
 use Rattle.stream_spec.proofs.Pack.{wide-spread, length-spread}
 use Rattle.stream_spec.proofs.Records.{length-octets}
-use Rattle.stream_record.specs.Write.{headerOctets}
+use Rattle.stream_write.specs.Write.{headerOctets}
 use Rattle.repack_scratch.specs.Codes.{dataCode, keptOf, pairFrom}
 use Rattle.repack_emit.specs.declared.plain.Cursor.{Cursor}
 use Rattle.repack_emit.specs.Write.{recordOf, stretchOctets, Writes, Fitting, Advanced}

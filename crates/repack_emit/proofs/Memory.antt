@@ -10,7 +10,7 @@ use Rattle.words.specs.Words.{padded}
 use Rattle.words.proofs.Words.{length-padded}
 use Rattle.stream_spec.specs.declared.Shape.{Shape}
 use Rattle.stream_spec.specs.Layout.{size, odd, bitOf, maskOf, octetsOf}
-use Rattle.stream_record.specs.Write.{headerOctets}
+use Rattle.stream_write.specs.Write.{headerOctets}
 use Rattle.repack_scratch.specs.Codes.{dataCode, pairFrom}
 use Rattle.repack_emit.specs.Write.{itemOctet, itemStrobe, recordOf, Writes}
 use Rattle.repack_emit.proofs.Lanes.{lanes-octets, lanes-strb, lanes-keep, data-octets, data-strb}

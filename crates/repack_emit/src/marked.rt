@@ -67,8 +67,8 @@ fn put_lanes(
     ensures { λ _. ⌜ now (out .exit) ≡ octetsOf (recordOf (t .width) (pairFrom pair) (take n (drop from (heldCodes (now (octets .entry)) (markBits (now (marks .entry)))))) (odd last)) ++ drop (size t) (now (out .entry)) ⌝ }
 {
     let strb = put_items(out, octets, marks, from, n);
-    stream_record::write::write_nulls(out, n, t.width);
-    stream_record::write::write_header(
+    stream_write::write_nulls(out, n, t.width);
+    stream_write::write_header(
         out,
         (last % 256) as u8,
         (pair % 256) as u8,
@@ -93,7 +93,7 @@ fn put_record(
     ensures { λ _. ⌜ now (out .exit) ≡ octetsOf (recordOf (t .width) (pairFrom pair) (take n (drop from (heldCodes (now (octets .entry)) (markBits (now (marks .entry)))))) (odd last)) ++ drop (size t) (now (out .entry)) ⌝ }
 {
     if unmarked_near(marks, from) {
-        stream_record::write::write_data_header(out, last, pair, n);
+        stream_write::write_data_header(out, last, pair, n);
         words::place(out, 7, &octets[from..], n, t.width);
         return;
     }

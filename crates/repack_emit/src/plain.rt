@@ -22,7 +22,7 @@ fn put_plain(out: &mut [u8], octets: &[u8], n: usize, t: Shape, pair: u32, last:
     requires { ⌜ (n ≤ t .width) × (1 ≤ t .width) × (t .width ≤ 16) × (t .width ≤ length (now octets)) × (size t ≤ length (now out)) × (pair < 65536) × (last ≤ 1) ⌝ }
     ensures { λ _. ⌜ now (out .exit) ≡ octetsOf (recordOf (t .width) (pairFrom pair) (take n (map dataCode (now (octets .entry)))) (odd last)) ++ drop (size t) (now (out .entry)) ⌝ }
 {
-    stream_record::write::write_data_header(out, last, pair, n);
+    stream_write::write_data_header(out, last, pair, n);
     words::place(out, 7, octets, n, t.width);
 }
 
@@ -35,7 +35,7 @@ fn put_ones(out: &mut [u8], octets: &[u8], c: Cursor, pair: u32) -> Cursor
     let mut from = c.from;
     let mut left = c.left;
     while 1 < left {
-        stream_record::write::write_one(&mut out[to..], pair, octets[from]);
+        stream_write::write_one(&mut out[to..], pair, octets[from]);
         to += 8;
         from += 1;
         left -= 1;

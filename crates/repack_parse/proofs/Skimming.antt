@@ -17,7 +17,7 @@ use Rattle.refusal.specs.Checks.{first}
 use Rattle.stream_spec.specs.Checks.{transferChecks}
 use Rattle.words.specs.Words.{wordAt}
 use Rattle.stream_record.specs.Header.{headerOf}
-use Rattle.stream_record.specs.Usual.{Usual, UsualWords}
+use Rattle.stream_head.specs.Usual.{Usual, UsualWords}
 use Rattle.repack_scratch.specs.declared.Open.{Open}
 use Rattle.repack_scratch.specs.Codes.{heldCodes}
 use Rattle.repack_scratch.proofs.Held.{unmarked-at}

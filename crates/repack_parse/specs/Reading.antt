@@ -10,7 +10,7 @@ use Rattle.refusal.specs.Checks.{first}
 use Rattle.stream_spec.specs.Checks.{transferChecks}
 use Rattle.words.specs.Words.{wordAt}
 use Rattle.stream_record.specs.Header.{headerOf}
-use Rattle.stream_record.specs.Usual.{Usual}
+use Rattle.stream_head.specs.Usual.{Usual}
 use Rattle.repack_scratch.specs.declared.Open.{Open}
 use Rattle.repack_scratch.specs.Codes.{heldCodes}
 use Rattle.repack_scratch.specs.Stands.{Stands}

@@ -26,7 +26,7 @@ fn usual_at(input: &[u8], at: usize, pair: u32, full: u32) -> bool
 {
     let lo = words::load4(input, at);
     let hi = words::load4(input, at + 3);
-    stream_record::is_usual(lo, hi, pair, full)
+    stream_head::is_usual(lo, hi, pair, full)
 }
 
 // The usual record at octet `at` is added.

@@ -19,7 +19,7 @@ use Rattle.stream_spec.specs.Layout.{size, odd, bitOf, maskOf, LaneType, laneTy
 use Rattle.stream_spec.proofs.Bools.{neither}
 use Rattle.stream_spec.proofs.Pack.{length-fitted}
 use Rattle.stream_record.specs.declared.Header.{Header}
-use Rattle.stream_record.specs.Write.{headerOctets}
+use Rattle.stream_write.specs.Write.{headerOctets}
 use Rattle.stream_downsize.specs.Slices.{octetIf, lanesIn, Unreserved, sliceOf, above}
 
 -- ---- the lowest lanes, and those above them

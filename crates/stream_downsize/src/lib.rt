@@ -91,7 +91,7 @@ fn put_record(out: &mut [u8], lanes: &[u8], t: Shape, h: Header, last: u8)
 {
     put_lanes(out, lanes, h, t.width);
     let m = 1u32 << t.width;
-    stream_record::write::write_header(out, last, h.tid, h.tdest, h.keep % m, h.strb % m);
+    stream_write::write_header(out, last, h.tid, h.tdest, h.keep % m, h.strb % m);
 }
 
 // The same at place `to`: the helper is lent the output from there on. Answers the place after it.

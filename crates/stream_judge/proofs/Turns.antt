@@ -29,10 +29,10 @@ use Rattle.stream_spec.proofs.Walk.{left-start, record-long, left-next, records
 use Rattle.stream_record.specs.declared.Checked.{Checked}
 use Rattle.stream_record.specs.declared.Checked.the-variants.{Passed as Yes, Refused as Not}
 use Rattle.stream_record.specs.declared.Header.{Header}
-use Rattle.stream_record.specs.declared.Zeros.{Zeros}
+use Rattle.stream_head.specs.declared.Zeros.{Zeros}
 use Rattle.stream_record.specs.Header.{headerOf, headerFault}
 use Rattle.stream_record.specs.Checked.{checkedOf}
-use Rattle.stream_record.specs.Zeros.{zerosOf}
+use Rattle.stream_head.specs.Zeros.{zerosOf}
 use Rattle.stream_record.proofs.Tests.{refused-front, passed-front}
 use Rattle.stream_judge.specs.Scan.{waitsBy, transfersBy, beforeOf, lowestRule, CycleAt, verdictFrom, Turning, verdictBehind, Behind, Looking}
 

@@ -15,9 +15,9 @@ use Rattle.stream_spec.specs.Handshake.{waited, r1, r2, r3, r4, handshakes, Fin
 use Rattle.stream_spec.specs.Answers.{verdict}
 use Rattle.stream_spec.specs.Walk.{Passed, Left}
 use Rattle.stream_record.specs.declared.Header.{Header}
-use Rattle.stream_record.specs.declared.Zeros.{Zeros}
+use Rattle.stream_head.specs.declared.Zeros.{Zeros}
 use Rattle.stream_record.specs.Header.{headerOf}
-use Rattle.stream_record.specs.Zeros.{zerosOf}
+use Rattle.stream_head.specs.Zeros.{zerosOf}
 
 -- ---- one cycle
 

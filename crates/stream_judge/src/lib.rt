@@ -1,9 +1,9 @@
 // Judging a take of cycle records against the handshake rules. A record's octets are read by the crate stream_record; what the
 // rules say is in stream_spec's Handshake.
 use refusal::Refusal;
+use stream_head::Zeros;
 use stream_record::Checked;
 use stream_record::Header;
-use stream_record::Zeros;
 use stream_record::layout::CYCLE_FLAGS;
 use stream_record::layout::FLAGS;
 use stream_record::layout::SIZE_LEAST;
@@ -160,7 +160,7 @@ fn broken(
     let mut k = j;
     while at < capture.len() {
         let next = at + size;
-        if stream_record::breaks(&capture[at..next], z) {
+        if stream_head::breaks(&capture[at..next], z) {
             return Verdict::Refused(Refusal::Field(k));
         }
         at = next;
@@ -175,7 +175,7 @@ fn judge_cycles(s: Shape, capture: &[u8]) -> Verdict
     ensures { λ r. ⌜ r ≡ verdictFrom s none 0 (records s (now (capture .entry))) 0 ⌝ }
 {
     let size = stream_record::record_size(s);
-    let z = stream_record::must_be_zero(CYCLE_FLAGS, s);
+    let z = stream_head::must_be_zero(CYCLE_FLAGS, s);
     let mut count = 0;
     let mut waited = false;
     let mut from = 0;
@@ -183,7 +183,7 @@ fn judge_cycles(s: Shape, capture: &[u8]) -> Verdict
     let mut k = 0;
     while at < capture.len() {
         let next = at + size;
-        if stream_record::breaks(&capture[at..next], z) {
+        if stream_head::breaks(&capture[at..next], z) {
             return Verdict::Refused(Refusal::Field(k));
         }
         let h = stream_record::read_header(&capture[at..next]);

@@ -1,8 +1,3 @@
-pub mod Tests
-pub mod RecordFaults
 pub mod Field
-pub mod DataPart
-pub mod Fill
-pub mod Word
-pub mod TwoWords
-pub mod ZeroBits
+pub mod RecordFaults
+pub mod Tests

@@ -4,10 +4,6 @@
 mod checks;
 mod faults;
 pub mod layout;
-mod lookup;
-mod masks;
-mod usual;
-pub mod write;
 
 pub use checks::check_input;
 pub use checks::check_length;
@@ -25,19 +21,13 @@ use layout::TID;
 use layout::TKEEP;
 use layout::TSTRB;
 use layout::WIDEST;
-pub use lookup::data_octets;
-pub use lookup::data_start;
-pub use lookup::find_data;
-pub use masks::breaks;
-pub use masks::must_be_zero;
 use refusal::Refusal;
 use stream_spec::Shape;
-pub use usual::is_usual;
 use words::widen4;
 ghost use mathlib.Core.Path.{_≡_};
 ghost use Prim.Native.Nat.{ℕ, _+_, _*_, _≤_, _<_, _^_};
 ghost use lib.ListN.{length, getD};
-ghost use Rattle.stream_spec.specs.Layout.{headOctets, widthMost, size, typesOf, anyReserved};
+ghost use Rattle.stream_spec.specs.Layout.{headOctets, widthMost, ofWidth, atWidth, size, typesOf, anyReserved};
 ghost use Rattle.stream_spec.specs.Checks.{widthCheck, lengthCheck};
 ghost use Rattle.stream_record.specs.Header.{headerOf, headerFault};
 
@@ -48,12 +38,6 @@ pub struct Header {
     pub tdest: u8,
     pub keep: u32,
     pub strb: u32,
-}
-
-// The bits of a header that must be zero: in octets 0 to 3, and in octets 3 to 6.
-pub struct Zeros {
-    pub low: u32,
-    pub high: u32,
 }
 
 // What tests in a stated order answer: the first refusal, if there is one.
@@ -67,6 +51,20 @@ pub enum Fault {
     Sound,
     Field,
     Reserved,
+}
+
+// The shape of records of so many lanes, and of the same kind of records at another width. No other code makes a shape of its
+// parts.
+pub fn shape_of(width: usize) -> Shape
+    ensures { λ r. ⌜ r ≡ ofWidth width ⌝ }
+{
+    Shape { width }
+}
+
+pub fn at_width(s: Shape, v: usize) -> Shape
+    ensures { λ r. ⌜ r ≡ atWidth s v ⌝ }
+{
+    Shape { width: v }
 }
 
 // Whether a width is refused.

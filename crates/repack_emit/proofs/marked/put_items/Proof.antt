@@ -7,7 +7,7 @@ use borrow.Author.Needs.{needs}
 use lib.ListN.{length, getD, take, drop, length-set, length-drop, take-append-drop}
 use lib.Seq.{slice, slice-empty, getD-drop}
 use Rattle.stream_spec.specs.Layout.{maskOf}
-use Rattle.stream_record.proofs.Fill.{fill-down}
+use Rattle.stream_write.proofs.Fill.{fill-down}
 use Rattle.repack_scratch.specs.Codes.{heldCodes, markBits}
 use Rattle.repack_scratch.proofs.Held.{length-held, drop-held}
 use Rattle.repack_emit.specs.Write.{itemOctet, itemStrobe}

@@ -15,8 +15,8 @@ use Rattle.repack_emit.proofs.marked.put_lanes.Statement.{statement}
 use Rattle.repack_emit.proofs.marked.put_lanes.Tie as tie
 use Rattle.repack_emit.proofs.marked.put_lanes.Reads as reads
 use Rattle.repack_emit.proofs.marked.put_lanes.Lts as lts
-use Rattle.stream_record.proofs.write.write_header.Reads as write-header-reads
-use Rattle.stream_record.proofs.write.write_nulls.Reads as write-nulls-reads
+use Rattle.stream_write.proofs.write_header.Reads as write-header-reads
+use Rattle.stream_write.proofs.write_nulls.Reads as write-nulls-reads
 use Rattle.repack_emit.proofs.marked.put_items.Reads as put-items-reads
 
 put-items-requires : tie.Need-put-items-requires

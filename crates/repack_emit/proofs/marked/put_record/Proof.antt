@@ -13,7 +13,7 @@ use Rattle.repack_emit.proofs.marked.put_record.Statement.{statement}
 use Rattle.repack_emit.proofs.marked.put_record.Tie as tie
 use Rattle.repack_emit.proofs.marked.put_record.Reads as reads
 use Rattle.repack_emit.proofs.marked.put_record.Lts as lts
-use Rattle.stream_record.proofs.write.write_data_header.Reads as write-data-header-reads
+use Rattle.stream_write.proofs.write_data_header.Reads as write-data-header-reads
 use Rattle.repack_emit.proofs.marked.put_lanes.Reads as put-lanes-reads
 use Rattle.repack_emit.proofs.marked.unmarked_near.Reads as unmarked-near-reads
 use Rattle.words.proofs.place.Reads as place-reads

@@ -13,7 +13,7 @@ use Rattle.repack_emit.proofs.plain.put_ones.Statement.{statement}
 use Rattle.repack_emit.proofs.plain.put_ones.Tie as tie
 use Rattle.repack_emit.proofs.plain.put_ones.Reads as reads
 use Rattle.repack_emit.proofs.plain.put_ones.Lts as lts
-use Rattle.stream_record.proofs.write.write_one.Reads as write-one-reads
+use Rattle.stream_write.proofs.write_one.Reads as write-one-reads
 
 abbrev one-lane : Shape
 one-lane = record { width = 1 }

@@ -6,7 +6,7 @@ use Rattle.repack_emit.proofs.plain.put_plain.Statement.{statement}
 use Rattle.repack_emit.proofs.plain.put_plain.Tie as tie
 use Rattle.repack_emit.proofs.plain.put_plain.Reads as reads
 use Rattle.repack_emit.proofs.plain.put_plain.Lts as lts
-use Rattle.stream_record.proofs.write.write_data_header.Reads as write-data-header-reads
+use Rattle.stream_write.proofs.write_data_header.Reads as write-data-header-reads
 use Rattle.words.proofs.place.Reads as place-reads
 
 write-data-header-requires : tie.Need-write-data-header-requires
