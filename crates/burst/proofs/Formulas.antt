@@ -14,15 +14,15 @@ use Rattle.burst_spec.specs.declared.Burst.{Burst}
 use Rattle.burst_spec.specs.declared.Kind.{Kind}
 use Rattle.burst_spec.specs.declared.Kind.the-variants.{Incr, Wrap}
 use Rattle.burst_spec.specs.Address.{roundDown, highestByte, incrAddress, addressBy, beats, bytes, beatAddress}
-use Rattle.burst_spec.specs.Checks.{crosses, crossesBy, countAllowed, misaligned}
+use Rattle.burst_spec.specs.Checks.{block, busMost, crosses, crossesBy, countAllowed, misaligned}
 use Rattle.burst_spec.specs.Legal.{Power, Legal, Accepted}
 use Rattle.burst_spec.proofs.Known.{known, UpTo, wrap-power, size-small, span-small}
 use Rattle.burst_spec.proofs.Rounding.{power-positive, highest-quotient, same-memory}
-use Rattle.burst_spec.proofs.Block.{incr-crosses, only-incr, address-block}
+use Rattle.burst_spec.proofs.Block.{blockBits, incr-crosses, only-incr, address-block}
 use Rattle.burst_spec.proofs.Step.{sub-shift, sub-down}
 use Rattle.burst_spec.proofs.Wrap.{wrap-aligned, wrap-closed}
 
--- how many bits an `Address` has: the proofs say it here and nowhere else
+-- how many bits an `Address` has: the proofs say it here and nowhere else (T-10: 64)
 abbrev pub addressBits : ℕ
 addressBits = 32
 
@@ -38,7 +38,7 @@ module _ (x : Burst) (l : Legal x) where
   bus-is-power = record { log = known x l .bus .log; is = known x l .bus .is }
 
   -- a lane of the bus is a small number
-  pub lane-small : (a : ℕ) → a % x .bus < 128
+  pub lane-small : (a : ℕ) → a % x .bus < busMost
   lane-small a =
       omega (arith, mod-lt a (power-positive bus-is-power), known x l .bus .is, pow-mono (known x l .bus .small))
 
@@ -47,7 +47,7 @@ module _ (x : Burst) (l : Legal x) where
   other-kind-inside m e h = sym (only-incr x l (λ f. h (sym e ∙ f)))
 
   pub incr-test : x .kind ≡ Incr → (first b : ℕ) → first ≡ roundDown (x .start) b → b ≡ bytes x
-      → ltb 4096 (first % 4096 + beats x * b) ≡ crosses x
+      → ltb block (first % block + beats x * b) ≡ crosses x
   incr-test e first b f g =
       rw (f, g)
       (sym (ap (λ m. crossesBy m (x .start) (bytes x) (beats x)) e
@@ -99,8 +99,8 @@ module _ (x : Burst) (k : ℕ) where
       start = ap (λ m. misaligned m (x .start) (bytes x)) (sym e) ∙ l .start
 
   -- an address of the burst lies in the memory of 2 ^ w bytes that the start lies in, and so does the highest byte of a beat
-  pub address-fits : (w : ℕ) → 12 ≤ w → x .start < 2 ^ w → Accepted x → k < beats x → beatAddress x k < 2 ^ w
-  address-fits w h s y l = same-memory {i = 12} w (beatAddress x k) (x .start) h s (address-block x y k l)
+  pub address-fits : (w : ℕ) → blockBits ≤ w → x .start < 2 ^ w → Accepted x → k < beats x → beatAddress x k < 2 ^ w
+  address-fits w h s y l = same-memory {i = blockBits} w (beatAddress x k) (x .start) h s (address-block x y k l)
 
 pub highest-fits : (w i a : ℕ) → i ≤ w → a < 2 ^ w → highestByte a (2 ^ i) < 2 ^ w
 highest-fits w i a h l = same-memory w (highestByte a (2 ^ i)) a h l (highest-quotient a (2 ^ i) (pow-pos i))

@@ -14,10 +14,18 @@ ghost use mathlib.Core.Path.{_≡_};
 ghost use Prim.Native.Nat.{_/_, _%_, _^_, _≤_, _<_};
 ghost use lib.IntN.{subℕ};
 ghost use Rattle.burst_spec.specs.Address.{bytes, beats, roundDown, beatAddress, beatAt};
-ghost use Rattle.burst_spec.specs.Answers.{kindOf, burstOf, Judges, GivesBeat, GivesStep};
-ghost use Rattle.burst_spec.specs.Checks.{busAllowed, tooWide, isReserved, countAllowed, countRefused, misaligned, crosses};
+ghost use Rattle.burst_spec.specs.Answers.{kindOf, burstOf, judgementFor, Judged, BeatGiven, StepGiven};
+ghost use Rattle.burst_spec.specs.Checks.{block, axsizeMost, busMost, busAllowed, tooWide, isReserved, countAllowed, countRefused, misaligned, crosses, indexedChecks};
 ghost use Rattle.burst_spec.specs.Legal.{Power, Legal, Accepted};
 ghost use Rattle.burst_spec.specs.declared.Kind.the-variants.{Incr, Wrap};
+ghost use Rattle.refusal.specs.Checks.{first};
+
+// The bounds of paper 01's table: "AxSIZE above 7", "AxLEN above 255", and the 4KB block.
+const AXSIZE_MOST: u32 = 7;
+
+const AXLEN_MOST: u32 = 255;
+
+const BLOCK: Address = 0x1000;
 
 // The kind with this AxBURST number. Every number from 3 on is the reserved kind, which is refused after BUS and SIZE.
 pub fn kind_of(number: u32) -> Kind
@@ -46,7 +54,7 @@ pub fn burst_of(start: Address, len: u32, size: u32, kind: u32, bus: u32) -> Bur
 
 // Whether a burst is allowed, and if not, the first of refusals 7 to 12 that holds.
 pub fn judge(b: Burst) -> Judgement
-    ensures { λ r. ⌜ Judges b r ⌝ }
+    ensures { λ r. ⌜ Judged b r ⌝ }
 {
     if bus_refused(b.bus) {
         return Judgement::Refused(Refusal::Bus);
@@ -72,39 +80,48 @@ pub fn judge(b: Burst) -> Judgement
 
 // The same of five plain numbers.
 pub fn judge_numbers(start: Address, len: u32, size: u32, kind: u32, bus: u32) -> Judgement
-    ensures { λ r. ⌜ Judges (burstOf start len size kind bus) r ⌝ }
+    ensures { λ r. ⌜ Judged (burstOf start len size kind bus) r ⌝ }
 {
     judge(burst_of(start, len, size, kind, bus))
 }
 
 // Beat k of a burst, counted from 0: its address and byte lanes; or a refusal, 7 to 12 in order, then 13.
 pub fn beat(b: Burst, k: u32) -> BeatAnswer
-    ensures { λ r. ⌜ GivesBeat b k r ⌝ }
+    ensures { λ r. ⌜ BeatGiven b k r ⌝ }
 {
-    let judgement = judge(b);
-    if let Judgement::Refused(r) = judgement {
-        return BeatAnswer::Refused(r);
+    match judge_indexed(b, b.len < k) {
+        Judgement::Refused(r) => BeatAnswer::Refused(r),
+        Judgement::Accepted => BeatAnswer::At(beat_at(b, address_of(b, k))),
     }
-    if b.len < k {
-        return BeatAnswer::Refused(Refusal::Index);
-    }
-    BeatAnswer::At(beat_at(b, address_of(b, k)))
 }
 
 // The step from beat k to beat k + 1; or a refusal, 7 to 12 in order, then 13 where there is no next beat.
 pub fn step(b: Burst, k: u32) -> StepAnswer
-    ensures { λ r. ⌜ GivesStep b k r ⌝ }
+    ensures { λ r. ⌜ StepGiven b k r ⌝ }
 {
-    let judgement = judge(b);
-    if let Judgement::Refused(r) = judgement {
-        return StepAnswer::Refused(r);
+    match judge_indexed(b, b.len <= k) {
+        Judgement::Refused(r) => StepAnswer::Refused(r),
+        Judgement::Accepted => {
+            let from = address_of(b, k);
+            let to = address_of(b, k + 1);
+            StepAnswer::By(distance(from, to))
+        }
     }
-    if b.len <= k {
-        return StepAnswer::Refused(Refusal::Index);
+}
+
+// 7 to 12, and then 13 INDEX where the beat that is asked for is missing.
+fn judge_indexed(b: Burst, missing: bool) -> Judgement
+    ensures { λ r. ⌜ r ≡ judgementFor (first (indexedChecks b missing)) ⌝ }
+{
+    match judge(b) {
+        Judgement::Refused(r) => Judgement::Refused(r),
+        Judgement::Accepted => {
+            if missing {
+                return Judgement::Refused(Refusal::Index);
+            }
+            Judgement::Accepted
+        }
     }
-    let from = address_of(b, k);
-    let to = address_of(b, k + 1);
-    StepAnswer::By(distance(from, to))
 }
 
 // The tests of refusals 7 to 12: true where the burst is refused for it. A test counts only on those before it.
@@ -124,7 +141,7 @@ fn too_wide(b: Burst) -> bool
     ensures { λ r. ⌜ r ≡ tooWide b ⌝ }
 {
     let size = b.size;
-    if 7 < size {
+    if AXSIZE_MOST < size {
         return true;
     }
     let bus = b.bus;
@@ -143,7 +160,7 @@ fn is_reserved(kind: Kind) -> bool
     }
 }
 
-// How many beats each kind allows.
+// How many beats each kind allows: the numbers of paper 01, in the form that it names.
 fn count_allowed(kind: Kind, beats: u32) -> bool
     ensures { λ r. ⌜ r ≡ countAllowed kind beats ⌝ }
 {
@@ -169,7 +186,7 @@ fn count_refused(b: Burst) -> bool
     ensures { λ r. ⌜ r ≡ countRefused b ⌝ }
 {
     let len = b.len;
-    if 255 < len {
+    if AXLEN_MOST < len {
         return true;
     }
     let kind = b.kind;
@@ -178,7 +195,7 @@ fn count_refused(b: Burst) -> bool
 
 // 11 ALIGN: a WRAP start that is no multiple of the beat's bytes.
 fn start_refused(b: Burst) -> bool
-    requires { ⌜ b .size ≤ 7 ⌝ }
+    requires { ⌜ b .size ≤ axsizeMost ⌝ }
     ensures { λ r. ⌜ r ≡ misaligned (b .kind) (b .start) (bytes b) ⌝ }
 {
     let kind = b.kind;
@@ -202,9 +219,9 @@ fn leaves_block(b: Burst) -> bool
         Kind::Incr => {
             let bytes = bytes_of(b.size);
             let first = round_down(b.start, bytes);
-            let offset = low_part(first, 4096);
+            let offset = low_part(first, BLOCK);
             let beats = wide(b.len + 1);
-            4096 < offset + beats * bytes
+            BLOCK < offset + beats * bytes
         }
         Kind::Wrap => false,
         Kind::Reserved => false,
@@ -274,7 +291,7 @@ fn beat_at(b: Burst, address: Address) -> Beat
 
 // The signed distance between two addresses of one 4KB block.
 fn distance(from: Address, to: Address) -> i32
-    requires { ⌜ from / 4096 ≡ to / 4096 ⌝ }
+    requires { ⌜ from / block ≡ to / block ⌝ }
     ensures { λ r. ⌜ r ≡ subℕ to from ⌝ }
 {
     if from <= to {
@@ -283,11 +300,11 @@ fn distance(from: Address, to: Address) -> i32
     0 - ((from - to) as i32)
 }
 
-// Powers of two, and rounding to them: the one place that divides.
+// Powers of two, and rounding to them. `low_part` is the one place that divides; T-04 puts a mask there, under its contract.
 
 // The bytes in a beat.
 fn bytes_of(size: u32) -> Address
-    requires { ⌜ size ≤ 7 ⌝ }
+    requires { ⌜ size ≤ axsizeMost ⌝ }
     ensures { λ r. ⌜ r ≡ 2 ^ size ⌝ }
 {
     1 << size
@@ -320,7 +337,7 @@ fn wide(x: u32) -> Address
 
 // A byte lane out of an address's number.
 fn lane(x: Address) -> u32
-    requires { ⌜ x < 128 ⌝ }
+    requires { ⌜ x < busMost ⌝ }
     ensures { λ r. ⌜ r ≡ x ⌝ }
 {
     x as u32

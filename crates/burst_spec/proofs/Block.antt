@@ -13,26 +13,30 @@ use Rattle.burst_spec.specs.declared.Burst.{Burst}
 use Rattle.burst_spec.specs.declared.Kind.{Kind}
 use Rattle.burst_spec.specs.declared.Kind.the-variants.{Fixed, Incr, Wrap, Reserved}
 use Rattle.burst_spec.specs.Address.{roundDown, highestByte, incrAddress, wrapAddress, addressBy, beats, bytes, beatAddress}
-use Rattle.burst_spec.specs.Checks.{Crossing, outside, beatOutside, crosses, crossesBy, countAllowed, misaligned}
+use Rattle.burst_spec.specs.Checks.{Crossing, block, outside, beatOutside, crosses, crossesBy, countAllowed, misaligned}
 use Rattle.burst_spec.specs.Legal.{Legal, Accepted}
 use Rattle.burst_spec.proofs.Below.{none-below, each-below, found-below}
 use Rattle.burst_spec.proofs.Known.{clash, wrap-power, UpTo, known, size-small}
 use Rattle.burst_spec.proofs.Rounding.{round-le, round-near, round-beats, same-quotient, quotient-of, coarser, same-memory}
 use Rattle.burst_spec.proofs.Wrap.{wrap-aligned, wrap-container}
 
-inside : (s a : ℕ) → a / 4096 ≡ s / 4096 → outside s a ≡ false
-inside s a e = rw (eq-eqb (a / 4096) (s / 4096) e)
+-- a block has 2 ^ blockBits bytes
+abbrev pub blockBits : ℕ
+blockBits = 12
 
-not-outside : (s a : ℕ) → outside s a ≡ false → a / 4096 ≡ s / 4096
-not-outside s a e = eqb-true (a / 4096) (s / 4096) (not-false (eqb (a / 4096) (s / 4096)) e)
+inside : (s a : ℕ) → a / block ≡ s / block → outside s a ≡ false
+inside s a e = rw (eq-eqb (a / block) (s / block) e)
 
-module _ (s i : ℕ) (small : i ≤ 12) where
+not-outside : (s a : ℕ) → outside s a ≡ false → a / block ≡ s / block
+not-outside s a e = eqb-true (a / block) (s / block) (not-false (eqb (a / block) (s / block)) e)
+
+module _ (s i : ℕ) (small : i ≤ blockBits) where
   -- rounding to a beat does not leave the block
-  same-block : (a c : ℕ) → a / 2 ^ i ≡ c / 2 ^ i → a / 4096 ≡ c / 4096
+  same-block : (a c : ℕ) → a / 2 ^ i ≡ c / 2 ^ i → a / block ≡ c / block
   same-block a c e = coarser a c small e
 
   -- a beat lies in one block, so its address decides
-  beat-inside : (a : ℕ) → a / 4096 ≡ s / 4096 → beatOutside s (2 ^ i) a ≡ false
+  beat-inside : (a : ℕ) → a / block ≡ s / block → beatOutside s (2 ^ i) a ≡ false
   beat-inside a e =
       none-below (highestByte a (2 ^ i) - a + 1) (λ j. outside s (a + j))
       (λ j l. inside s (a + j) (same-block (a + j) a (byte j l) ∙ e))
@@ -43,13 +47,13 @@ module _ (s i : ℕ) (small : i ≤ 12) where
           (omega (arith, pow-pos i, round-near a (2 ^ i) (pow-pos i)))
 
   -- no beat is outside if each beat's address is in the block
-  all-inside : (m : Kind) (n : ℕ) → ((k : ℕ) → k < n → addressBy m s (2 ^ i) n k / 4096 ≡ s / 4096) → crossesBy m s (2 ^ i) n ≡ false
+  all-inside : (m : Kind) (n : ℕ) → ((k : ℕ) → k < n → addressBy m s (2 ^ i) n k / block ≡ s / block) → crossesBy m s (2 ^ i) n ≡ false
   unfolding crossesBy
   all-inside m n h = none-below n (λ k. beatOutside s (2 ^ i) (addressBy m s (2 ^ i) n k)) (λ k l. beat-inside (addressBy m s (2 ^ i) n k) (h k l))
 
 -- if no beat is outside, every byte of every beat is in the block
 bytes-inside : (m : Kind) (s b n : ℕ) → crossesBy m s b n ≡ false → (k a : ℕ) → k < n
-    → addressBy m s b n k ≤ a → a ≤ highestByte (addressBy m s b n k) b → a / 4096 ≡ s / 4096
+    → addressBy m s b n k ≤ a → a ≤ highestByte (addressBy m s b n k) b → a / block ≡ s / block
 unfolding crossesBy
 bytes-inside m s b n e k a l from to =
     let at : ℕ = addressBy m s b n k in
@@ -64,42 +68,42 @@ unfolding incrAddress
 incr-round s b zero h = omega arith
 incr-round s b (suc k) h = round-beats s b (suc k) h
 
-module _ (s i : ℕ) (small : i ≤ 12) where
-  aligned-block : roundDown s (2 ^ i) / 4096 ≡ s / 4096
+module _ (s i : ℕ) (small : i ≤ blockBits) where
+  aligned-block : roundDown s (2 ^ i) / block ≡ s / block
   aligned-block =
       let e : roundDown s (2 ^ i) + 0 ≡ roundDown s (2 ^ i) = omega arith in
       same-block s i small (roundDown s (2 ^ i)) s (rw e at (same-quotient s (2 ^ i) 0 (pow-pos i)))
 
-  incr-fits : (n : ℕ) → roundDown s (2 ^ i) % 4096 + n * 2 ^ i ≤ 4096 → (k : ℕ) → k < n → incrAddress s (2 ^ i) k / 4096 ≡ s / 4096
+  incr-fits : (n : ℕ) → roundDown s (2 ^ i) % block + n * 2 ^ i ≤ block → (k : ℕ) → k < n → incrAddress s (2 ^ i) k / block ≡ s / block
   unfolding incrAddress
   incr-fits n h zero l = refl
   incr-fits n h (suc k) l =
       let p : suc (suc k) * 2 ^ i ≤ n * 2 ^ i = mul-le-mul-right (2 ^ i) l in
-      let e : (roundDown s (2 ^ i) + suc k * 2 ^ i) / 4096 ≡ roundDown s (2 ^ i) / 4096 = omega (arith, pow-pos i) in
+      let e : (roundDown s (2 ^ i) + suc k * 2 ^ i) / block ≡ roundDown s (2 ^ i) / block = omega (arith, pow-pos i) in
       e ∙ aligned-block
 
   -- the highest byte of the last beat is in the block, so the whole burst is
-  fits-incr : (n : ℕ) → 0 < n → crossesBy Incr s (2 ^ i) n ≡ false → roundDown s (2 ^ i) % 4096 + n * 2 ^ i ≤ 4096
+  fits-incr : (n : ℕ) → 0 < n → crossesBy Incr s (2 ^ i) n ≡ false → roundDown s (2 ^ i) % block + n * 2 ^ i ≤ block
   unfolding addressBy
   fits-incr zero h e = absurd (omega arith)
   fits-incr (suc k) h e =
       let near : incrAddress s (2 ^ i) k < roundDown (incrAddress s (2 ^ i) k) (2 ^ i) + 2 ^ i = round-near (incrAddress s (2 ^ i) k) (2 ^ i) (pow-pos i) in
-      let high : highestByte (incrAddress s (2 ^ i) k) (2 ^ i) / 4096 ≡ s / 4096 =
+      let high : highestByte (incrAddress s (2 ^ i) k) (2 ^ i) / block ≡ s / block =
       bytes-inside Incr s (2 ^ i) (suc k) e k (highestByte (incrAddress s (2 ^ i) k) (2 ^ i)) (omega arith) (omega arith) (omega arith)
       in
       let r : roundDown (incrAddress s (2 ^ i) k) (2 ^ i) ≡ roundDown s (2 ^ i) + k * 2 ^ i = incr-round s (2 ^ i) k (pow-pos i) in
-      let h2 : (roundDown s (2 ^ i) + k * 2 ^ i + (2 ^ i - 1)) / 4096 ≡ roundDown s (2 ^ i) / 4096 = rw r at high ∙ sym aligned-block in
+      let h2 : (roundDown s (2 ^ i) + k * 2 ^ i + (2 ^ i - 1)) / block ≡ roundDown s (2 ^ i) / block = rw r at high ∙ sym aligned-block in
       omega (arith, pow-pos i)
 
   -- what the code tests is exactly the paper's rule
-  pub incr-crosses : (n : ℕ) → 0 < n → crossesBy Incr s (2 ^ i) n ≡ ltb 4096 (roundDown s (2 ^ i) % 4096 + n * 2 ^ i)
+  pub incr-crosses : (n : ℕ) → 0 < n → crossesBy Incr s (2 ^ i) n ≡ ltb block (roundDown s (2 ^ i) % block + n * 2 ^ i)
   unfolding addressBy
-  incr-crosses n some = go (ltb 4096 (roundDown s (2 ^ i) % 4096 + n * 2 ^ i)) refl (crossesBy Incr s (2 ^ i) n) refl
+  incr-crosses n some = go (ltb block (roundDown s (2 ^ i) % block + n * 2 ^ i)) refl (crossesBy Incr s (2 ^ i) n) refl
     where
-      go : (t : Bool) → ltb 4096 (roundDown s (2 ^ i) % 4096 + n * 2 ^ i) ≡ t → (u : Bool) → crossesBy Incr s (2 ^ i) n ≡ u → u ≡ t
+      go : (t : Bool) → ltb block (roundDown s (2 ^ i) % block + n * 2 ^ i) ≡ t → (u : Bool) → crossesBy Incr s (2 ^ i) n ≡ u → u ≡ t
       go true over true e = refl
-      go true over false e = absurd (omega (arith, ltb-true 4096 (roundDown s (2 ^ i) % 4096 + n * 2 ^ i) over, fits-incr n some e))
-      go false under u e = sym e ∙ all-inside s i small Incr n (incr-fits n (ltb-false 4096 (roundDown s (2 ^ i) % 4096 + n * 2 ^ i) under))
+      go true over false e = absurd (omega (arith, ltb-true block (roundDown s (2 ^ i) % block + n * 2 ^ i) over, fits-incr n some e))
+      go false under u e = sym e ∙ all-inside s i small Incr n (incr-fits n (ltb-false block (roundDown s (2 ^ i) % block + n * 2 ^ i) under))
 
 -- "Only INCR can do so."
 module _ (s i n : ℕ) (small : i ≤ 7) where
@@ -112,11 +116,11 @@ module _ (s i n : ℕ) (small : i ≤ 7) where
   unfolding addressBy
   wrap-inside c e = all-inside s i (omega arith) Wrap n (λ k l. go (wrap-power n c) k)
     where
-      go : UpTo 4 n → (k : ℕ) → wrapAddress s (2 ^ i) n k / 4096 ≡ s / 4096
+      go : UpTo 4 n → (k : ℕ) → wrapAddress s (2 ^ i) n k / block ≡ s / block
       go p k =
           let t : 2 ^ i * n ≡ 2 ^ (i + p .log) = rw (p .is) (sym (pow-add 2 i (p .log))) in
           let some : 0 < n = rw (p .is) (pow-pos (p .log)) in
-          let small : i + p .log ≤ 12 = omega (arith, p .small) in
+          let small : i + p .log ≤ blockBits = omega (arith, p .small) in
           coarser (wrapAddress s (2 ^ i) n k) s small (rw t at (wrap-container s (2 ^ i) n (pow-pos i) some (wrap-aligned s (2 ^ i) e) k))
 
   others-inside : (m : Kind) → (m ≡ Incr → ⊥) → countAllowed m n ≡ true → misaligned m s (2 ^ i) ≡ false → crossesBy m s (2 ^ i) n ≡ false
@@ -147,7 +151,7 @@ crosses-exactly x = (there, back)
           counted = l;
           from = omega arith;
           to = omega (arith, found .1);
-          elsewhere = eqb-false ((at + found .0) / 4096) (x .start / 4096) (not-true (eqb ((at + found .0) / 4096) (x .start / 4096)) (found .2));
+          elsewhere = eqb-false ((at + found .0) / block) (x .start / block) (not-true (eqb ((at + found .0) / block) (x .start / block)) (found .2));
         }
 
     there : crosses x ≡ true → Crossing x
@@ -167,14 +171,14 @@ crosses-exactly x = (there, back)
 
 -- an accepted burst touches one block only
 pub one-block : (x : Burst) → Accepted x → (k a : ℕ) → k < beats x
-    → beatAddress x k ≤ a → a ≤ highestByte (beatAddress x k) (bytes x) → a / 4096 ≡ x .start / 4096
+    → beatAddress x k ≤ a → a ≤ highestByte (beatAddress x k) (bytes x) → a / block ≡ x .start / block
 one-block x y k a l from to = bytes-inside (x .kind) (x .start) (bytes x) (beats x) (y .inside) k a l from to
 
-pub address-block : (x : Burst) → Accepted x → (k : ℕ) → k < beats x → beatAddress x k / 4096 ≡ x .start / 4096
+pub address-block : (x : Burst) → Accepted x → (k : ℕ) → k < beats x → beatAddress x k / block ≡ x .start / block
 address-block x y k l =
     one-block x y k (beatAddress x k) l (omega arith) (omega (arith, round-near (beatAddress x k) (bytes x) (pow-pos (x .size)), pow-pos (x .size)))
 
 -- so nothing of it lies beyond the memory that its start lies in, of 2 ^ w bytes
-pub accepted-in-memory : (w : ℕ) (x : Burst) → 12 ≤ w → x .start < 2 ^ w → Accepted x → (k a : ℕ) → k < beats x
+pub accepted-in-memory : (w : ℕ) (x : Burst) → blockBits ≤ w → x .start < 2 ^ w → Accepted x → (k a : ℕ) → k < beats x
     → beatAddress x k ≤ a → a ≤ highestByte (beatAddress x k) (bytes x) → a < 2 ^ w
-accepted-in-memory w x h s y k a l from to = same-memory {i = 12} w a (x .start) h s (one-block x y k a l from to)
+accepted-in-memory w x h s y k a l from to = same-memory {i = blockBits} w a (x .start) h s (one-block x y k a l from to)

@@ -12,7 +12,7 @@ use borrow.Author.Tests.{ltb-false, eqb-true, not-false}
 use Rattle.burst_spec.specs.declared.Burst.{Burst}
 use Rattle.burst_spec.specs.declared.Kind.the-variants.{Wrap}
 use Rattle.burst_spec.specs.Address.{beats, bytes}
-use Rattle.burst_spec.specs.Checks.{among, busAllowed, countAllowed, countRefused, tooWide}
+use Rattle.burst_spec.specs.Checks.{among, axsizeMost, axlenMost, busAllowed, countAllowed, countRefused, tooWide}
 use Rattle.burst_spec.specs.Legal.{Legal}
 
 -- two constructors are never equal: `cc` finds this path from any two that are said to be
@@ -78,28 +78,28 @@ log-le i j h = elim (decLt j i) [ yes l ↦ absurd (go l (pow-lt l)) | no n ↦ 
 pub record Known (x : Burst) : Type 0 where
   pub bus : UpTo 7 (x .bus)
   pub narrow : x .size ≤ bus .log
-  pub few : x .len ≤ 255
+  pub few : x .len ≤ axlenMost
   pub count : countAllowed (x .kind) (beats x) ≡ true
 
 module _ (x : Burst) where
-  pub size-known : tooWide x ≡ false → (x .size ≤ 7) × (bytes x ≤ x .bus)
+  pub size-known : tooWide x ≡ false → (x .size ≤ axsizeMost) × (bytes x ≤ x .bus)
   size-known e =
-      let h : (ltb 7 (x .size) ≡ false) × (ltb (x .bus) (bytes x) ≡ false) = or-false _ _ e in
-      (ltb-false 7 (x .size) (h .0), ltb-false (x .bus) (bytes x) (h .1))
+      let h : (ltb axsizeMost (x .size) ≡ false) × (ltb (x .bus) (bytes x) ≡ false) = or-false _ _ e in
+      (ltb-false axsizeMost (x .size) (h .0), ltb-false (x .bus) (bytes x) (h .1))
 
-  count-known : countRefused x ≡ false → (x .len ≤ 255) × (countAllowed (x .kind) (beats x) ≡ true)
+  count-known : countRefused x ≡ false → (x .len ≤ axlenMost) × (countAllowed (x .kind) (beats x) ≡ true)
   count-known e =
-      let h : (ltb 255 (x .len) ≡ false) × (not (countAllowed (x .kind) (beats x)) ≡ false) = or-false _ _ e in
-      (ltb-false 255 (x .len) (h .0), not-false _ (h .1))
+      let h : (ltb axlenMost (x .len) ≡ false) × (not (countAllowed (x .kind) (beats x)) ≡ false) = or-false _ _ e in
+      (ltb-false axlenMost (x .len) (h .0), not-false _ (h .1))
 
   pub known : Legal x → Known x
   known l = go (bus-power (x .bus) (l .bus)) (size-known (l .size)) (count-known (l .count))
     where
-      go : UpTo 7 (x .bus) → (x .size ≤ 7) × (bytes x ≤ x .bus) → (x .len ≤ 255) × (countAllowed (x .kind) (beats x) ≡ true) → Known x
+      go : UpTo 7 (x .bus) → (x .size ≤ axsizeMost) × (bytes x ≤ x .bus) → (x .len ≤ axlenMost) × (countAllowed (x .kind) (beats x) ≡ true) → Known x
       go p s c =
           record { bus = p; narrow = log-le (x .size) (p .log) (rw (p .is) at (s .1)); few = c .0; count = c .1 }
 
-  pub size-small : Legal x → x .size ≤ 7
+  pub size-small : Legal x → x .size ≤ axsizeMost
   size-small l = size-known (l .size) .0
 
   pub bytes-small : Legal x → bytes x ≤ 128

@@ -6,13 +6,13 @@ use Rattle.burst_spec.specs.declared.Burst.{Burst}
 use Rattle.burst_spec.specs.declared.Judgement.{Judgement}
 use Rattle.burst_spec.specs.declared.BeatAnswer.{BeatAnswer}
 use Rattle.burst_spec.specs.declared.StepAnswer.{StepAnswer}
-use Rattle.burst_spec.specs.Answers.{judgementShows, beatShows, stepShows, Judges, GivesBeat, GivesStep}
+use Rattle.burst_spec.specs.Answers.{judgementValues, beatValues, stepValues, Judged, BeatGiven, StepGiven}
 
-pub judges-once : (x : Burst) (r q : Judgement) → Judges x r → Judges x q → (r ≡ q) × (judgementShows r ≡ judgementShows q)
-judges-once x r q a b = (a .is ∙ sym (b .is), a .shows ∙ sym (b .shows))
+pub judged-once : (x : Burst) (r q : Judgement) → Judged x r → Judged x q → (r ≡ q) × (judgementValues r ≡ judgementValues q)
+judged-once x r q a b = (a .is ∙ sym (b .is), a .shows ∙ sym (b .shows))
 
-pub beat-once : (x : Burst) (k : ℕ) (r q : BeatAnswer) → GivesBeat x k r → GivesBeat x k q → (r ≡ q) × (beatShows r ≡ beatShows q)
+pub beat-once : (x : Burst) (k : ℕ) (r q : BeatAnswer) → BeatGiven x k r → BeatGiven x k q → (r ≡ q) × (beatValues r ≡ beatValues q)
 beat-once x k r q a b = (a .is ∙ sym (b .is), a .shows ∙ sym (b .shows))
 
-pub step-once : (x : Burst) (k : ℕ) (r q : StepAnswer) → GivesStep x k r → GivesStep x k q → (r ≡ q) × (stepShows r ≡ stepShows q)
+pub step-once : (x : Burst) (k : ℕ) (r q : StepAnswer) → StepGiven x k r → StepGiven x k q → (r ≡ q) × (stepValues r ≡ stepValues q)
 step-once x k r q a b = (a .is ∙ sym (b .is), a .shows ∙ sym (b .shows))

@@ -8,7 +8,7 @@ use lib.IntN.{pos, negsuc}
 use lib.Signed.{_≤ℤ_}
 use Rattle.burst_spec.specs.declared.Burst.{Burst}
 use Rattle.burst_spec.specs.Address.{roundDown, incrAddress, wrapAddress, addressBy, wrapStep, stepBy}
-use Rattle.burst_spec.specs.Checks.{someBelow, busAllowed, countAllowed, misaligned, crosses, crossesBy}
+use Rattle.burst_spec.specs.Checks.{block as blockBytes, someBelow, busAllowed, countAllowed, misaligned, crosses, crossesBy}
 use Rattle.burst_spec.specs.Transfer.{transfer}
 use Rattle.burst_spec.specs.Legal.{Accepted}
 use Rattle.burst_spec.specs.Answers.{burstOf, judgement}
@@ -71,7 +71,7 @@ pub never : crosses wrapping ≡ false
 never = only-incr wrapping (wrapping-accepted .legal) (λ e. clash cc)
 
 -- the last byte of B4's burst, 0xFFF, and the last byte of memory
-pub block : 0xFFF / 4096 ≡ 0xFF2 / 4096
+pub block : 0xFFF / blockBytes ≡ 0xFF2 / blockBytes
 unfolding roundDown incrAddress addressBy
 block = one-block fenced fenced-accepted 3 0xFFF (omega arith) (omega arith) (omega arith)
 

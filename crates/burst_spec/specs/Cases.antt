@@ -1,12 +1,12 @@
 -- Paper 01's cases B1 to B6 and worked entries for each refusal, each bound and the top of memory: what is asked of which
--- burst, and the row that must be answered. One statement covers the whole list (proofs/Cases). Entries that are not
+-- burst, and the numbers that must be answered. One statement covers the whole list (proofs/Cases). Entries that are not
 -- 01's have an id (W01 and on) that docs/PROMISES.md cites: a new one takes the next free id, and none is given twice.
 -- B1 to B6 are typed from the paper, the other entries worked by hand; of the definitions only `kindOf` is used here.
 use mathlib.Core.List.{List, [], _∷_, _++_, map}
 use Prim.Native.Nat.{ℕ}
 use lib.IntN.{ℤ, pos, negsuc}
 use Rattle.burst_spec.specs.declared.Burst.{Burst}
-use Rattle.burst_spec.specs.Answers.{burstOf, judgement, beatAnswer, stepAnswer, Row, judgementShows, beatShows, stepShows}
+use Rattle.burst_spec.specs.Answers.{burstOf, judgement, beatAnswer, stepAnswer, Values, judgementValues, beatValues, stepValues}
 
 -- a question about a burst
 pub data Question : Type 0 where
@@ -17,45 +17,40 @@ pub data Question : Type 0 where
 pub record Case : Type 0 where
   pub burst : Burst
   pub question : Question
-  pub row : Row
+  pub told : Values
 
--- the row that the definitions give
-abbrev pub answerTo : Question → Burst → Row
-answerTo judge x = judgementShows (judgement x)
-answerTo (beat k) x = beatShows (beatAnswer x k)
-answerTo (step k) x = stepShows (stepAnswer x k)
+-- the numbers that the definitions give
+abbrev pub answerTo : Question → Burst → Values
+answerTo judge x = judgementValues (judgement x)
+answerTo (beat k) x = beatValues (beatAnswer x k)
+answerTo (step k) x = stepValues (stepAnswer x k)
 
 abbrev pub computed : Case → Case
-computed c = record { burst = c .burst; question = c .question; row = answerTo (c .question) (c .burst) }
+computed c = record { burst = c .burst; question = c .question; told = answerTo (c .question) (c .burst) }
 
--- rows as they are typed here: a refusal's number, or a beat's address, lower and upper lane, or a step
-abbrev pub refusedRow : ℕ → Row
-refusedRow number = record { number = number; place = 0; rule = 0; address = 0; lower = 0; upper = 0; step = pos 0 }
-
-abbrev beatTyped : ℕ → ℕ → ℕ → Row
-beatTyped address lower upper = record { number = 0; place = 0; rule = 0; address = address; lower = lower; upper = upper; step = pos 0 }
-
-abbrev stepTyped : ℤ → Row
-stepTyped by = record { number = 0; place = 0; rule = 0; address = 0; lower = 0; upper = 0; step = by }
+-- the numbers as they are typed here; no burst refusal has a place or a rule
+abbrev typed : ℕ → ℕ → ℕ → ℕ → ℤ → Values
+typed refusal address lower upper by =
+    record { refusal = refusal; place = 0; rule = 0; address = address; lower = lower; upper = upper; step = by }
 
 module _ (x : Burst) where
   abbrev accepts : Case
-  accepts = record { burst = x; question = judge; row = refusedRow 0 }
+  accepts = record { burst = x; question = judge; told = typed 0 0 0 0 (pos 0) }
 
   abbrev refuses : ℕ → Case
-  refuses number = record { burst = x; question = judge; row = refusedRow number }
+  refuses number = record { burst = x; question = judge; told = typed number 0 0 0 (pos 0) }
 
   abbrev hasBeat : ℕ → ℕ → ℕ → ℕ → Case
-  hasBeat k address lower upper = record { burst = x; question = beat k; row = beatTyped address lower upper }
+  hasBeat k address lower upper = record { burst = x; question = beat k; told = typed 0 address lower upper (pos 0) }
 
   abbrev hasStep : ℕ → ℤ → Case
-  hasStep k by = record { burst = x; question = step k; row = stepTyped by }
+  hasStep k by = record { burst = x; question = step k; told = typed 0 0 0 0 by }
 
   abbrev noBeat : ℕ → ℕ → Case
-  noBeat k number = record { burst = x; question = beat k; row = refusedRow number }
+  noBeat k number = record { burst = x; question = beat k; told = typed number 0 0 0 (pos 0) }
 
   abbrev noStep : ℕ → ℕ → Case
-  noStep k number = record { burst = x; question = step k; row = refusedRow number }
+  noStep k number = record { burst = x; question = step k; told = typed number 0 0 0 (pos 0) }
 
 -- a burst is typed as start address, AxLEN, AxSIZE, kind number, bus
 

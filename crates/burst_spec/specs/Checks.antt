@@ -1,10 +1,11 @@
 -- Which bursts are refused, and with what first (paper 01, 'Refusal numbers', 7 to 13; source 004, A3.4.1).
 -- A burst of the reserved kind is refused with 9 before any later line for its kind is read.
-use mathlib.Core.Bool.{Bool, true, false, not, cond, _&&_, _||_}
+use mathlib.Core.Bool.{Bool, true, false, not, _&&_, _||_}
 use mathlib.Core.List.{List, [], _∷_, _++_}
 use mathlib.Core.Path.{_≡_}
 use Prim.Native.Nat.{ℕ, zero, suc, _+_, _-_, _/_, _%_, _≤_, _<_}
 use lib.Dec.{leb, ltb, eqb}
+use Rattle.refusal.specs.Checks.{Check, check}
 use Rattle.refusal.specs.declared.Refusal.{Refusal}
 use Rattle.refusal.specs.declared.Refusal.the-variants.{Bus, Size, Kind, Count, Align, Boundary, Index}
 use Rattle.burst_spec.specs.declared.Burst.{Burst}
@@ -12,15 +13,19 @@ use Rattle.burst_spec.specs.declared.Kind as kind
 use Rattle.burst_spec.specs.declared.Kind.the-variants.{Fixed, Incr, Wrap, Reserved}
 use Rattle.burst_spec.specs.Address.{beats, bytes, addressBy, beatAddress, highestByte}
 
--- A check: when it refuses, and with what.
-pub record Check : Type 0 where
-  pub refuses : Bool
-  pub because : Refusal
+-- the bounds that the table names: "AxSIZE above 7", "AxLEN above 255"; and the "4,096-byte block", 2 ^ 12 bytes
+abbrev pub axsizeMost : ℕ
+axsizeMost = 7
 
--- The answer under a list of checks: the first that refuses decides, and without one the call answers `ok`.
-abbrev pub firstOf : {A : Type 0} → (Refusal → A) → List Check → A → A
-firstOf refused [] ok = ok
-firstOf refused (c ∷ cs) ok = cond (c .refuses) (refused (c .because)) (firstOf refused cs ok)
+abbrev pub axlenMost : ℕ
+axlenMost = 255
+
+abbrev pub block : ℕ
+block = 0x1000
+
+-- the widest bus that 7 allows
+abbrev pub busMost : ℕ
+busMost = 128
 
 -- whether a number is one of a list, and whether it lies from low to high
 abbrev pub among : ℕ → List ℕ → Bool
@@ -41,7 +46,7 @@ busAllowed bus = among bus (1 ∷ 2 ∷ 4 ∷ 8 ∷ 16 ∷ 32 ∷ 64 ∷ 128 ∷
 
 -- 8 SIZE: "AxSIZE above 7, or a beat wider than the bus"
 abbrev pub tooWide : Burst → Bool
-tooWide x = ltb 7 (x .size) || ltb (x .bus) (bytes x)
+tooWide x = ltb axsizeMost (x .size) || ltb (x .bus) (bytes x)
 
 -- 9 TYPE: "kind is 3 or more"
 abbrev pub isReserved : kind.Kind → Bool
@@ -59,7 +64,7 @@ countAllowed Reserved n = false
 
 -- "N not allowed for the kind, or AxLEN above 255"
 abbrev pub countRefused : Burst → Bool
-countRefused x = ltb 255 (x .len) || not (countAllowed (x .kind) (beats x))
+countRefused x = ltb axlenMost (x .len) || not (countAllowed (x .kind) (beats x))
 
 -- 11 ALIGN: "WRAP start not a multiple of B"
 unfoldable pub misaligned : kind.Kind → ℕ → ℕ → Bool
@@ -71,7 +76,7 @@ misaligned Reserved s b = false
 -- 12 FENCE, the 4KB rule: "some byte from a beat's address to its highest lane lies in another 4,096-byte block than S."
 -- Here a is the beat's address, and j counts its bytes from that address on.
 abbrev pub outside : ℕ → ℕ → Bool
-outside s a = not (eqb (a / 4096) (s / 4096))
+outside s a = not (eqb (a / block) (s / block))
 
 abbrev pub beatOutside : ℕ → ℕ → ℕ → Bool
 beatOutside s b a = someBelow (highestByte a b - a + 1) (λ j. outside s (a + j))
@@ -89,22 +94,25 @@ pub record Crossing (x : Burst) : Type 0 where
   pub counted : beat < beats x
   pub from : beatAddress x beat ≤ byte
   pub to : byte ≤ highestByte (beatAddress x beat) (bytes x)
-  pub elsewhere : byte / 4096 ≡ x .start / 4096 → ⊥
+  pub elsewhere : byte / block ≡ x .start / block → ⊥
 
 -- "On bursts: 7 to 12 in order, then 13."
-abbrev pub checks : Burst → List Check
+abbrev pub checks : Burst → List (Check Refusal)
 checks x =
-    record { refuses = not (busAllowed (x .bus)); because = Bus }
-    ∷ record { refuses = tooWide x; because = Size }
-    ∷ record { refuses = isReserved (x .kind); because = Kind }
-    ∷ record { refuses = countRefused x; because = Count }
-    ∷ record { refuses = misaligned (x .kind) (x .start) (bytes x); because = Align }
-    ∷ record { refuses = crosses x; because = Boundary }
+    check (not (busAllowed (x .bus))) Bus
+    ∷ check (tooWide x) Size
+    ∷ check (isReserved (x .kind)) Kind
+    ∷ check (countRefused x) Count
+    ∷ check (misaligned (x .kind) (x .start) (bytes x)) Align
+    ∷ check (crosses x) Boundary
     ∷ []
 
--- 13 INDEX: "no such .. beat; for a step, no next beat"
-abbrev pub checksOfBeat : Burst → ℕ → List Check
-checksOfBeat x k = checks x ++ (record { refuses = leb (beats x) k; because = Index } ∷ [])
+abbrev pub indexedChecks : Burst → Bool → List (Check Refusal)
+indexedChecks x missing = checks x ++ (check missing Index ∷ [])
 
-abbrev pub checksOfStep : Burst → ℕ → List Check
+-- 13 INDEX: "no such .. beat; for a step, no next beat"
+abbrev pub checksOfBeat : Burst → ℕ → List (Check Refusal)
+checksOfBeat x k = indexedChecks x (leb (beats x) k)
+
+abbrev pub checksOfStep : Burst → ℕ → List (Check Refusal)
 checksOfStep x k = checksOfBeat x (k + 1)

@@ -2,7 +2,7 @@
 // in specs/, and the laws about that are in proofs/. Nothing is computed here.
 use refusal::Refusal;
 
-// How wide an address is: said here and nowhere else.
+// How wide an address is. The code says it here and nowhere else, the proofs in `addressBits` of burst (T-10: 64 bits).
 pub type Address = u32;
 
 // AxBURST, paper 01's kind: FIXED 0, INCR 1, WRAP 2. Reserved is Arm's word for the encoding b11, and stands for every

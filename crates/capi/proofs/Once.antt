@@ -4,21 +4,21 @@
 use mathlib.Core.Path.{_≡_}
 use mathlib.Core.List.{List}
 use Prim.Native.Nat.{ℕ}
-use Rattle.burst_spec.specs.Answers.{Row}
+use Rattle.burst_spec.specs.Answers as burst
 use Rattle.stream_spec.specs.declared.Shape.{Shape}
 use Rattle.stream_spec.specs.Answers.{Values}
 use Rattle.report_call.specs.declared.Verdict.{Verdict}
 use Rattle.report_call.specs.Report.{Whole}
 use Rattle.report_call.proofs.Once.{both}
-use Rattle.capi.specs.declared.BurstAnswer.{BurstAnswer}
+use Rattle.capi.specs.declared.burst_calls.BurstAnswer.{BurstAnswer}
 use Rattle.capi.specs.declared.stream_calls.PartAnswer.{PartAnswer}
 use Rattle.capi.specs.declared.stream_calls.StreamAnswer.{StreamAnswer}
 use Rattle.capi.specs.declared.report_calls.ReportAnswer.{ReportAnswer}
-use Rattle.capi.specs.Shows.{ShowsRow, ShowsValues, ShowsPart}
-use Rattle.capi.specs.Reports.{ShowsVerdict, ShowsReport}
+use Rattle.capi.specs.Shows.{ShowsBurst, ShowsStream, ShowsPart}
+use Rattle.capi.specs.Reports.{ShowsVerdict, ShowsWhole}
 
-pub row-once : {a b : BurstAnswer} {row : Row} → ShowsRow a row → ShowsRow b row → a ≡ b
-row-once p q = λ i. record {
+pub burst-once : {a b : BurstAnswer} {values : burst.Values} → ShowsBurst a values → ShowsBurst b values → a ≡ b
+burst-once p q = λ i. record {
   refusal = both (p .refusal) (q .refusal) i;
   lower = both (p .lower) (q .lower) i;
   upper = both (p .upper) (q .upper) i;
@@ -26,8 +26,8 @@ row-once p q = λ i. record {
   address = both (p .address) (q .address) i;
 }
 
-pub values-once : {a b : StreamAnswer} {values : Values} → ShowsValues a values → ShowsValues b values → a ≡ b
-values-once p q = λ i. record {
+pub stream-once : {a b : StreamAnswer} {values : Values} → ShowsStream a values → ShowsStream b values → a ≡ b
+stream-once p q = λ i. record {
   refusal = both (p .refusal) (q .refusal) i;
   rule = both (p .rule) (q .rule) i;
   place = both (p .place) (q .place) i;
@@ -55,6 +55,6 @@ verdict-once p q = λ i. record {
 }
 
 -- o and t are the output and the text as the first call leaves them, o' and t' as the second does
-pub report-once : {a b : ReportAnswer} {w : Whole} {out o o' text t t' : List ℕ} → ShowsReport a w out o text t → ShowsReport b w out o' text t'
+pub report-once : {a b : ReportAnswer} {w : Whole} {out o o' text t t' : List ℕ} → ShowsWhole a w out o text t → ShowsWhole b w out o' text t'
     → (a ≡ b) × (o ≡ o') × (t ≡ t')
 report-once p q = (verdict-once (p .numbers) (q .numbers), both (p .leaves) (q .leaves), both (p .told) (q .told))

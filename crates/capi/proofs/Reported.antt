@@ -7,7 +7,7 @@ use Rattle.report_call.specs.declared.Summary.{Summary}
 use Rattle.report_call.specs.declared.Verdict.{Verdict}
 use Rattle.report_call.specs.Report.{Whole, Reported, fitting}
 use Rattle.capi.specs.declared.report_calls.ReportAnswer.{ReportAnswer}
-use Rattle.capi.specs.Reports.{ShowsVerdict, ShowsReport}
+use Rattle.capi.specs.Reports.{ShowsVerdict, ShowsWhole}
 
 -- a verdict x that was found to be y shows what y shows
 pub shown : (a : ReportAnswer) (text octets : ℕ) {x y : Verdict} → x ≡ y → ShowsVerdict a y text octets → ShowsVerdict a x text octets
@@ -15,7 +15,7 @@ shown a text octets e h = subst (λ v. ShowsVerdict a v text octets) (sym e) h
 
 -- the report answered r, and a shows the verdict of r and its two lengths
 pub tells : (w : Whole) (out out' text text' : List ℕ) (r : Summary) (a : ReportAnswer) → Reported w out out' text text' r
-    → ShowsVerdict a (r .verdict) (r .text) (r .octets) → ShowsReport a w out out' text text'
+    → ShowsVerdict a (r .verdict) (r .text) (r .octets) → ShowsWhole a w out out' text text'
 tells w out out' text text' r a h g =
     let long = subst (λ n. ShowsVerdict a (r .verdict) (r .text) n) (h .long) g in
     let told = subst (λ n. ShowsVerdict a (r .verdict) n (length (w .result))) (h .toldLong) long in

@@ -17,9 +17,9 @@ use Rattle.capi.specs.declared.report_calls.ReportAnswer.{ReportAnswer}
 abbrev pub wasRead : ℕ → Bool
 wasRead n = not (eqb n 0)
 
-abbrev pub reportAsked : ℕ → List ℕ → ℕ → List ℕ → ℕ → Whole
-reportAsked sheetRead sheet captureRead capture room =
-    reportOf (contents (wasRead sheetRead) sheet) (contents (wasRead captureRead) capture) room
+abbrev pub reportAsked : ℕ → List ℕ → ℕ → List ℕ → List ℕ → Whole
+reportAsked sheetRead sheet captureRead capture out =
+    reportOf (contents (wasRead sheetRead) sheet) (contents (wasRead captureRead) capture) (length out)
 
 -- ---- what C is shown
 
@@ -42,7 +42,12 @@ pub record ShowsVerdict (a : ReportAnswer) (v : Verdict) (text octets : ℕ) : T
 
 -- the whole answer: its numbers, and the result and the text at the front of lent memory; out and text as they were, out'
 -- and text' as they are left. A text that does not fit is not written, and counts no octet.
-pub record ShowsReport (a : ReportAnswer) (w : Whole) (out out' text text' : List ℕ) : Type 0 where
+pub record ShowsWhole (a : ReportAnswer) (w : Whole) (out out' text text' : List ℕ) : Type 0 where
   pub numbers : ShowsVerdict a (w .verdict) (length (fitting (w .text) text)) (length (w .result))
   pub leaves : out' ≡ front (w .result) out
   pub told : text' ≡ front (fitting (w .text) text) text
+
+-- the same of what C hands over
+abbrev pub ShowsReport : ReportAnswer → ℕ → List ℕ → ℕ → List ℕ → (out out' text text' : List ℕ) → Type 0
+ShowsReport a sheetRead sheet captureRead capture out out' text text' =
+    ShowsWhole a (reportAsked sheetRead sheet captureRead capture out) out out' text text'

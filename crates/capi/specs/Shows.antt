@@ -1,24 +1,25 @@
--- The numbers of an answer as C sees them, against the rows of paper 01's numbers that the calls' definitions give.
+-- The numbers of a burst's and of a stream's answer as C sees them, against paper 01's numbers that the calls' definitions
+-- give. The report is in Reports.
 use mathlib.Core.Path.{_≡_}
 use mathlib.Core.List.{List}
 use Prim.Native.Nat.{ℕ}
 use lib.ListN.{length}
-use Rattle.burst_spec.specs.Answers.{Row}
+use Rattle.burst_spec.specs.Answers as burst
 use Rattle.stream_spec.specs.declared.Shape.{Shape}
 use Rattle.stream_spec.specs.Answers.{Values, lookupValues, dataAnswer, dataStart, dataPart}
 use Rattle.capi.specs.declared.stream_calls.PartAnswer.{PartAnswer}
 use Rattle.capi.specs.declared.stream_calls.StreamAnswer.{StreamAnswer}
-use Rattle.capi.specs.declared.BurstAnswer.{BurstAnswer}
+use Rattle.capi.specs.declared.burst_calls.BurstAnswer.{BurstAnswer}
 
 -- A burst refusal's place and rule are always 0, so the struct has no field for them.
-pub record ShowsRow (a : BurstAnswer) (row : Row) : Type 0 where
-  pub refusal : a .refusal ≡ row .number
-  pub lower : a .lower ≡ row .lower
-  pub upper : a .upper ≡ row .upper
-  pub step : a .step ≡ row .step
-  pub address : a .address ≡ row .address
+pub record ShowsBurst (a : BurstAnswer) (values : burst.Values) : Type 0 where
+  pub refusal : a .refusal ≡ values .refusal
+  pub lower : a .lower ≡ values .lower
+  pub upper : a .upper ≡ values .upper
+  pub step : a .step ≡ values .step
+  pub address : a .address ≡ values .address
 
-pub record ShowsValues (a : StreamAnswer) (values : Values) : Type 0 where
+pub record ShowsStream (a : StreamAnswer) (values : Values) : Type 0 where
   pub refusal : a .refusal ≡ values .refusal
   pub place : a .place ≡ values .place
   pub rule : a .rule ≡ values .rule

@@ -1,9 +1,8 @@
 // The report as a C function. Reading the sheet and the take from files, and printing, is the program, crate report.
 use refusal::Refusal;
 use report_call::Verdict;
-ghost use lib.ListN.{length};
 ghost use Rattle.report_call.specs.declared.Verdict.the-variants.{Refused};
-ghost use Rattle.capi.specs.Reports.{ShowsVerdict, ShowsReport, reportAsked};
+ghost use Rattle.capi.specs.Reports.{ShowsVerdict, ShowsReport};
 
 // What the report answers: the verdict (0 clean, 1 broken, 2 refused); the refusal's number; the broken rule; the record of
 // a refusal or the broken cycle; the counts of a clean take; how many octets of text stand at the front of `text`, and how
@@ -79,7 +78,7 @@ pub extern "C" fn urd_report(
     out: &mut [u8],
     text: &mut [u8],
 ) -> ReportAnswer
-    ensures { λ a. ⌜ ShowsReport a (reportAsked «sheet_read» (now (sheet .entry)) «capture_read» (now (capture .entry)) (length (now (out .entry)))) (now (out .entry)) (now (out .exit)) (now (text .entry)) (now (text .exit)) ⌝ }
+    ensures { λ a. ⌜ ShowsReport a «sheet_read» (now (sheet .entry)) «capture_read» (now (capture .entry)) (now (out .entry)) (now (out .exit)) (now (text .entry)) (now (text .exit)) ⌝ }
 {
     let told = report_call::report(
         sheet,

@@ -8,7 +8,7 @@ ghost use mathlib.Core.Path.{_≡_};
 ghost use lib.ListN.{length};
 ghost use Rattle.stream_spec.specs.Handshake.{baseLevel};
 ghost use Rattle.stream_spec.specs.Answers.{refusalValues, verdictValues, writtenValues, lookupValues, judgeAnswer, harvestAnswer, harvestAfter, fillAnswer, fillAfter, repackAnswer, repackAfter, downsizeAnswer, downsizeAfter};
-ghost use Rattle.capi.specs.Shows.{ShowsValues, ShowsPart, shape};
+ghost use Rattle.capi.specs.Shows.{ShowsStream, ShowsPart, shape};
 
 // What a stream call answers: the refusal's number, or 0; its place, or the broken cycle; the rule; the count of transfers
 // or records. What it has not is 0.
@@ -32,14 +32,14 @@ fn answer(refusal: u32, place: usize, rule: u32, count: usize) -> StreamAnswer
 }
 
 fn refused(r: Refusal) -> StreamAnswer
-    ensures { λ a. ⌜ ShowsValues a (refusalValues r) ⌝ }
+    ensures { λ a. ⌜ ShowsStream a (refusalValues r) ⌝ }
 {
     let code = refusal::code_of(r);
     answer(code.0, code.1, code.2, 0)
 }
 
 fn of_written(w: Written) -> StreamAnswer
-    ensures { λ a. ⌜ ShowsValues a (writtenValues w) ⌝ }
+    ensures { λ a. ⌜ ShowsStream a (writtenValues w) ⌝ }
 {
     match w {
         Written::Records(n) => answer(0, 0, 0, n),
@@ -48,7 +48,7 @@ fn of_written(w: Written) -> StreamAnswer
 }
 
 fn of_verdict(v: Verdict) -> StreamAnswer
-    ensures { λ a. ⌜ ShowsValues a (verdictValues v) ⌝ }
+    ensures { λ a. ⌜ ShowsStream a (verdictValues v) ⌝ }
 {
     match v {
         Verdict::Clean(n) => answer(0, 0, 0, n),
@@ -60,7 +60,7 @@ fn of_verdict(v: Verdict) -> StreamAnswer
 // Judges a take of cycle records.
 #[no_mangle]
 pub extern "C" fn urd_judge(width: usize, capture: &[u8]) -> StreamAnswer
-    ensures { λ a. ⌜ ShowsValues a (verdictValues (judgeAnswer (shape width) (now (capture .entry)))) ⌝ }
+    ensures { λ a. ⌜ ShowsStream a (verdictValues (judgeAnswer (shape width) (now (capture .entry)))) ⌝ }
 {
     of_verdict(stream_judge::judge(Shape { width }, capture))
 }
@@ -68,7 +68,7 @@ pub extern "C" fn urd_judge(width: usize, capture: &[u8]) -> StreamAnswer
 // Writes the transfers of a clean take of cycle records into a lent output.
 #[no_mangle]
 pub extern "C" fn urd_harvest(width: usize, capture: &[u8], out: &mut [u8]) -> StreamAnswer
-    ensures { λ a. ⌜ ShowsValues a (writtenValues (harvestAnswer (shape width) (now (capture .entry)) (length (now (out .entry))))) ⌝ }
+    ensures { λ a. ⌜ ShowsStream a (writtenValues (harvestAnswer (shape width) (now (capture .entry)) (length (now (out .entry))))) ⌝ }
     ensures { λ a. ⌜ now (out .exit) ≡ harvestAfter (shape width) (now (capture .entry)) (now (out .entry)) ⌝ }
 {
     of_written(stream_harvest::harvest(Shape { width }, capture, out))
@@ -77,7 +77,7 @@ pub extern "C" fn urd_harvest(width: usize, capture: &[u8], out: &mut [u8]) -> S
 // Clears TLAST in a lent take.
 #[no_mangle]
 pub extern "C" fn urd_fill_in(width: usize, capture: &mut [u8]) -> StreamAnswer
-    ensures { λ a. ⌜ ShowsValues a (writtenValues (fillAnswer (shape width) (now (capture .entry)))) ⌝ }
+    ensures { λ a. ⌜ ShowsStream a (writtenValues (fillAnswer (shape width) (now (capture .entry)))) ⌝ }
     ensures { λ a. ⌜ now (capture .exit) ≡ fillAfter baseLevel (shape width) (now (capture .entry)) ⌝ }
 {
     of_written(stream_fill_in::fill_in(Shape { width }, capture))
@@ -86,7 +86,7 @@ pub extern "C" fn urd_fill_in(width: usize, capture: &mut [u8]) -> StreamAnswer
 // Repacks a take of transfer records to width v into a lent output.
 #[no_mangle]
 pub extern "C" fn urd_repack(width: usize, v: usize, input: &[u8], out: &mut [u8]) -> StreamAnswer
-    ensures { λ a. ⌜ ShowsValues a (writtenValues (repackAnswer (shape width) v (now (input .entry)) (length (now (out .entry))))) ⌝ }
+    ensures { λ a. ⌜ ShowsStream a (writtenValues (repackAnswer (shape width) v (now (input .entry)) (length (now (out .entry))))) ⌝ }
     ensures { λ a. ⌜ now (out .exit) ≡ repackAfter (shape width) v (now (input .entry)) (now (out .entry)) ⌝ }
 {
     of_written(stream_repack::repack(Shape { width }, v, input, out))
@@ -95,7 +95,7 @@ pub extern "C" fn urd_repack(width: usize, v: usize, input: &[u8], out: &mut [u8
 // Slices a take of transfer records to width v, lane by lane, into a lent output.
 #[no_mangle]
 pub extern "C" fn urd_downsize(width: usize, v: usize, input: &[u8], out: &mut [u8]) -> StreamAnswer
-    ensures { λ a. ⌜ ShowsValues a (writtenValues (downsizeAnswer (shape width) v (now (input .entry)) (length (now (out .entry))))) ⌝ }
+    ensures { λ a. ⌜ ShowsStream a (writtenValues (downsizeAnswer (shape width) v (now (input .entry)) (length (now (out .entry))))) ⌝ }
     ensures { λ a. ⌜ now (out .exit) ≡ downsizeAfter (shape width) v (now (input .entry)) (now (out .entry)) ⌝ }
 {
     of_written(stream_downsize::downsize(Shape { width }, v, input, out))

@@ -8,7 +8,7 @@ use Rattle.refusal.specs.declared.Refusal.the-variants.{Bus, Size, Kind, Count,
 use Rattle.burst_spec.specs.declared.Judgement.the-variants.{Accepted, Refused}
 use Rattle.burst_spec.specs.Address.{bytes}
 use Rattle.burst_spec.specs.Checks.{busAllowed, tooWide, isReserved, countRefused, misaligned, crosses}
-use Rattle.burst_spec.proofs.Answers.{judges}
+use Rattle.burst_spec.proofs.Answers.{judged-is}
 use Rattle.burst_spec.proofs.Known.{size-known}
 use Rattle.burst.proofs.judge.Statement.{statement}
 use Rattle.burst.proofs.judge.Tie as tie
@@ -18,7 +18,7 @@ bus-refused-requires c κs = search needs
 
 returns : tie.Need-returns
 returns c =
-    judges (c .before .before .args .b) (Refused Bus) (rw (sym (c .before .bus-refused .ensures) ∙ c .if1 .taken))
+    judged-is (c .before .before .args .b) (Refused Bus) (rw (sym (c .before .bus-refused .ensures) ∙ c .if1 .taken))
 
 bus-passed : (c : tie.Else1) → not (busAllowed (c .before .before .args .b .bus)) ≡ false
 bus-passed c = sym (c .before .bus-refused .ensures) ∙ c .if1 .left
@@ -30,7 +30,7 @@ returns-2 : tie.Need-returns-2
 returns-2 c =
     let e1 = c .before .before in
     let s = e1 .before .before in
-    judges (s .args .b) (Refused Size)
+    judged-is (s .args .b) (Refused Size)
     (rw (bus-passed e1, sym (c .before .too-wide .ensures) ∙ c .if2 .taken))
 
 size-passed : (c : tie.Else2) → tooWide (c .before .before .before .before .args .b) ≡ false
@@ -44,7 +44,7 @@ returns-3 c =
     let e2 = c .before .before in
     let e1 = e2 .before .before in
     let s = e1 .before .before in
-    judges (s .args .b) (Refused Kind)
+    judged-is (s .args .b) (Refused Kind)
     (rw (bus-passed e1, size-passed e2, sym (c .before .is-reserved .ensures) ∙ c .if3 .taken))
 
 kind-passed : (c : tie.Else3) → isReserved (c .before .before .before .before .before .before .args .b .kind) ≡ false
@@ -59,7 +59,7 @@ returns-4 c =
     let e2 = e3 .before .before in
     let e1 = e2 .before .before in
     let s = e1 .before .before in
-    judges (s .args .b) (Refused Count)
+    judged-is (s .args .b) (Refused Count)
     (rw (bus-passed e1, size-passed e2, kind-passed e3, sym (c .before .count-refused .ensures) ∙ c .if4 .taken))
 
 count-passed : (c : tie.Else4) → countRefused (c .before .before .before .before .before .before .before .before .args .b) ≡ false
@@ -80,7 +80,7 @@ returns-5 c =
     let e2 = e3 .before .before in
     let e1 = e2 .before .before in
     let s = e1 .before .before in
-    judges (s .args .b) (Refused Align)
+    judged-is (s .args .b) (Refused Align)
     (rw (bus-passed e1, size-passed e2, kind-passed e3, count-passed e4, sym (c .before .start-refused .ensures) ∙ c .if5 .taken))
 
 start-passed : (c : tie.Else5) → misaligned (c .before .before .before .before .before .before .before .before .before .before .args .b .kind) (c .before .before .before .before .before .before .before .before .before .before .args .b .start) (bytes (c .before .before .before .before .before .before .before .before .before .before .args .b)) ≡ false
@@ -109,7 +109,7 @@ returns-6 c =
     let e2 = e3 .before .before in
     let e1 = e2 .before .before in
     let s = e1 .before .before in
-    judges (s .args .b) (Refused Boundary)
+    judged-is (s .args .b) (Refused Boundary)
     (rw (bus-passed e1, size-passed e2, kind-passed e3, count-passed e4, start-passed e5, sym (c .before .leaves-block .ensures) ∙ c .if6 .taken))
 
 block-passed : (c : tie.Else6) → crosses (c .before .before .before .before .before .before .before .before .before .before .before .before .args .b) ≡ false
@@ -123,7 +123,7 @@ returns-7 c =
     let e2 = e3 .before .before in
     let e1 = e2 .before .before in
     let s = e1 .before .before in
-    judges (s .args .b) Accepted
+    judged-is (s .args .b) Accepted
     (rw (bus-passed e1, size-passed e2, kind-passed e3, count-passed e4, start-passed e5, block-passed c))
 
 pub judge-spec : {M : Type 1} → statement M

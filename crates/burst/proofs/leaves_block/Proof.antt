@@ -4,6 +4,7 @@ use borrow.Author.Needs.{needs}
 use Prim.Native.Nat.{_+_}
 use native.Mathlib.Omega.{arith}
 use Rattle.burst_spec.specs.declared.Kind.the-variants.{Fixed, Wrap}
+use Rattle.burst_spec.proofs.Block.{blockBits}
 use Rattle.burst_spec.proofs.Known.{clash, known, size-small, span-small}
 use Rattle.burst.proofs.Formulas.{power, other-kind-inside, incr-test}
 use Rattle.burst.proofs.leaves_block.Statement.{statement}
@@ -22,7 +23,7 @@ round-down-requires : tie.Need-round-down-requires
 round-down-requires c κs = search needs
 
 low-part-requires : tie.Need-low-part-requires
-low-part-requires c κs = power 12
+low-part-requires c κs = power blockBits
 
 add-wide : tie.Need-add-wide
 add-wide c =

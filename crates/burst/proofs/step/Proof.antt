@@ -1,95 +1,104 @@
--- `burst::step` meets its contract: a refused burst keeps its refusal, and the step is the difference of two addresses of
--- one block. Assumes nothing.
+-- `burst::step` meets its contract: what is refused keeps its refusal, and the step is the difference of two addresses of one
+-- block. Assumes nothing.
 use borrow.Author.Needs.{needs}
 use mathlib.Core.Path.{_≡_, sym, _∙_}
-use Prim.Native.Nat.{_+_, _/_}
+use Prim.Native.Nat.{ℕ, _+_, _/_, _<_}
 use native.Mathlib.Omega.{arith}
 use lib.IntN.{subℕ}
 use mir.Facts.{toZ-ofZ}
 use mir.Syntax.{w32}
 use mir.Val.{toZ, ofZ}
+use Rattle.refusal.specs.Checks.{first}
+use Rattle.burst_spec.specs.declared.Burst.{Burst}
 use Rattle.burst_spec.specs.declared.Judgement.the-variants.{Accepted}
-use Rattle.burst_spec.specs.Address.{beatStep}
-use Rattle.burst_spec.specs.Answers.{judgement}
+use Rattle.burst_spec.specs.Address.{beats, beatStep}
+use Rattle.burst_spec.specs.Answers.{judgementFor}
+use Rattle.burst_spec.specs.Checks.{block, checksOfStep}
 use Rattle.burst_spec.specs.Legal as legal
-use Rattle.burst_spec.proofs.Answers.{accepted-exactly, refused-step, missing-step, given-step}
+use Rattle.burst_spec.proofs.Answers.{no-next, has-beat, refused-step, given-step}
 use Rattle.burst_spec.proofs.Block.{address-block}
+use Rattle.burst_spec.proofs.Known.{known}
 use Rattle.burst_spec.proofs.Step.{step-difference}
 use Rattle.burst.proofs.step.Statement.{statement}
 use Rattle.burst.proofs.step.Tie as tie
 
-judge-requires : tie.Need-judge-requires
-judge-requires c κs = search needs
+-- the burst and the index, seen from where judging has answered
+abbrev burst : tie.After-judge-indexed → Burst
+burst c = c .before .before .args .b
 
-enum-known-judgement : tie.Need-enum-known-judgement
-enum-known-judgement c = search needs
+abbrev index : tie.After-judge-indexed → ℕ
+index c = c .before .before .args .k
 
-returns : tie.Need-returns
-returns c =
-    let s = c .before .before .before .before in
-    refused-step (s .args .b) (s .args .k) (c .before .judgement .given .0 .0)
-    (sym (c .before .before .before .judge .ensures .is) ∙ c .before .judgement .given .1)
+asked : (c : tie.After-judge-indexed) → c .judge-indexed .result ≡ judgementFor (first (checksOfStep (burst c) (index c)))
+asked c = c .judge-indexed .ensures ∙ no-next (burst c) (index c)
+
+accepted : (c : tie.After-enum-told) → judgementFor (first (checksOfStep (burst (c .before .before)) (index (c .before .before)))) ≡ Accepted
+accepted c = sym (asked (c .before .before)) ∙ c .enum-told .given .1
+
+-- the burst is accepted, and there is a beat after this one
+next : (c : tie.After-enum-told) → legal.Accepted (burst (c .before .before)) × (index (c .before .before) + 1 < beats (burst (c .before .before)))
+next c = let d = c .before .before in has-beat (burst d) (index d + 1) (accepted c)
+
+judge-indexed-requires : tie.Need-judge-indexed-requires
+judge-indexed-requires c κs = search needs
+
+enum-known-r : tie.Need-enum-known-r
+enum-known-r c = search needs
 
 enum-told : tie.Need-enum-told
 enum-told c = search needs
 
-judged : (c : tie.After-struct-known) → judgement (c .before .before .before .before .args .b) ≡ Accepted
-judged c = sym (c .before .before .before .judge .ensures .is) ∙ c .before .enum-told .given .1
-
-accepted : (c : tie.After-struct-known) → legal.Accepted (c .before .before .before .before .args .b)
-accepted c = accepted-exactly (c .before .before .before .before .args .b) .0 (judged c)
-
-returns-2 : tie.Need-returns-2
-returns-2 c =
-    let s = c .before .before .before .before .before in
-    missing-step (s .args .b) (s .args .k) (judged (c .before)) (omega arith)
-
 address-of-requires : tie.Need-address-of-requires
-address-of-requires c κs = (accepted (c .before), omega arith)
+address-of-requires c κs = (next c .0, omega (arith, next c .1))
 
 add-address-of : tie.Need-add-address-of
-add-address-of c = search needs
+add-address-of c =
+    let d = c .before .before .before in
+    omega (arith, next (c .before) .1, known (burst d) (next (c .before) .0 .legal) .few)
 
 address-of-requires-2 : tie.Need-address-of-requires-2
-address-of-requires-2 c κs = (accepted (c .before .before), omega (arith, c .before .if1 .left))
+address-of-requires-2 c κs = next (c .before)
 
 distance-requires : tie.Need-distance-requires
 distance-requires c κs =
-    let s = c .before .before .before .before .before .before .before in
-    let y = accepted (c .before .before .before) in
-    let from : c .before .address-of .result / 4096 ≡ s .args .b .start / 4096 =
-    rw (c .before .address-of .ensures) (address-block (s .args .b) y (s .args .k) (omega (arith, c .before .before .if1 .left)))
+    let d = c .before .before .before .before in
+    let h = next (c .before .before) in
+    let from : c .before .address-of .result / block ≡ burst d .start / block =
+    rw (c .before .address-of .ensures) (address-block (burst d) (h .0) (index d) (omega (arith, h .1)))
     in
-    let to : c .address-of2 .result / 4096 ≡ s .args .b .start / 4096 =
-    rw (c .address-of2 .ensures) (address-block (s .args .b) y (s .args .k + 1) (omega (arith, c .before .before .if1 .left)))
+    let to : c .address-of2 .result / block ≡ burst d .start / block =
+    rw (c .address-of2 .ensures) (address-block (burst d) (h .0) (index d + 1) (h .1))
     in
     cc
 
 moved : (c : tie.After-address-of2)
     → subℕ (c .address-of2 .result) (c .before .address-of .result)
-    ≡ beatStep (c .before .before .before .before .before .before .before .args .b) (c .before .before .before .before .before .before .before .args .k)
+    ≡ beatStep (burst (c .before .before .before .before)) (index (c .before .before .before .before))
 moved c =
-    let s = c .before .before .before .before .before .before .before in
-    rw (c .address-of2 .ensures, c .before .address-of .ensures) (sym (step-difference (s .args .b) (s .args .k)))
+    let d = c .before .before .before .before in
+    rw (c .address-of2 .ensures, c .before .address-of .ensures) (sym (step-difference (burst d) (index d)))
 
-returns-3 : tie.Need-returns-3
-returns-3 c =
-    let s = c .before .before .before .before .before .before .before .before in
-    given-step (s .args .b) (s .args .k) (judged (c .before .before .before .before)) (omega (arith, c .before .before .before .if1 .left))
-    (toZ w32 (ofZ w32 (c .distance .result)))
+returns : tie.Need-returns
+returns c =
+    let d = c .before .before .before in
+    refused-step (burst d) (index d) (c .before .r .given .0 .0) (sym (asked d) ∙ c .before .r .given .1)
+
+returns-2 : tie.Need-returns-2
+returns-2 c =
+    let d = c .before .before .before .before .before in
+    given-step (burst d) (index d) (accepted (c .before .before .before)) (toZ w32 (ofZ w32 (c .distance .result)))
     (toZ-ofZ {w = w32} {z = c .distance .result} (record { sfits = c .distance .ok }) ∙ c .distance .ensures ∙ moved (c .before))
 
 pub step-spec : {M : Type 1} → statement M
 step-spec =
     tie.close
     (tie.spec
-    judge-requires
-    enum-known-judgement
-    returns
+    judge-indexed-requires
+    enum-known-r
     enum-told
-    returns-2
     address-of-requires
     add-address-of
     address-of-requires-2
     distance-requires
-    returns-3)
+    returns
+    returns-2)

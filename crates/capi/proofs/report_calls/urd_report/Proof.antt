@@ -1,5 +1,4 @@
 -- `capi::urd_report` meets its contract: it shows what the report answers, and leaves what the report leaves. Assumes nothing.
-use lib.ListN.{length}
 use Rattle.capi.specs.Reports.{reportAsked}
 use Rattle.capi.proofs.Reported.{tells}
 use borrow.Author.Needs.{needs}
@@ -18,8 +17,21 @@ same-length c = search needs
 same-length-2 : tie.Need-same-length-2
 same-length-2 c = search needs
 
+-- where the report has answered
+abbrev answered : tie.After-of-verdict → tie.After-report
+answered c = c .before .before .before .before .before
+
+-- the octets and numbers that C handed over, and the lent memory as the report left it
+abbrev asked : tie.After-report → tie.Start
+asked r = r .before .before .before .before .before .before .before
+
 returns : tie.Need-returns
-returns c = tells (reportAsked (c .before .before .before .before .before .before .before .before .before .before .before .before .args .sheet-read) (c .before .before .before .before .before .before .before .before .before .before .before .before .args .sheet .now) (c .before .before .before .before .before .before .before .before .before .before .before .before .args .capture-read) (c .before .before .before .before .before .before .before .before .before .before .before .before .args .capture .now) (length (c .before .before .before .before .before .before .before .before .before .before .before .before .args .out .now))) (c .before .before .before .before .before .before .before .before .before .before .before .before .args .out .now) (c .before .before .before .before .before .report .last .1 .1 .1 .1 .0) (c .before .before .before .before .before .before .before .before .before .before .before .before .args .text .now) (c .before .before .before .before .before .report .last .1 .1 .1 .1 .1 .0) (c .before .before .before .before .before .report .result) (c .of-verdict .result) (c .before .before .before .before .before .report .ensures) (c .of-verdict .ensures)
+returns c =
+    let r = answered c in
+    let s = asked r .args in
+    let left = r .report .last .1 .1 .1 .1 in
+    tells (reportAsked (s .sheet-read) (s .sheet .now) (s .capture-read) (s .capture .now) (s .out .now)) (s .out .now) (left .0)
+    (s .text .now) (left .1 .0) (r .report .result) (c .of-verdict .result) (r .report .ensures) (c .of-verdict .ensures)
 
 pub urd-report-spec : {M : Type 1} → statement M
 urd-report-spec =
