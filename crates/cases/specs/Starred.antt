@@ -3,7 +3,7 @@
 use mathlib.Core.List.{List, _++_, map}
 use Rattle.stream_spec.specs.Cases as stream
 use Rattle.burst_spec.specs.Cases as burst
-use Rattle.burst_spec.specs.Answers.{Row}
+use Rattle.burst_spec.specs.Answers.{Values}
 
 -- a starred case, and what is told of one
 pub data Case : Type 0 where
@@ -12,7 +12,7 @@ pub data Case : Type 0 where
 
 pub data Told : Type 0 where
   ofStream : stream.Told → Told
-  ofBurst : Row → Told
+  ofBurst : Values → Told
 
 -- what the definitions tell, and what the paper tells
 unfoldable pub computed : Case → Told
@@ -22,7 +22,7 @@ computed (onBurst c) = ofBurst (burst.answerTo (c .question) (c .burst))
 
 unfoldable pub expected : Case → Told
 expected (onStream c) = ofStream (c .told)
-expected (onBurst c) = ofBurst (c .row)
+expected (onBurst c) = ofBurst (c .told)
 
 unfoldable pub starred : List Case
 unfolding stream.benchCases

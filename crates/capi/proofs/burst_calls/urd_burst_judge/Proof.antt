@@ -16,7 +16,7 @@ asked c = let s = c .before .args in burstOf (s .start) (s .len) (s .size) (s .k
 -- the call was found to answer x
 found : (c : tie.After-judge-numbers) {a : BurstAnswer} {x : Judgement} → c .judge-numbers .result ≡ x
     → ShowsBurst a (judgementValues x) → ShowsBurst a (judgementValues (judgement (asked c)))
-found c {a} e h = told judgementValues judgement a e (c .judge-numbers .ensures .is) refl h
+found c {a} e h = told judgementValues judgement a {b = asked c} {d = asked c} e (c .judge-numbers .ensures .is) refl h
 
 judge-numbers-requires : tie.Need-judge-numbers-requires
 judge-numbers-requires c κs = search needs
