@@ -3,14 +3,14 @@
 use mathlib.Core.Path.{_≡_, refl, sym, ap, _∙_}
 use mathlib.Core.List.{List, [], _∷_, _++_, append-assoc}
 use Prim.Native.Nat.{ℕ, zero, suc, _+_, _-_, _*_, _/_, _%_, _^_, _≤_, _<_}
-use native.Mathlib.Nat.{add-zero, one-mul, mod-eq-of-lt}
+use native.Mathlib.Nat.{add-zero, one-mul, mul-assoc, mod-eq-of-lt}
 use native.Mathlib.Omega.{arith}
-use lib.Pow.{mod-pow-add, pow-pos, pow-lt}
+use lib.Pow.{mod-pow-add, pow-add, pow-pos, pow-lt, shr-shr}
 use lib.ListN.{length, getD, take, drop, set, length-append, length-drop}
 use lib.Seq.{take-append-le, drop-drop, getD-drop, length-take-le, drop-append-add, take-append-add, sets-eq, set-split}
 use Rattle.words.specs.Splice.{splice}
 use Rattle.words.specs.Words.{wordAt, octetsOfWord, padded}
-use Rattle.words.proofs.Splice.{splice-over}
+use Rattle.words.proofs.Splice.{splice-splice, splice-over}
 
 -- ---- words and octets
 
@@ -59,6 +59,35 @@ low-octets (suc k) (suc n) x =
     let high : ((x / 256 % 2 ^ (8 * n)) * 256 + x % 256) / 256 ≡ x / 256 % 2 ^ (8 * n) = omega arith in
     rw (more, split, low, high) (ap {B = List ℕ} (λ l. x % 256 ∷ l) (low-octets k n (x / 256)))
 
+-- ---- halves
+
+-- a word is its first octets and the others, moved up by as many
+pub word-split : (a b : ℕ) (s : List ℕ) (i : ℕ) → wordAt (a + b) s i ≡ wordAt a s i + 2 ^ (8 * a) * wordAt b s (i + a)
+word-split zero b s i =
+    let none : 0 + b ≡ b = omega arith in
+    rw (none, add-zero i) (omega arith)
+word-split (suc a) b s i =
+    let one : suc a + b ≡ suc (a + b) = omega arith in
+    let past : i + suc a ≡ i + 1 + a = omega arith in
+    let eight : 8 * suc a ≡ 8 + 8 * a = omega arith in
+    let high : 2 ^ (8 * suc a) ≡ 256 * 2 ^ (8 * a) = rw eight (pow-add 2 8 (8 * a)) in
+    rw (one, past, high) (omega (arith, word-split a b s (i + 1), mul-assoc 256 (2 ^ (8 * a)) (wordAt b s (i + 1 + a))))
+
+pub octets-split : (a b x : ℕ) → octetsOfWord (a + b) x ≡ octetsOfWord a x ++ octetsOfWord b (x / 2 ^ (8 * a))
+octets-split zero b x =
+    let none : 0 + b ≡ b = omega arith in
+    let whole : x / 1 ≡ x = omega arith in
+    rw (none, whole) refl
+octets-split (suc a) b x =
+    let one : suc a + b ≡ suc (a + b) = omega arith in
+    let eight : 8 * suc a ≡ 8 + 8 * a = omega arith in
+    let past : x / 2 ^ (8 * suc a) ≡ x / 256 / 2 ^ (8 * a) = rw eight (sym (shr-shr x 8 (8 * a))) in
+    rw (one, past) (ap {B = List ℕ} (λ l. x % 256 ∷ l) (octets-split a b (x / 256)))
+
+-- of a word's low octets nothing above them is seen
+pub octets-low : (a x : ℕ) → octetsOfWord a (x % 2 ^ (8 * a)) ≡ octetsOfWord a x
+octets-low a x = low-octets a a x ∙ sym (padded-all a a x (omega arith))
+
 -- ---- rows
 
 -- a row is its first octets and the others
@@ -99,54 +128,34 @@ module _ (s : List ℕ) (at : ℕ) where
 -- ---- what the code computes
 
 pub word4 : (s : List ℕ) (i a b c d : ℕ) → a ≡ getD s i 0 → b ≡ getD s (i + 1) 0 → c ≡ getD s (i + 2) 0 → d ≡ getD s (i + 3) 0
-    → a + 256 * b + 65536 * c + 16777216 * d ≡ wordAt 4 s i
+    → a + 256 * b + 0x10000 * c + 0x1000000 * d ≡ wordAt 4 s i
 word4 s i a b c d p q r t =
     let two : i + 1 + 1 ≡ i + 2 = omega arith in
     let three : i + 2 + 1 ≡ i + 3 = omega arith in
     rw (two, three) (omega (arith, p, q, r, t))
 
-pub word8 : (s : List ℕ) (i a b c d e f g h : ℕ) → a ≡ getD s i 0 → b ≡ getD s (i + 1) 0 → c ≡ getD s (i + 2) 0 → d ≡ getD s (i + 3) 0
-    → e ≡ getD s (i + 4) 0 → f ≡ getD s (i + 5) 0 → g ≡ getD s (i + 6) 0 → h ≡ getD s (i + 7) 0
-    → a + 256 * b + 65536 * c + 16777216 * d + 4294967296 * e + 1099511627776 * f + 281474976710656 * g + 72057594037927936 * h ≡ wordAt 8 s i
-word8 s i a b c d e f g h p q r t u v w x =
-    let two : i + 1 + 1 ≡ i + 2 = omega arith in
-    let three : i + 2 + 1 ≡ i + 3 = omega arith in
-    let four : i + 3 + 1 ≡ i + 4 = omega arith in
-    let five : i + 4 + 1 ≡ i + 5 = omega arith in
-    let six : i + 5 + 1 ≡ i + 6 = omega arith in
-    let seven : i + 6 + 1 ≡ i + 7 = omega arith in
-    rw (two, three, four, five, six, seven) (omega (arith, p, q, r, t, u, v, w, x))
-
 pub stored4 : (s : List ℕ) (i x : ℕ) → i + 4 ≤ length s
-    → set (set (set (set s i (x % 256)) (i + 1) (x / 256 % 256)) (i + 2) (x / 65536 % 256)) (i + 3) (x / 16777216 % 256) ≡ splice i (octetsOfWord 4 x) s
+    → set (set (set (set s i (x % 256)) (i + 1) (x / 256 % 256)) (i + 2) (x / 0x10000 % 256)) (i + 3) (x / 0x1000000 % 256) ≡ splice i (octetsOfWord 4 x) s
 stored4 s i x h =
     let one : i + 1 ≡ suc i = omega arith in
     let two : i + 2 ≡ suc (suc i) = omega arith in
     let three : i + 3 ≡ suc (suc (suc i)) = omega arith in
-    let o2 : x / 65536 ≡ x / 256 / 256 = omega arith in
-    let o3 : x / 16777216 ≡ x / 256 / 256 / 256 = omega arith in
+    let o2 : x / 0x10000 ≡ x / 256 / 256 = omega arith in
+    let o3 : x / 0x1000000 ≡ x / 256 / 256 / 256 = omega arith in
     rw (one, two, three, o2, o3) (sets-eq (octetsOfWord 4 x) s i h ∙ append-assoc (take i s) (octetsOfWord 4 x) (drop (i + 4) s))
 
-pub stored8 : (s : List ℕ) (i x : ℕ) → i + 8 ≤ length s
-    → set (set (set (set (set (set (set (set s i (x % 256)) (i + 1) (x / 256 % 256)) (i + 2) (x / 65536 % 256)) (i + 3) (x / 16777216 % 256))
-    (i + 4) (x / 4294967296 % 256)) (i + 5) (x / 1099511627776 % 256)) (i + 6) (x / 281474976710656 % 256)) (i + 7) (x / 72057594037927936 % 256)
-    ≡ splice i (octetsOfWord 8 x) s
-stored8 s i x h =
-    let one : i + 1 ≡ suc i = omega arith in
-    let two : i + 2 ≡ suc (suc i) = omega arith in
-    let three : i + 3 ≡ suc (suc (suc i)) = omega arith in
-    let four : i + 4 ≡ suc (suc (suc (suc i))) = omega arith in
-    let five : i + 5 ≡ suc (suc (suc (suc (suc i)))) = omega arith in
-    let six : i + 6 ≡ suc (suc (suc (suc (suc (suc i))))) = omega arith in
-    let seven : i + 7 ≡ suc (suc (suc (suc (suc (suc (suc i)))))) = omega arith in
-    let o2 : x / 65536 ≡ x / 256 / 256 = omega arith in
-    let o3 : x / 16777216 ≡ x / 256 / 256 / 256 = omega arith in
-    let o4 : x / 4294967296 ≡ x / 256 / 256 / 256 / 256 = omega arith in
-    let o5 : x / 1099511627776 ≡ x / 256 / 256 / 256 / 256 / 256 = omega arith in
-    let o6 : x / 281474976710656 ≡ x / 256 / 256 / 256 / 256 / 256 / 256 = omega arith in
-    let o7 : x / 72057594037927936 ≡ x / 256 / 256 / 256 / 256 / 256 / 256 / 256 = omega arith in
-    rw (one, two, three, four, five, six, seven, o2, o3, o4, o5, o6, o7)
-    (sets-eq (octetsOfWord 8 x) s i h ∙ append-assoc (take i s) (octetsOfWord 8 x) (drop (i + 8) s))
+-- eight octets by halves
+pub word8 : (s : List ℕ) (i lo hi : ℕ) → lo ≡ wordAt 4 s i → hi ≡ wordAt 4 s (i + 4) → lo + 0x100000000 * hi ≡ wordAt 8 s i
+word8 s i lo hi p q = rw (p, q) (sym (word-split 4 4 s i))
+
+pub stored8 : (s out1 out2 : List ℕ) (i x : ℕ) → i + 8 ≤ length s → out1 ≡ splice i (octetsOfWord 4 (x % 0x100000000)) s
+    → out2 ≡ splice (i + 4) (octetsOfWord 4 (x / 0x100000000)) out1 → out2 ≡ splice i (octetsOfWord 8 x) s
+stored8 s out1 out2 i x h e f =
+    let low : out1 ≡ splice i (octetsOfWord 4 x) s = e ∙ ap (λ (xs : List ℕ). splice i xs s) (octets-low 4 x) in
+    f
+    ∙ ap (splice (i + 4) (octetsOfWord 4 (x / 0x100000000))) low
+    ∙ splice-splice i (octetsOfWord 4 x) (octetsOfWord 4 (x / 0x100000000)) s (omega arith)
+    ∙ ap (λ (xs : List ℕ). splice i xs s) (sym (octets-split 4 4 x))
 
 -- a one shifted left, where it stays below the top
 pub shifted : (top n : ℕ) → 8 * n < top → 1 * 2 ^ (8 * n) % 2 ^ top ≡ 2 ^ (8 * n)

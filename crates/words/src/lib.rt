@@ -7,17 +7,11 @@ ghost use lib.ListN.{length, drop};
 ghost use Rattle.words.specs.Splice.{splice};
 ghost use Rattle.words.specs.Words.{wordAt, octetsOfWord, padded};
 
-// An octet as a word of four octets, and of eight.
+// An octet as a word of four octets.
 pub fn widen4(x: u8) -> u32
     ensures { λ r. ⌜ (r ≡ x) × (r < 256) ⌝ }
 {
     x as u32
-}
-
-pub fn widen8(x: u8) -> u64
-    ensures { λ r. ⌜ (r ≡ x) × (r < 256) ⌝ }
-{
-    x as u64
 }
 
 // Four octets from place i on.
@@ -31,19 +25,12 @@ pub fn load4(s: &[u8], i: usize) -> u32
         + 0x100_0000 * widen4(s[i + 3])
 }
 
-// Eight octets from place i on.
+// Eight octets from place i on, by halves.
 pub fn load8(s: &[u8], i: usize) -> u64
     requires { ⌜ i + 8 ≤ length (now s) ⌝ }
     ensures { λ r. ⌜ r ≡ wordAt 8 (now (s .entry)) i ⌝ }
 {
-    widen8(s[i])
-        + 0x100 * widen8(s[i + 1])
-        + 0x1_0000 * widen8(s[i + 2])
-        + 0x100_0000 * widen8(s[i + 3])
-        + 0x1_0000_0000 * widen8(s[i + 4])
-        + 0x100_0000_0000 * widen8(s[i + 5])
-        + 0x1_0000_0000_0000 * widen8(s[i + 6])
-        + 0x100_0000_0000_0000 * widen8(s[i + 7])
+    (load4(s, i) as u64) + 0x1_0000_0000 * (load4(s, i + 4) as u64)
 }
 
 // The four octets of x at place i.
@@ -57,19 +44,13 @@ pub fn store4(s: &mut [u8], i: usize, x: u32)
     s[i + 3] = (x / 0x100_0000 % 0x100) as u8;
 }
 
-// The eight octets of x at place i.
+// The eight octets of x at place i, by halves.
 pub fn store8(s: &mut [u8], i: usize, x: u64)
     requires { ⌜ i + 8 ≤ length (now s) ⌝ }
     ensures { λ _. ⌜ now (s .exit) ≡ splice i (octetsOfWord 8 x) (now (s .entry)) ⌝ }
 {
-    s[i] = (x % 0x100) as u8;
-    s[i + 1] = (x / 0x100 % 0x100) as u8;
-    s[i + 2] = (x / 0x1_0000 % 0x100) as u8;
-    s[i + 3] = (x / 0x100_0000 % 0x100) as u8;
-    s[i + 4] = (x / 0x1_0000_0000 % 0x100) as u8;
-    s[i + 5] = (x / 0x100_0000_0000 % 0x100) as u8;
-    s[i + 6] = (x / 0x1_0000_0000_0000 % 0x100) as u8;
-    s[i + 7] = (x / 0x100_0000_0000_0000 % 0x100) as u8;
+    store4(s, i, (x % 0x1_0000_0000) as u32);
+    store4(s, i + 4, (x / 0x1_0000_0000) as u32);
 }
 
 // The first n octets of four, zeros after them.

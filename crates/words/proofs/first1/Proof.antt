@@ -3,8 +3,6 @@ use Rattle.words.proofs.Words.{first-one}
 use borrow.Author.Needs.{needs}
 use Rattle.words.proofs.first1.Statement.{statement}
 use Rattle.words.proofs.first1.Tie as tie
-use Rattle.words.proofs.first1.Reads as reads
-use Rattle.words.proofs.first1.Lts as lts
 
 returns : tie.Need-returns
 returns c = search needs

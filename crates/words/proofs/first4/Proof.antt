@@ -4,8 +4,6 @@ use Rattle.words.proofs.Words.{padded-all, low-octets, shifted, shifted
 use borrow.Author.Needs.{needs}
 use Rattle.words.proofs.first4.Statement.{statement}
 use Rattle.words.proofs.first4.Tie as tie
-use Rattle.words.proofs.first4.Reads as reads
-use Rattle.words.proofs.first4.Lts as lts
 
 returns : tie.Need-returns
 returns c = padded-all 4 (c .before .args .n) (c .before .args .x) (c .if1 .taken)

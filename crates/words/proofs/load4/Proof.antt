@@ -3,9 +3,6 @@ use Rattle.words.proofs.Words.{word4}
 use borrow.Author.Needs.{needs}
 use Rattle.words.proofs.load4.Statement.{statement}
 use Rattle.words.proofs.load4.Tie as tie
-use Rattle.words.proofs.load4.Reads as reads
-use Rattle.words.proofs.load4.Lts as lts
-use Rattle.words.proofs.widen4.Reads as widen4-reads
 
 shared-slice-read-widen4 : tie.Need-shared-slice-read-widen4
 shared-slice-read-widen4 c = search needs
@@ -59,8 +56,13 @@ add-result-3 : tie.Need-add-result-3
 add-result-3 c = search needs
 
 returns : tie.Need-returns
-returns c = let a = c .before .before .before .before .before .before .before .before .before .args in
-    word4 (a .s .now) (a .i) (c .before .before .before .before .before .before .widen4 .result) (c .before .before .before .before .widen42 .result) (c .before .before .widen43 .result) (c .widen44 .result) (c .before .before .before .before .before .before .widen4 .ensures .0) (c .before .before .before .before .widen42 .ensures .0) (c .before .before .widen43 .ensures .0) (c .widen44 .ensures .0)
+returns c =
+    let a = c .before .before .before .before .before .before .before .before .before .args in
+    let w = c .before .before .before .before .before .before .widen4 in
+    let x = c .before .before .before .before .widen42 in
+    let y = c .before .before .widen43 in
+    let z = c .widen44 in
+    word4 (a .s .now) (a .i) (w .result) (x .result) (y .result) (z .result) (w .ensures .0) (x .ensures .0) (y .ensures .0) (z .ensures .0)
 
 pub load4-spec : {M : Type 1} → statement M
 load4-spec =

@@ -3,9 +3,6 @@ use Rattle.words.proofs.Words.{stored1}
 use borrow.Author.Needs.{needs}
 use Rattle.words.proofs.place1.Statement.{statement}
 use Rattle.words.proofs.place1.Tie as tie
-use Rattle.words.proofs.place1.Reads as reads
-use Rattle.words.proofs.place1.Lts as lts
-use Rattle.words.proofs.first1.Reads as first1-reads
 
 shared-slice-read-first1 : tie.Need-shared-slice-read-first1
 shared-slice-read-first1 c = search needs

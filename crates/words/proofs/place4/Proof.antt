@@ -4,11 +4,6 @@ use Rattle.words.proofs.Words.{first-stored}
 use borrow.Author.Needs.{needs}
 use Rattle.words.proofs.place4.Statement.{statement}
 use Rattle.words.proofs.place4.Tie as tie
-use Rattle.words.proofs.place4.Reads as reads
-use Rattle.words.proofs.place4.Lts as lts
-use Rattle.words.proofs.first4.Reads as first4-reads
-use Rattle.words.proofs.load4.Reads as load4-reads
-use Rattle.words.proofs.store4.Reads as store4-reads
 
 load4-requires : tie.Need-load4-requires
 load4-requires c κs = search needs
@@ -25,8 +20,12 @@ same-length c = search needs
 returns : tie.Need-returns
 returns c =
     let a = c .before .before .before .before .before .before .before .before .args in
-    first-stored 4 (a .n) (c .before .before .before .before .load4 .result) (c .before .before .before .first4 .result) (a .i) (a .at) (a .from .now) (a .to .now) (c .before .before .store4 .last .0)
-    (λ j. omega (arith, c .before .before .before .before .before .before .shared-slice-known .given j)) (c .before .before .before .before .load4 .ensures) (c .before .before .before .first4 .ensures) (c .before .before .store4 .ensures)
+    let word = c .before .before .before .before .load4 in
+    let cut = c .before .before .before .first4 in
+    let stored = c .before .before .store4 in
+    let octets = c .before .before .before .before .before .before .shared-slice-known .given in
+    first-stored 4 (a .n) (word .result) (cut .result) (a .i) (a .at) (a .from .now) (a .to .now) (stored .last .0)
+    (λ j. omega (arith, octets j)) (word .ensures) (cut .ensures) (stored .ensures)
 
 pub place4-spec : {M : Type 1} → statement M
 place4-spec =

@@ -4,11 +4,6 @@ use Rattle.words.proofs.Words.{first-stored}
 use borrow.Author.Needs.{needs}
 use Rattle.words.proofs.place8.Statement.{statement}
 use Rattle.words.proofs.place8.Tie as tie
-use Rattle.words.proofs.place8.Reads as reads
-use Rattle.words.proofs.place8.Lts as lts
-use Rattle.words.proofs.first8.Reads as first8-reads
-use Rattle.words.proofs.load8.Reads as load8-reads
-use Rattle.words.proofs.store8.Reads as store8-reads
 
 load8-requires : tie.Need-load8-requires
 load8-requires c κs = search needs
@@ -25,8 +20,12 @@ same-length c = search needs
 returns : tie.Need-returns
 returns c =
     let a = c .before .before .before .before .before .before .before .before .args in
-    first-stored 8 (a .n) (c .before .before .before .before .load8 .result) (c .before .before .before .first8 .result) (a .i) (a .at) (a .from .now) (a .to .now) (c .before .before .store8 .last .0)
-    (λ j. omega (arith, c .before .before .before .before .before .before .shared-slice-known .given j)) (c .before .before .before .before .load8 .ensures) (c .before .before .before .first8 .ensures) (c .before .before .store8 .ensures)
+    let word = c .before .before .before .before .load8 in
+    let cut = c .before .before .before .first8 in
+    let stored = c .before .before .store8 in
+    let octets = c .before .before .before .before .before .before .shared-slice-known .given in
+    first-stored 8 (a .n) (word .result) (cut .result) (a .i) (a .at) (a .from .now) (a .to .now) (stored .last .0)
+    (λ j. omega (arith, octets j)) (word .ensures) (cut .ensures) (stored .ensures)
 
 pub place8-spec : {M : Type 1} → statement M
 place8-spec =

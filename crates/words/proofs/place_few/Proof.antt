@@ -5,10 +5,6 @@ use Rattle.words.proofs.Words.{few}
 use borrow.Author.Needs.{needs}
 use Rattle.words.proofs.place_few.Statement.{statement}
 use Rattle.words.proofs.place_few.Tie as tie
-use Rattle.words.proofs.place_few.Reads as reads
-use Rattle.words.proofs.place_few.Lts as lts
-use Rattle.words.proofs.beyond.Reads as beyond-reads
-use Rattle.words.proofs.place1.Reads as place1-reads
 
 place1-requires : tie.Need-place1-requires
 place1-requires c κs = search needs
@@ -44,16 +40,23 @@ same-length : tie.Need-same-length
 same-length c = search needs
 
 returns : tie.Need-returns
-returns c = let a = c .before .before .before .before .before .before .before .before .before .before .before .before .before .before .before .before .before .args in
-    few (a .to .now) (a .from .now) (c .before .before .before .before .before .before .before .before .before .before .before .before .before .place1 .last .0) (c .before .before .before .before .before .before .before .place12 .last .0) (c .before .before .place13 .last .0) (a .at) (a .n) (a .v) (c .before .before .before .before .before .before .before .before .beyond .result) (c .before .before .before .beyond2 .result)
-    (c .before .before .before .before .before .before .before .before .before .before .if1 .taken) (c .before .before .before .before .before .before .before .before .before .before .before .before .before .before .before .before .before .pre .1) (c .before .before .before .before .before .before .before .before .before .before .before .before .before .before .before .before .before .pre .3) (c .before .before .before .before .before .before .before .before .beyond .ensures) (c .before .before .before .beyond2 .ensures)
-    (c .before .before .before .before .before .before .before .before .before .before .before .before .before .place1 .ensures) (c .before .before .before .before .before .before .before .place12 .ensures) (c .before .before .place13 .ensures)
+returns c =
+    let a = c .before .before .before .before .before .before .before .before .before .before .before .before .before .before .before .before .before .args in
+    let p = c .before .before .before .before .before .before .before .before .before .before .before .before .before .before .before .before .before .pre in
+    let first = c .before .before .before .before .before .before .before .before .before .before .before .before .before .place1 in
+    let second = c .before .before .before .before .before .before .before .place12 in
+    let last = c .before .before .place13 in
+    let left = c .before .before .before .before .before .before .before .before .beyond in
+    let left2 = c .before .before .before .beyond2 in
+    few (a .to .now) (a .from .now) (first .last .0) (second .last .0) (last .last .0) (a .at) (a .n) (a .v) (left .result) (left2 .result)
+    (c .before .before .before .before .before .before .before .before .before .before .if1 .taken) (p .1) (p .3) (left .ensures) (left2 .ensures) (first .ensures) (second .ensures) (last .ensures)
 
 same-length-2 : tie.Need-same-length-2
 same-length-2 c = search needs
 
 returns-2 : tie.Need-returns-2
-returns-2 c = let all : c .before .before .before .before .before .before .before .args .v ≡ 1 = omega (arith, c .before .before .before .before .before .before .before .pre .0, c .if1 .left) in
+returns-2 c =
+    let all : c .before .before .before .before .before .before .before .args .v ≡ 1 = omega (arith, c .before .before .before .before .before .before .before .pre .0, c .if1 .left) in
     rw all (c .before .before .before .place1 .ensures)
 
 pub place-few-spec : {M : Type 1} → statement M

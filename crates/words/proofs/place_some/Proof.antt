@@ -5,10 +5,6 @@ use Rattle.words.proofs.Words.{rows}
 use borrow.Author.Needs.{needs}
 use Rattle.words.proofs.place_some.Statement.{statement}
 use Rattle.words.proofs.place_some.Tie as tie
-use Rattle.words.proofs.place_some.Reads as reads
-use Rattle.words.proofs.place_some.Lts as lts
-use Rattle.words.proofs.beyond.Reads as beyond-reads
-use Rattle.words.proofs.place4.Reads as place4-reads
 
 place4-requires : tie.Need-place4-requires
 place4-requires c κs = search needs
@@ -35,15 +31,21 @@ same-length : tie.Need-same-length
 same-length c = search needs
 
 returns : tie.Need-returns
-returns c = let a = c .before .before .before .before .before .before .before .before .before .before .before .before .args in
-    rows (a .to .now) (a .from .now) (c .before .before .before .before .before .before .before .before .place4 .last .0) (c .before .before .place42 .last .0) (a .at) (a .n) 4 (a .v) (c .before .before .before .beyond .result)
-    (omega (arith, c .before .before .before .before .before .before .before .before .before .before .before .before .pre .0)) (omega (arith, c .before .before .before .before .before .before .before .before .before .before .before .before .pre .1)) (omega (arith, c .before .before .before .before .before .before .before .before .before .before .before .before .pre .3)) (c .before .before .before .beyond .ensures) (c .before .before .before .before .before .before .before .before .place4 .ensures) (c .before .before .place42 .ensures)
+returns c =
+    let a = c .before .before .before .before .before .before .before .before .before .before .before .before .args in
+    let p = c .before .before .before .before .before .before .before .before .before .before .before .before .pre in
+    let first = c .before .before .before .before .before .before .before .before .place4 in
+    let last = c .before .before .place42 in
+    let left = c .before .before .before .beyond in
+    rows (a .to .now) (a .from .now) (first .last .0) (last .last .0) (a .at) (a .n) 4 (a .v) (left .result)
+    (omega (arith, p .0)) (omega (arith, p .1)) (omega (arith, p .3)) (left .ensures) (first .ensures) (last .ensures)
 
 same-length-2 : tie.Need-same-length-2
 same-length-2 c = search needs
 
 returns-2 : tie.Need-returns-2
-returns-2 c = let all : c .before .before .before .before .before .before .before .args .v ≡ 4 = omega (arith, c .before .before .before .before .before .before .before .pre .0, c .if1 .left) in
+returns-2 c =
+    let all : c .before .before .before .before .before .before .before .args .v ≡ 4 = omega (arith, c .before .before .before .before .before .before .before .pre .0, c .if1 .left) in
     rw all (c .before .before .before .place4 .ensures)
 
 pub place-some-spec : {M : Type 1} → statement M

@@ -5,8 +5,6 @@ use Rattle.words.proofs.Words.{stored4}
 use borrow.Author.Needs.{needs}
 use Rattle.words.proofs.store4.Statement.{statement}
 use Rattle.words.proofs.store4.Tie as tie
-use Rattle.words.proofs.store4.Reads as reads
-use Rattle.words.proofs.store4.Lts as lts
 
 cast-s : tie.Need-cast-s
 cast-s c = search needs

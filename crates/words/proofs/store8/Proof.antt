@@ -1,114 +1,42 @@
--- `words::store8` meets its contract: straight-line stores. Assumes nothing.
-use native.Mathlib.Omega.{arith}
-use lib.ListN.{length-set}
+-- `words::store8` meets its contract: one half behind the other. Assumes nothing.
 use Rattle.words.proofs.Words.{stored8}
 use borrow.Author.Needs.{needs}
 use Rattle.words.proofs.store8.Statement.{statement}
 use Rattle.words.proofs.store8.Tie as tie
-use Rattle.words.proofs.store8.Reads as reads
-use Rattle.words.proofs.store8.Lts as lts
 
-cast-s : tie.Need-cast-s
-cast-s c = search needs
+cast-store4 : tie.Need-cast-store4
+cast-store4 c = search needs
 
-slice-write-s : tie.Need-slice-write-s
-slice-write-s c = search needs
+store4-requires : tie.Need-store4-requires
+store4-requires c κs = search needs
 
-cast-s-2 : tie.Need-cast-s-2
-cast-s-2 c = search needs
+add-store4 : tie.Need-add-store4
+add-store4 c = search needs
 
-add-s : tie.Need-add-s
-add-s c = search needs
+cast-store4-2 : tie.Need-cast-store4-2
+cast-store4-2 c = search needs
 
-slice-write-s-2 : tie.Need-slice-write-s-2
-slice-write-s-2 c = simp length-set (omega arith)
-
-cast-s-3 : tie.Need-cast-s-3
-cast-s-3 c = search needs
-
-add-s-2 : tie.Need-add-s-2
-add-s-2 c = search needs
-
-slice-write-s-3 : tie.Need-slice-write-s-3
-slice-write-s-3 c = simp length-set (omega arith)
-
-cast-s-4 : tie.Need-cast-s-4
-cast-s-4 c = search needs
-
-add-s-3 : tie.Need-add-s-3
-add-s-3 c = search needs
-
-slice-write-s-4 : tie.Need-slice-write-s-4
-slice-write-s-4 c = simp length-set (omega arith)
-
-cast-s-5 : tie.Need-cast-s-5
-cast-s-5 c = search needs
-
-add-s-4 : tie.Need-add-s-4
-add-s-4 c = search needs
-
-slice-write-s-5 : tie.Need-slice-write-s-5
-slice-write-s-5 c = simp length-set (omega arith)
-
-cast-s-6 : tie.Need-cast-s-6
-cast-s-6 c = search needs
-
-add-s-5 : tie.Need-add-s-5
-add-s-5 c = search needs
-
-slice-write-s-6 : tie.Need-slice-write-s-6
-slice-write-s-6 c = simp length-set (omega arith)
-
-cast-s-7 : tie.Need-cast-s-7
-cast-s-7 c = search needs
-
-add-s-6 : tie.Need-add-s-6
-add-s-6 c = search needs
-
-slice-write-s-7 : tie.Need-slice-write-s-7
-slice-write-s-7 c = simp length-set (omega arith)
-
-cast-s-8 : tie.Need-cast-s-8
-cast-s-8 c = search needs
-
-add-s-7 : tie.Need-add-s-7
-add-s-7 c = search needs
-
-slice-write-s-8 : tie.Need-slice-write-s-8
-slice-write-s-8 c = simp length-set (omega arith)
+store4-requires-2 : tie.Need-store4-requires-2
+store4-requires-2 c κs = search needs
 
 same-length : tie.Need-same-length
 same-length c = search needs
 
 returns : tie.Need-returns
-returns c = stored8 (c .args .s .now) (c .args .i) (c .args .x) (omega (arith, c .pre))
+returns c =
+    let a = c .before .before .before .before .before .before .before .before .before .args in
+    let low = c .before .before .before .before .before .before .store4 in
+    let high = c .before .before .store42 in
+    stored8 (a .s .now) (low .last .0) (high .last .0) (a .i) (a .x) (c .before .before .before .before .before .before .before .before .before .pre) (low .ensures) (high .ensures)
 
 pub store8-spec : {M : Type 1} → statement M
 store8-spec =
     tie.close
     (tie.spec
-    cast-s
-    slice-write-s
-    cast-s-2
-    add-s
-    slice-write-s-2
-    cast-s-3
-    add-s-2
-    slice-write-s-3
-    cast-s-4
-    add-s-3
-    slice-write-s-4
-    cast-s-5
-    add-s-4
-    slice-write-s-5
-    cast-s-6
-    add-s-5
-    slice-write-s-6
-    cast-s-7
-    add-s-6
-    slice-write-s-7
-    cast-s-8
-    add-s-7
-    slice-write-s-8
+    cast-store4
+    store4-requires
+    add-store4
+    cast-store4-2
+    store4-requires-2
     same-length
     returns)
