@@ -22,7 +22,8 @@ use Rattle.stream_spec.specs.Checks.{captureMost, takeChecks, cycleChecks, room
 use Rattle.stream_spec.specs.Handshake.{Finding, findings, firstFinding, transferred, handshakes, asTransfer, transferCount, harvested}
 use Rattle.stream_spec.specs.Answers.{verdict, writtenValues, judgeChecks, judgeAnswer, uncleanCheck, harvestRefusal, harvestAnswer, harvestAfter, Harvested}
 use Rattle.refusal.proofs.First.{append-none}
-use Rattle.stream_spec.proofs.Records.{size-pos, Sized, length-joined, length-pieces, records-sized}
+use Rattle.stream_spec.proofs.Size.{size-pos}
+use Rattle.stream_spec.proofs.Records.{Sized, length-joined, length-pieces, records-sized}
 use Rattle.stream_spec.specs.Memory.{inFront}
 use Rattle.stream_spec.specs.Walk.{Passed}
 use Rattle.stream_spec.proofs.Walk.{checks-passed}

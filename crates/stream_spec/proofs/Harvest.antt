@@ -20,7 +20,8 @@ use Rattle.stream_spec.specs.Walk.{Passed}
 use Rattle.stream_spec.specs.Promises.{HarvestLegal, HarvestRepacks}
 use Rattle.stream_spec.proofs.Bools.{and-left}
 use Rattle.refusal.proofs.First.{first-none, none-first, append-none, append-passed}
-use Rattle.stream_spec.proofs.Records.{size-pos, Sized, length-pieces, length-joined, records-joined, records-sized}
+use Rattle.stream_spec.proofs.Size.{size-pos}
+use Rattle.stream_spec.proofs.Records.{Sized, length-pieces, length-joined, records-joined, records-sized}
 use Rattle.stream_spec.proofs.Fields.{fields-of, of-fields}
 use Rattle.stream_spec.proofs.RecordChecks.{each-none}
 use Rattle.stream_spec.proofs.Legal.{bit-octet, bit-low, octets-append, octets-drop, EachOctets, pieces-octets, Faultless, of-faultless}

@@ -12,7 +12,8 @@ use Rattle.stream_spec.specs.declared.Shape.{Shape}
 use Rattle.stream_spec.specs.Layout.{size, recordCount, records}
 use Rattle.stream_spec.specs.Checks.{widthCheck, lengthCheck}
 use Rattle.stream_spec.specs.Walk.{Passed, Left, recordAt}
-use Rattle.stream_spec.proofs.Records.{size-pos, FirstRecord, first-record, length-pieces}
+use Rattle.stream_spec.proofs.Size.{size-pos}
+use Rattle.stream_spec.proofs.Records.{FirstRecord, first-record, length-pieces}
 pub use Rattle.stream_spec.proofs.Passed.{checks-passed}
 use Rattle.stream_spec.proofs.Passed.{width-fits, take-passed}
 

@@ -2,7 +2,7 @@
 use mathlib.Core.Path.{refl}
 use borrow.Author.Tests.{lt-ltb, le-ltb}
 use lib.ListN.{length}
-use Rattle.stream_spec.proofs.Records.{size-pos}
+use Rattle.stream_spec.proofs.Size.{size-pos}
 use borrow.Author.Needs.{needs}
 use Rattle.stream_record.proofs.bad_length.Statement.{statement}
 use Rattle.stream_record.proofs.bad_length.Tie as tie
