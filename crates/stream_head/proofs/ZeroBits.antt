@@ -12,6 +12,7 @@ use lib.Dec.{leb, ltb, eqb}
 use lib.ListN.{getD}
 use lib.Pow.{pow-pos, pow-mono, split, shr-mod}
 use Rattle.stream_spec.specs.declared.Shape.{Shape}
+use Rattle.stream_spec.specs.Layout.{widthMost}
 use Rattle.words.specs.Words.{wordAt}
 use Rattle.stream_head.specs.declared.Zeros.{Zeros}
 use Rattle.stream_record.specs.Header.{headerOf, headerFault}
@@ -53,37 +54,38 @@ set-from n top k l h =
 
 -- octets 0 to 3: octet 0 has a bit from `used` on, or octet 2 is above 15
 low-set : (used a b c d : ℕ) → used ≤ 8 → a < 256 → b < 256 → c < 256
-    → set (bitAnd (a + 256 * (b + 256 * (c + 256 * (d + 256 * 0)))) (15728896 - 2 ^ used)) ≡ (leb (2 ^ used) a || ltb 15 c)
+    → set (bitAnd (a + 256 * (b + 256 * (c + 256 * (d + 256 * 0)))) (0xF00100 - 2 ^ used)) ≡ (leb (2 ^ used) a || ltb 15 c)
 low-set used a b c d u ha hb hc =
     let p = pow-pos used in
     let q : 2 ^ used ≤ 256 = pow-mono u in
     let word : a + 256 * (b + 256 * (c + 256 * (d + 256 * 0))) ≡ ((d * 256 + c) * 256 + b) * 256 + a = omega arith in
-    let mask : 15728896 - 2 ^ used ≡ 61440 * 256 + (256 - 2 ^ used) = omega arith in
-    let top : bitAnd (d * 256 + c) 240 ≡ bitAnd c 240 =
-    and-block 8 d 0 c 240 hc (omega arith) ∙ ap (λ (x : ℕ). x * 256 + bitAnd c 240) (and-zero-r d) ∙ zero-add (bitAnd c 240) in
-    let mid : bitAnd ((d * 256 + c) * 256 + b) 61440 ≡ bitAnd c 240 * 256 + 0 =
-    and-block 8 (d * 256 + c) 240 b 0 hb (omega arith) ∙ ap₂ (λ (x y : ℕ). x * 256 + y) top (and-zero-r b) in
-    let all : bitAnd (a + 256 * (b + 256 * (c + 256 * (d + 256 * 0)))) (15728896 - 2 ^ used) ≡ (bitAnd c 240 * 256 + 0) * 256 + bitAnd a (256 - 2 ^ used) =
+    let mask : 0xF00100 - 2 ^ used ≡ 0xF000 * 256 + (256 - 2 ^ used) = omega arith in
+    let top : bitAnd (d * 256 + c) 0xF0 ≡ bitAnd c 0xF0 =
+    and-block 8 d 0 c 0xF0 hc (omega arith) ∙ ap (λ (x : ℕ). x * 256 + bitAnd c 0xF0) (and-zero-r d) ∙ zero-add (bitAnd c 0xF0) in
+    let mid : bitAnd ((d * 256 + c) * 256 + b) 0xF000 ≡ bitAnd c 0xF0 * 256 + 0 =
+    and-block 8 (d * 256 + c) 0xF0 b 0 hb (omega arith) ∙ ap₂ (λ (x y : ℕ). x * 256 + y) top (and-zero-r b) in
+    let all : bitAnd (a + 256 * (b + 256 * (c + 256 * (d + 256 * 0)))) (0xF00100 - 2 ^ used) ≡ (bitAnd c 0xF0 * 256 + 0) * 256 + bitAnd a (256 - 2 ^ used) =
     ap₂ bitAnd word mask
-    ∙ and-block 8 ((d * 256 + c) * 256 + b) 61440 a (256 - 2 ^ used) ha (omega arith)
+    ∙ and-block 8 ((d * 256 + c) * 256 + b) 0xF000 a (256 - 2 ^ used) ha (omega arith)
     ∙ ap (λ (x : ℕ). x * 256 + bitAnd a (256 - 2 ^ used)) mid in
     ap set all
-    ∙ set-parts (bitAnd c 240 * 256 + 0) (bitAnd a (256 - 2 ^ used)) 256 (omega arith)
-    ∙ ap₂ (λ (x y : Bool). x || y) (set-from a 8 used u ha) (set-parts (bitAnd c 240) 0 256 (omega arith) ∙ set-from c 8 4 (omega arith) hc)
+    ∙ set-parts (bitAnd c 0xF0 * 256 + 0) (bitAnd a (256 - 2 ^ used)) 256 (omega arith)
+    ∙ ap₂ (λ (x y : Bool). x || y) (set-from a 8 used u ha) (set-parts (bitAnd c 0xF0) 0 256 (omega arith) ∙ set-from c 8 4 (omega arith) hc)
 
 -- octets 3 to 6: TKEEP or TSTRB has a bit from w on
-high-set : (w keep strb x : ℕ) → w ≤ 16 → keep < 65536 → strb < 65536 → x ≡ strb * 65536 + keep
-    → set (bitAnd x (65537 * (65536 - 2 ^ w))) ≡ (leb (2 ^ w) keep || leb (2 ^ w) strb)
+high-set : (w keep strb x : ℕ) → w ≤ 16 → keep < 0x10000 → strb < 0x10000 → x ≡ strb * 0x10000 + keep
+    → set (bitAnd x (0x10001 * (0x10000 - 2 ^ w))) ≡ (leb (2 ^ w) keep || leb (2 ^ w) strb)
 high-set w keep strb x u hk hs e =
     let p = pow-pos w in
-    let q : 2 ^ w ≤ 65536 = pow-mono u in
-    let mask : 65537 * (65536 - 2 ^ w) ≡ (65536 - 2 ^ w) * 65536 + (65536 - 2 ^ w) = omega arith in
-    ap set (ap₂ bitAnd e mask ∙ and-block 16 strb (65536 - 2 ^ w) keep (65536 - 2 ^ w) hk (omega arith))
-    ∙ set-parts (bitAnd strb (65536 - 2 ^ w)) (bitAnd keep (65536 - 2 ^ w)) 65536 (omega arith)
+    let q : 2 ^ w ≤ 0x10000 = pow-mono u in
+    let mask : 0x10001 * (0x10000 - 2 ^ w) ≡ (0x10000 - 2 ^ w) * 0x10000 + (0x10000 - 2 ^ w) = omega arith in
+    ap set (ap₂ bitAnd e mask ∙ and-block 16 strb (0x10000 - 2 ^ w) keep (0x10000 - 2 ^ w) hk (omega arith))
+    ∙ set-parts (bitAnd strb (0x10000 - 2 ^ w)) (bitAnd keep (0x10000 - 2 ^ w)) 0x10000 (omega arith)
     ∙ ap₂ (λ (x y : Bool). x || y) (set-from keep 16 w u hk) (set-from strb 16 w u hs)
 
 -- a header's fault, by its two words
-module _ (used : ℕ) (s : Shape) (rec : List ℕ) (z : Zeros) (few : used ≤ 8) (wide : s .width ≤ 16) (is : z ≡ zerosOf used s) (oct : (i : ℕ) → getD rec i 0 < 256) (lo hi : ℕ) (l : lo ≡ wordAt 4 rec 0) where
+module _ (used : ℕ) (s : Shape) (rec : List ℕ) (z : Zeros) (few : used ≤ 8) (wide : s .width ≤ widthMost) (is : z ≡ zerosOf used s)
+    (oct : (i : ℕ) → getD rec i 0 < 256) (lo hi : ℕ) (l : lo ≡ wordAt 4 rec 0) where
   low-is : set (bitAnd lo (z .low)) ≡ (leb (2 ^ used) (headerOf rec .flags) || ltb 15 (headerOf rec .tdest))
   low-is =
       ap₂ (λ (x : ℕ) (y : Zeros). set (bitAnd x (y .low))) l is

@@ -4,12 +4,10 @@ use stream_record::layout::FLAGS;
 use stream_record::layout::TKEEP;
 use stream_spec::Shape;
 ghost use mathlib.Core.Path.{_≡_};
-ghost use Prim.Native.Nat.{ℕ, _≤_};
+ghost use Prim.Native.Nat.{_≤_};
 ghost use lib.ListN.{length};
 ghost use Rattle.stream_spec.specs.Layout.{headOctets, widthMost};
-ghost use Rattle.stream_spec.specs.declared.Shape.{Shape as AnyShape};
-ghost use Rattle.stream_record.specs.Header.{headerOf, headerFault};
-ghost use Rattle.stream_head.specs.Zeros.{zerosOf};
+ghost use Rattle.stream_head.specs.Zeros.{zerosOf, TellsFault};
 
 // Octets 0 to 3 as one number: bits 4 to 7 of TDEST in octet 2 are bits 20 to 23, and with bit 8, from which the flags in use
 // are taken away, all bits of octet 0 above those flags.
@@ -34,7 +32,7 @@ pub fn must_be_zero(used: u32, s: Shape) -> Zeros
 // Whether the record at the front of `rec` has a bit set that must be zero.
 pub fn breaks(rec: &[u8], z: Zeros) -> bool
     requires { ⌜ headOctets ≤ length (now rec) ⌝ }
-    ensures { λ r. ⌜ ((used : ℕ) (s : AnyShape) → used ≤ 8 → s .width ≤ 16 → z ≡ zerosOf used s → r ≡ headerFault used s (headerOf (now (rec .entry)))) ⌝ }
+    ensures { λ r. ⌜ TellsFault z (now (rec .entry)) r ⌝ }
 {
     if words::load4(rec, FLAGS) & z.low != 0 {
         return true;

@@ -10,9 +10,10 @@ use stream_record::layout::TSTRB;
 use stream_record::layout::TSTRB_HIGH;
 ghost use mathlib.Core.Path.{_≡_};
 ghost use mathlib.Core.List.{_∷_, _++_};
-ghost use Prim.Native.Nat.{ℕ, _+_, _-_, _/_, _%_, _^_, _≤_, _<_};
-ghost use lib.ListN.{length, take, drop, replicate};
-ghost use Rattle.stream_write.specs.Write.{headerOctets};
+ghost use Prim.Native.Nat.{_+_, _≤_, _<_};
+ghost use lib.ListN.{length, drop};
+ghost use Rattle.stream_spec.specs.Layout.{headOctets, widthMost};
+ghost use Rattle.stream_write.specs.Write.{headerOctets, dataHeader, nullLanes};
 
 // A header and the octet behind it as one number: the pair from octet 1 on (bit 8), a mask as TKEEP from octet 3 on (bit 24)
 // and as TSTRB from octet 5 on (bit 40), lane 0 in octet 7 (bit 56).
@@ -24,8 +25,8 @@ const LANE_0: u64 = 0x100_0000_0000_0000;
 
 // The header of the record at the front of `out`.
 pub fn write_header(out: &mut [u8], last: u8, tid: u8, tdest: u8, keep: u32, strb: u32)
-    requires { ⌜ (7 ≤ length (now out)) × (keep < 65536) × (strb < 65536) ⌝ }
-    ensures { λ _. ⌜ now (out .exit) ≡ headerOctets last tid tdest keep strb ++ drop 7 (now (out .entry)) ⌝ }
+    requires { ⌜ (headOctets ≤ length (now out)) × (keep < 0x10000) × (strb < 0x10000) ⌝ }
+    ensures { λ _. ⌜ now (out .exit) ≡ headerOctets last tid tdest keep strb ++ drop headOctets (now (out .entry)) ⌝ }
 {
     out[FLAGS] = last;
     out[TID] = tid;
@@ -38,8 +39,8 @@ pub fn write_header(out: &mut [u8], last: u8, tid: u8, tdest: u8, keep: u32, str
 
 // The header of a record with data on its first n lanes, as one word: eight octets are written, the last of which is 0.
 pub fn write_data_header(out: &mut [u8], last: u32, pair: u32, n: usize)
-    requires { ⌜ (8 ≤ length (now out)) × (last ≤ 1) × (pair < 65536) × (n ≤ 16) ⌝ }
-    ensures { λ _. ⌜ now (out .exit) ≡ headerOctets last (pair % 256) (pair / 256) (2 ^ n - 1) (2 ^ n - 1) ++ (0 ∷ drop 8 (now (out .entry))) ⌝ }
+    requires { ⌜ (8 ≤ length (now out)) × (last ≤ 1) × (pair < 0x10000) × (n ≤ widthMost) ⌝ }
+    ensures { λ _. ⌜ now (out .exit) ≡ dataHeader last pair n ++ (0 ∷ drop 8 (now (out .entry))) ⌝ }
 {
     let lanes = (1u64 << n) - 1;
     words::store8(
@@ -51,8 +52,8 @@ pub fn write_data_header(out: &mut [u8], last: u32, pair: u32, n: usize)
 
 // A whole record of one lane, which is data, as one word. No TLAST.
 pub fn write_one(out: &mut [u8], pair: u32, lane: u8)
-    requires { ⌜ (8 ≤ length (now out)) × (pair < 65536) ⌝ }
-    ensures { λ _. ⌜ now (out .exit) ≡ headerOctets 0 (pair % 256) (pair / 256) 1 1 ++ (lane ∷ drop 8 (now (out .entry))) ⌝ }
+    requires { ⌜ (8 ≤ length (now out)) × (pair < 0x10000) ⌝ }
+    ensures { λ _. ⌜ now (out .exit) ≡ dataHeader 0 pair 1 ++ (lane ∷ drop 8 (now (out .entry))) ⌝ }
 {
     words::store8(
         out,
@@ -63,8 +64,8 @@ pub fn write_one(out: &mut [u8], pair: u32, lane: u8)
 
 // Lanes n to v - 1 of the record at the front of `out` are null.
 pub fn write_nulls(out: &mut [u8], n: usize, v: usize)
-    requires { ⌜ (n ≤ v) × (7 + v ≤ length (now out)) ⌝ }
-    ensures { λ _. ⌜ now (out .exit) ≡ take (7 + n) (now (out .entry)) ++ (replicate {A = ℕ} (v - n) 0 ++ drop (7 + v) (now (out .entry))) ⌝ }
+    requires { ⌜ (n ≤ v) × (headOctets + v ≤ length (now out)) ⌝ }
+    ensures { λ _. ⌜ now (out .exit) ≡ nullLanes n v (now (out .entry)) ⌝ }
 {
     let mut j = v;
     while n < j {

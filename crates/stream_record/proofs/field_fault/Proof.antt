@@ -14,16 +14,28 @@ shl-if1 : tie.Need-shl-if1
 shl-if1 c = search needs
 
 returns : tie.Need-returns
-returns c = flags-fault (c .before .before .before .args .used) (c .before .before .before .args .s) (c .before .before .before .args .h) (c .before .before .before .pre .0) (c .before .before .before .pre .1) (c .if1 .taken)
+returns c =
+    let a = c .before .before .before .args in
+    let p = c .before .before .before .pre in
+    flags-fault (a .used) (a .s) (a .h) (p .0) (p .1) (c .if1 .taken)
 
 returns-2 : tie.Need-returns-2
-returns-2 c = tdest-fault (c .before .before .before .before .before .args .used) (c .before .before .before .before .before .args .s) (c .before .before .before .before .before .args .h) (c .before .before .before .before .before .pre .0) (c .before .before .before .before .before .pre .1) (c .if2 .taken)
+returns-2 c =
+    let a = c .before .before .before .before .before .args in
+    let p = c .before .before .before .before .before .pre in
+    tdest-fault (a .used) (a .s) (a .h) (p .0) (p .1) (c .if2 .taken)
 
 returns-3 : tie.Need-returns-3
-returns-3 c = keep-fault (c .before .before .before .before .before .before .before .args .used) (c .before .before .before .before .before .before .before .args .s) (c .before .before .before .before .before .before .before .args .h) (c .before .before .before .before .before .before .before .pre .0) (c .before .before .before .before .before .before .before .pre .1) (c .if3 .taken)
+returns-3 c =
+    let a = c .before .before .before .before .before .before .before .args in
+    let p = c .before .before .before .before .before .before .before .pre in
+    keep-fault (a .used) (a .s) (a .h) (p .0) (p .1) (c .if3 .taken)
 
 returns-4 : tie.Need-returns-4
-returns-4 c = strb-fault (c .before .before .before .before .before .before .before .before .args .used) (c .before .before .before .before .before .before .before .before .args .s) (c .before .before .before .before .before .before .before .before .args .h) (c .before .before .before .before .before .before .before .before .pre .0) (c .before .before .before .before .before .before .before .before .pre .1) (c .before .before .before .before .before .if1 .left) (c .before .before .before .if2 .left) (c .before .if3 .left)
+returns-4 c =
+    let a = c .before .before .before .before .before .before .before .before .args in
+    let p = c .before .before .before .before .before .before .before .before .pre in
+    strb-fault (a .used) (a .s) (a .h) (p .0) (p .1) (c .before .before .before .before .before .if1 .left) (c .before .before .before .if2 .left) (c .before .if3 .left)
 
 pub field-fault-spec : {M : Type 1} → statement M
 field-fault-spec =

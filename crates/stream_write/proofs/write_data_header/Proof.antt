@@ -24,10 +24,16 @@ add-store8 : tie.Need-add-store8
 add-store8 c = search needs
 
 mul-store8-2 : tie.Need-mul-store8-2
-mul-store8-2 c = rw (shifted-wide (c .before .before .args .n) (c .before .before .pre .3)) (record { fits = omega (arith, lanes-few (c .before .before .args .n) (c .before .before .pre .3), c .before .before .pre .1, c .before .before .pre .2) })
+mul-store8-2 c =
+    let n = c .before .before .args .n in
+    let p = c .before .before .pre in
+    rw (shifted-wide n (p .3)) (record { fits = omega (arith, lanes-few n (p .3), p .1, p .2) })
 
 add-store8-2 : tie.Need-add-store8-2
-add-store8-2 c = rw (shifted-wide (c .before .before .args .n) (c .before .before .pre .3)) (record { fits = omega (arith, lanes-few (c .before .before .args .n) (c .before .before .pre .3), c .before .before .pre .1, c .before .before .pre .2) })
+add-store8-2 c =
+    let n = c .before .before .args .n in
+    let p = c .before .before .pre in
+    rw (shifted-wide n (p .3)) (record { fits = omega (arith, lanes-few n (p .3), p .1, p .2) })
 
 store8-requires : tie.Need-store8-requires
 store8-requires c κs = search needs
@@ -39,7 +45,7 @@ returns : tie.Need-returns
 returns c =
     let a = c .before .before .before .before .before .args in
     let p = c .before .before .before .before .before .pre in
-    header-placed (a .out .now) (c .before .before .store8 .last .0) (a .last) (a .pair) (a .n) (1 * 2 ^ a .n % 18446744073709551616 - 1) (p .1) (p .2) (p .3)
+    header-placed (a .out .now) (c .before .before .store8 .last .0) (a .last) (a .pair) (a .n) (1 * 2 ^ a .n % 0x10000000000000000 - 1) (p .1) (p .2) (p .3)
     (rw (shifted-wide (a .n) (p .3)) refl) (c .before .before .store8 .ensures)
 
 pub write-data-header-spec : {M : Type 1} → statement M

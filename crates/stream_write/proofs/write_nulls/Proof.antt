@@ -5,6 +5,8 @@ use Prim.Native.Nat.{ℕ, _+_, _-_, _≤_}
 use native.Mathlib.Omega.{arith}
 use borrow.Author.Needs.{needs}
 use lib.ListN.{length, take, drop, replicate, length-set, take-append-drop}
+use Rattle.stream_spec.specs.Layout.{headOctets}
+use Rattle.stream_write.specs.Write.{nullLanes}
 use Rattle.stream_write.proofs.Fill.{fill-down, zeros-down}
 use Rattle.stream_write.proofs.write_nulls.Statement.{statement}
 use Rattle.stream_write.proofs.write_nulls.Tie as tie
@@ -12,7 +14,7 @@ use Rattle.stream_write.proofs.write_nulls.Tie as tie
 abbrev Inv-loop : tie.InvT-loop
 Inv-loop out₀ n v j₀ out j =
     (n ≤ j) × (j ≤ v) × (length out ≡ length out₀)
-    × (out ≡ take (7 + j) out₀ ++ (replicate {A = ℕ} (v - j) 0 ++ drop (7 + v) out₀))
+    × (out ≡ nullLanes j v out₀)
 
 abbrev μ-loop : tie.MeasureT-loop
 μ-loop out₀ n v j₀ out j = j
@@ -21,7 +23,7 @@ loop-holds : tie.Need-loop-holds Inv-loop μ-loop
 loop-holds c =
     let v = c .args .v in
     let none : v - v ≡ 0 = omega arith in
-    (search needs, search needs, refl, rw none (sym (take-append-drop (7 + v) (c .args .out .now))))
+    (search needs, search needs, refl, rw none (sym (take-append-drop (headOctets + v) (c .args .out .now))))
 
 sub-j : tie.Need-sub-j Inv-loop μ-loop
 sub-j c = search needs
@@ -39,12 +41,12 @@ loop-again : tie.Need-loop-again Inv-loop μ-loop
 loop-again c =
     let a = c .before .before .args in
     let l = c .before .loop in
-    let rest = drop (7 + a .v) (a .out .now) in (
+    let rest = drop (headOctets + a .v) (a .out .now) in (
       omega arith,
       omega arith,
-      length-set (l .out) (7 + (l .j - 1)) 0 ∙ l .inv .2,
-      fill-down (a .out .now) (replicate {A = ℕ} (a .v - l .j) 0 ++ rest) (l .out) (7 + (l .j - 1)) (7 + l .j) 0 (omega arith) (omega arith) (l .inv .3)
-          ∙ ap (λ (zs : List ℕ). take (7 + (l .j - 1)) (a .out .now) ++ (zs ++ rest)) (zeros-down (a .v) (l .j) (l .j - 1) (omega arith) (omega arith)),
+      length-set (l .out) (headOctets + (l .j - 1)) 0 ∙ l .inv .2,
+      fill-down (a .out .now) (replicate {A = ℕ} (a .v - l .j) 0 ++ rest) (l .out) (headOctets + (l .j - 1)) (headOctets + l .j) 0 (omega arith) (omega arith) (l .inv .3)
+          ∙ ap (λ (zs : List ℕ). take (headOctets + (l .j - 1)) (a .out .now) ++ (zs ++ rest)) (zeros-down (a .v) (l .j) (l .j - 1) (omega arith) (omega arith)),
     )
 
 same-length : tie.Need-same-length Inv-loop μ-loop

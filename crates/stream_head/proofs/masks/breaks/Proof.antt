@@ -11,8 +11,9 @@ load4-requires c κs = search needs
 returns : tie.Need-returns
 returns c =
     let a = c .before .before .before .before .args in
-    λ used s u w e. breaks-low used s (a .rec .now) (a .z) u w e (λ j. omega (arith, c .before .before .before .shared-slice-known .given j)) (c .before .before .load4 .result) 0
-    (c .before .before .load4 .ensures) (c .if1 .taken)
+    let octets = c .before .before .before .shared-slice-known .given in
+    let low = c .before .before .load4 in
+    λ used s u w e. breaks-low used s (a .rec .now) (a .z) u w e (λ j. omega (arith, octets j)) (low .result) 0 (low .ensures) (c .if1 .taken)
 
 load4-requires-2 : tie.Need-load4-requires-2
 load4-requires-2 c κs = search needs
@@ -20,8 +21,11 @@ load4-requires-2 c κs = search needs
 returns-2 : tie.Need-returns-2
 returns-2 c =
     let a = c .before .before .before .before .before .before .args in
-    λ used s u w e. breaks-high used s (a .rec .now) (a .z) u w e (λ j. omega (arith, c .before .before .before .before .before .shared-slice-known .given j)) (c .before .before .before .before .load4 .result)
-    (c .before .load42 .result) (c .before .before .before .before .load4 .ensures) (c .before .load42 .ensures) (c .before .before .if1 .left)
+    let octets = c .before .before .before .before .before .shared-slice-known .given in
+    let low = c .before .before .before .before .load4 in
+    let high = c .before .load42 in
+    λ used s u w e. breaks-high used s (a .rec .now) (a .z) u w e (λ j. omega (arith, octets j)) (low .result) (high .result) (low .ensures)
+    (high .ensures) (c .before .before .if1 .left)
 
 pub breaks-spec : {M : Type 1} → statement M
 breaks-spec = tie.close (tie.spec load4-requires returns load4-requires-2 returns-2)

@@ -22,7 +22,7 @@ add-if1 c = search needs
 returns : tie.Need-returns
 returns c =
     let a = c .before .args in
-    (rw (ne-eqb (a .lo - a .lo % 2) (256 * a .pair + 16777216 * (a .hi % 256)) (c .if1 .taken)) refl, usual-never (a .lo) (a .hi) (a .pair) (a .full))
+    (rw (ne-eqb (a .lo - a .lo % 2) (256 * a .pair + 0x1000000 * (a .hi % 256)) (c .if1 .taken)) refl, usual-never (a .lo) (a .hi) (a .pair) (a .full))
 
 mul-if2 : tie.Need-mul-if2
 mul-if2 c = search needs
@@ -30,14 +30,14 @@ mul-if2 c = search needs
 returns-2 : tie.Need-returns-2
 returns-2 c =
     let a = c .before .before .args in (
-      rw (eq-eqb (a .lo - a .lo % 2) (256 * a .pair + 16777216 * (a .hi % 256)) (c .before .if1 .left), ne-eqb (a .hi) (65537 * (a .hi % 65536)) (c .if2 .taken)) refl,
+      rw (eq-eqb (a .lo - a .lo % 2) (256 * a .pair + 0x1000000 * (a .hi % 256)) (c .before .if1 .left), ne-eqb (a .hi) (0x10001 * (a .hi % 0x10000)) (c .if2 .taken)) refl,
       usual-never (a .lo) (a .hi) (a .pair) (a .full),
     )
 
 returns-3 : tie.Need-returns-3
 returns-3 c =
     let a = c .before .before .args in (
-      rw (eq-eqb (a .lo - a .lo % 2) (256 * a .pair + 16777216 * (a .hi % 256)) (c .before .if1 .left), eq-eqb (a .hi) (65537 * (a .hi % 65536)) (c .if2 .left)) refl,
+      rw (eq-eqb (a .lo - a .lo % 2) (256 * a .pair + 0x1000000 * (a .hi % 256)) (c .before .if1 .left), eq-eqb (a .hi) (0x10001 * (a .hi % 0x10000)) (c .if2 .left)) refl,
       usual-words (a .lo) (a .hi) (a .pair) (a .full) (c .before .if1 .left) (c .if2 .left),
     )
 

@@ -70,13 +70,16 @@ returns c =
     let z = c .before .before .before .before .before .before .before .record-size in
     let r = c .before .before .before .record-fault in
     let f = c .before .f .given in
-    judging-found (a .s) (a .transfers .now) (l .at) (l .k) (l .inv) (c .before .before .before .before .before .loop-test .taken) (z .result) (z .ensures) (r .result) (f .0 .0) (r .ensures) (f .1)
+    judging-found (a .s) (a .transfers .now) (l .at) (l .k) (l .inv) (c .before .before .before .before .before .loop-test .taken) (z .result) (z .ensures)
+    (r .result) (f .0 .0) (r .ensures) (f .1)
 
 enum-told : tie.Need-enum-told Inv-loop μ-loop
 enum-told c = search needs
 
 add-k : tie.Need-add-k Inv-loop μ-loop
-add-k c = omega (arith, c .before .before .before .before .before .loop .inv .few, c .before .before .before .before .before .loop .inv .left .within, c .before .before .before .before .before .before .before .before .pre .short)
+add-k c =
+    let inv = c .before .before .before .before .before .loop .inv in
+    omega (arith, inv .few, inv .left .within, c .before .before .before .before .before .before .before .before .pre .short)
 
 loop-less : tie.Need-loop-less Inv-loop μ-loop
 loop-less c =
@@ -91,10 +94,14 @@ loop-again c =
     let l = c .before .before .before .before .before .loop in
     let z = c .before .before .before .before .before .before .record-size in
     let r = c .before .before .record-fault in
-    judging-next (a .s) (a .transfers .now) (l .at) (l .k) (l .inv) (c .before .before .before .before .loop-test .taken) (z .result) (z .ensures) (r .result) (r .ensures) (c .enum-told .given .1)
+    judging-next (a .s) (a .transfers .now) (l .at) (l .k) (l .inv) (c .before .before .before .before .loop-test .taken) (z .result) (z .ensures)
+    (r .result) (r .ensures) (c .enum-told .given .1)
 
 returns-2 : tie.Need-returns-2 Inv-loop μ-loop
-returns-2 c = judging-done (c .before .before .before .before .args .s) (c .before .before .before .before .args .transfers .now) (c .before .loop .at) (c .before .loop .k) (c .before .loop .inv) (c .loop-test .left)
+returns-2 c =
+    let a = c .before .before .before .before .args in
+    let l = c .before .loop in
+    judging-done (a .s) (a .transfers .now) (l .at) (l .k) (l .inv) (c .loop-test .left)
 
 pub find-fault-spec : {M : Type 1} → statement M
 find-fault-spec =
