@@ -26,7 +26,7 @@ use Rattle.stream_spec.proofs.Size.{size-pos}
 use Rattle.stream_spec.proofs.Records.{Sized, length-joined, length-pieces, records-sized}
 use Rattle.stream_spec.specs.Memory.{inFront}
 use Rattle.stream_spec.specs.Walk.{Passed}
-use Rattle.stream_spec.proofs.Walk.{checks-passed}
+use Rattle.stream_spec.proofs.Passed.{checks-passed}
 use Rattle.stream_spec.proofs.Harvest.{fewer, length-kept}
 use Rattle.stream_harvest.specs.Filling.{TakeFits}
 
