@@ -4,22 +4,21 @@ use mathlib.Core.Bool.{Bool, false}
 use mathlib.Core.List.{List, [], _∷_, _++_, append-assoc, append-nil}
 use mathlib.Core.Option.{Option, none}
 use Prim.Native.Nat.{ℕ, zero, suc, _+_, _-_, _*_, _/_, _%_, _≤_, _<_}
-use native.Mathlib.Nat.{suc-mul, zero-mul, div-add-mod', div-one}
+use native.Mathlib.Nat.{suc-mul, zero-mul, div-add-mod'}
 use native.Mathlib.Omega.{arith}
-use lib.Dec.{eqb}
 use lib.ListN.{length, take, drop, length-append, length-drop}
 use lib.Seq.{take-all, drop-drop}
 use Rattle.stream_spec.specs.declared.Shape.{Shape}
 use Rattle.stream_spec.specs.Items.{Transfer}
-use Rattle.stream_spec.specs.Packed.{fitted, spread, sliceTransfer}
-use Rattle.stream_spec.specs.Layout.{size, bit, odd, flags, Kept, transferOf, octetsOf, octets}
-use Rattle.stream_spec.specs.Checks.{reservedFault}
+use Rattle.stream_spec.specs.Packed.{fitted, spread}
+use Rattle.stream_spec.specs.Layout.{headOctets, size, odd, flags, Kept, octetsOf, octets}
 use Rattle.stream_spec.proofs.Records.{octets-sized}
 use Rattle.stream_record.specs.declared.Header.{Header}
 use Rattle.stream_record.specs.Header.{headerOf}
-use Rattle.repack_emit.specs.Write.{Writing, Writes}
-use Rattle.repack_emit.proofs.Memory.{size-is}
-use Rattle.stream_downsize.specs.Slices.{Cuts, pairIn, lanesIn, Unreserved, sliceOf, above, slicesFrom}
+use Rattle.stream_spec.specs.Memory.{Writing, Writes}
+use Rattle.stream_spec.proofs.Bits.{bit-zero}
+use Rattle.stream_spec.proofs.Size.{size-is}
+use Rattle.stream_downsize.specs.Slices.{Cuts, pairIn, lanesIn, Unreserved, sliceOf, above, slicesFrom, recordSlices, RecordFits}
 use Rattle.stream_downsize.proofs.Lanes.{fitted-lanes, lanes-long, drop-lanes, above-unreserved, lowest-unreserved}
 
 pub slice-long : (t : Shape) (h : Header) (ds : List ℕ) (last : Bool) → length (octetsOf (sliceOf (t .width) h ds last)) ≡ size t
@@ -57,18 +56,15 @@ module _ (v : ℕ) (h : Header) (ds : List ℕ) where
       (first-slice (suc k) false)
       (ap (λ (n : ℕ). drop v (lanesIn n h ds)) (suc-mul (suc k) v) ∙ drop-lanes v (suc k * v) h ds)
 
-low-bit : (x : ℕ) → bit 0 x ≡ odd x
-low-bit x = ap (λ (n : ℕ). eqb (n % 2) 1) (div-one x)
-
 -- the slices of a record, from its header and its data octets
 pub record-slices : (s t : Shape) (rec : List ℕ) → Cuts s t → length rec ≡ size s
-    → octets (sliceTransfer (s .width) (t .width) (transferOf s rec)) ≡ slicesFrom (s .width / t .width - 1) (t .width) (headerOf rec) (drop 7 rec)
+    → recordSlices s t rec ≡ slicesFrom (s .width / t .width - 1) (t .width) (headerOf rec) (drop headOctets rec)
 record-slices s t rec c l =
-    let all : take (s .width) (drop 7 rec) ≡ drop 7 rec = take-all (s .width) (drop 7 rec) (rw (length-drop 7 rec) (omega (arith, size-is s))) in
+    let all : take (s .width) (drop headOctets rec) ≡ drop headOctets rec = take-all (s .width) (drop headOctets rec) (rw (length-drop headOctets rec) (omega (arith, size-is s))) in
     let w : suc (s .width / t .width - 1) * t .width ≡ s .width = slices-whole (s .width) (t .width) (c .whole) (c .low) in
-    rw (all, low-bit (flags rec))
+    rw (all, bit-zero (flags rec))
     (ap
-    (λ (n : ℕ). octets (spread (s .width / t .width - 1) (t .width) (pairIn (headerOf rec)) (lanesIn n (headerOf rec) (drop 7 rec)) (odd (flags rec))))
+    (λ (n : ℕ). octets (spread (s .width / t .width - 1) (t .width) (pairIn (headerOf rec)) (lanesIn n (headerOf rec) (drop headOctets rec)) (odd (flags rec))))
     (sym w))
 
 -- ---- the loop over a record's slices
@@ -83,36 +79,34 @@ pub record Slicing (t : Shape) (rec out₀ : List ℕ) (at : ℕ) (all out : Lis
       (before whole rest : List ℕ) → Writing before out₀ at whole (all ++ rest)
       → Writing before out to whole (slicesFrom k (t .width) h (drop from rec) ++ rest)
 
-module _ (s t : Shape) (rec : List ℕ) (h : Header) (c : Cuts s t) (l : length rec ≡ size s) (e : h ≡ headerOf rec) where
-  slices-are : octets (sliceTransfer (s .width) (t .width) (transferOf s rec)) ≡ slicesFrom (s .width / t .width - 1) (t .width) h (drop 7 rec)
-  slices-are = rw e (record-slices s t rec c l)
+module _ {s t : Shape} {rec out : List ℕ} {at : ℕ} (f : RecordFits s t rec out at) (h : Header) (e : h ≡ headerOf rec) where
+  slices-are : recordSlices s t rec ≡ slicesFrom (s .width / t .width - 1) (t .width) h (drop headOctets rec)
+  slices-are = rw e (record-slices s t rec (f .cuts) (f .whole))
 
-  pub slicing-starts : (out : List ℕ) (at : ℕ) → reservedFault s rec ≡ false
-      → at + length (octets (sliceTransfer (s .width) (t .width) (transferOf s rec))) ≤ length out
-      → Slicing t rec out at (slicesFrom (s .width / t .width - 1) (t .width) h (drop 7 rec)) out h (s .width / t .width - 1) at 7
-  slicing-starts out at f r =
-      let w : suc (s .width / t .width - 1) * t .width ≡ s .width = slices-whole (s .width) (t .width) (c .whole) (c .low) in
+  pub slicing-starts : Slicing t rec out at (slicesFrom (s .width / t .width - 1) (t .width) h (drop headOctets rec)) out h (s .width / t .width - 1) at headOctets
+  slicing-starts =
+      let w : suc (s .width / t .width - 1) * t .width ≡ s .width = slices-whole (s .width) (t .width) (f .cuts .whole) (f .cuts .low) in
       record {
-        within = omega (arith, w, l, size-is s);
-        unreserved = rw (w, e) f;
+        within = omega (arith, w, f .whole, size-is s);
+        unreserved = rw (w, e) (f .sound);
         same = refl;
-        room = omega (arith, r, ap length slices-are);
+        room = omega (arith, f .room, ap length slices-are);
         writes = λ before whole rest g. g;
       }
 
   -- what was written is the record's slices
-  pub slicing-told : (out : List ℕ) (at : ℕ) (after : List ℕ) (next : ℕ)
-      → Writes (slicesFrom (s .width / t .width - 1) (t .width) h (drop 7 rec)) out at after next
-      → Writes (octets (sliceTransfer (s .width) (t .width) (transferOf s rec))) out at after next
-  slicing-told out at after next w = rw slices-are w
+  pub slicing-told : (after : List ℕ) (next : ℕ) → Writes (slicesFrom (s .width / t .width - 1) (t .width) h (drop headOctets rec)) out at after next
+      → Writes (recordSlices s t rec) out at after next
+  slicing-told after next w = rw slices-are w
 
-module _ (t : Shape) (rec out₀ : List ℕ) (at : ℕ) (all out : List ℕ) (h : Header) where
+module _ {t : Shape} {rec out₀ : List ℕ} {at : ℕ} {all out : List ℕ} {h : Header} where
   -- any slice's lanes
-  pub slicing-lanes : (k to from : ℕ) → Slicing t rec out₀ at all out h k to from → from + t .width ≤ length rec
-  slicing-lanes k to from s = omega (arith, s .within, suc-mul k (t .width))
+  module _ {k to from : ℕ} (s : Slicing t rec out₀ at all out h k to from) where
+    pub slicing-lanes : from + t .width ≤ length rec
+    slicing-lanes = omega (arith, s .within, suc-mul k (t .width))
 
-  pub slicing-unreserved : (k to from : ℕ) → Slicing t rec out₀ at all out h k to from → Unreserved (t .width) h
-  slicing-unreserved k to from s = lowest-unreserved (t .width) (suc k * t .width) h (omega (arith, suc-mul k (t .width))) (s .unreserved)
+    pub slicing-unreserved : Unreserved (t .width) h
+    slicing-unreserved = lowest-unreserved (t .width) (suc k * t .width) h (omega (arith, suc-mul k (t .width))) (s .unreserved)
 
   module _ (k to from : ℕ) (s : Slicing t rec out₀ at all out h (suc k) to from) where
     abbrev this : List ℕ
@@ -146,7 +140,7 @@ module _ (t : Shape) (rec out₀ : List ℕ) (at : ℕ) (all out : List ℕ) (h 
         }
 
   -- the same for the code, which counts k down
-  module _ (k to from : ℕ) (s : Slicing t rec out₀ at all out h k to from) (p : 0 < k) where
+  module _ {k to from : ℕ} (s : Slicing t rec out₀ at all out h k to from) (p : 0 < k) where
     counted : Slicing t rec out₀ at all out h (suc (k - 1)) to from
     counted = let one : k ≡ suc (k - 1) = omega arith in subst (λ (m : ℕ). Slicing t rec out₀ at all out h m to from) one s
 
@@ -158,16 +152,16 @@ module _ (t : Shape) (rec out₀ : List ℕ) (at : ℕ) (all out : List ℕ) (h 
         → Slicing t rec out₀ at all after g (k - 1) next (from + t .width)
     slicing-next after next g e n l w = rw e (more-next (k - 1) to from counted after next n l w)
 
-  module _ (k to from : ℕ) (s : Slicing t rec out₀ at all out h k to from) (p : k ≤ 0) where
+  module _ {k to from : ℕ} (s : Slicing t rec out₀ at all out h k to from) (p : k ≤ 0) where
     only : Slicing t rec out₀ at all out h 0 to from
     only = let none : k ≡ 0 = omega arith in subst (λ (m : ℕ). Slicing t rec out₀ at all out h m to from) none s
 
     pub slicing-last-room : to + size t ≤ length out
     slicing-last-room = omega (arith, only .room, ap length (last-slice (t .width) h (drop from rec)), slice-long t h (drop from rec) (odd (h .flags)))
 
-    pub slicing-done : (after : List ℕ) (next : ℕ) → Writes (octetsOf (sliceOf (t .width) h (drop from rec) (odd (h .flags)))) out to after next
-        → Writes all out₀ at after next
-    slicing-done after next w =
-        λ before whole rest f.
-        w before whole rest
-        (subst (λ (xs : List ℕ). Writing before out to whole (xs ++ rest)) (last-slice (t .width) h (drop from rec)) (only .writes before whole rest f))
+    pub slicing-done : (lanes : List ℕ) → lanes ≡ drop from rec → (last : Bool) → last ≡ odd (h .flags) → (after : List ℕ) (next : ℕ)
+        → Writes (octetsOf (sliceOf (t .width) h lanes last)) out to after next → Writes all out₀ at after next
+    slicing-done lanes l last e after next w before whole rest f =
+        let told : slicesFrom 0 (t .width) h (drop from rec) ≡ octetsOf (sliceOf (t .width) h lanes last) =
+        last-slice (t .width) h (drop from rec) ∙ ap₂ (λ (ds : List ℕ) (b : Bool). octetsOf (sliceOf (t .width) h ds b)) (sym l) (sym e) in
+        w before whole rest (subst (λ (xs : List ℕ). Writing before out to whole (xs ++ rest)) told (only .writes before whole rest f))

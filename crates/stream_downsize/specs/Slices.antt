@@ -2,36 +2,41 @@
 -- stands in stream_spec's Packed; here is what the helpers' contracts say of them.
 use mathlib.Core.Path.{_≡_}
 use mathlib.Core.Bool.{Bool, false, cond}
-use mathlib.Core.List.{List}
-use mathlib.Core.Option.{Option, none, some}
-use Prim.Native.Nat.{ℕ, suc, _*_, _/_, _%_, _^_, _≤_}
-use Rattle.refusal.specs.declared.Refusal.{Refusal}
+use mathlib.Core.List.{List, [], _∷_}
+use mathlib.Core.Option.{Option, none}
+use Prim.Native.Nat.{ℕ, suc, _+_, _*_, _/_, _%_, _^_, _≤_}
+use lib.ListN.{length}
+use Rattle.refusal.specs.Checks.{first}
 use Rattle.stream_spec.specs.declared.Shape.{Shape}
 use Rattle.stream_spec.specs.Items.{Pair, Transfer}
-use Rattle.stream_spec.specs.Packed.{spread}
-use Rattle.stream_spec.specs.Layout.{odd, Kept, typesOf, anyReserved, lanesOf, octets, records}
-use Rattle.refusal.specs.Checks.{first}
-use Rattle.stream_spec.specs.Checks.{transferChecks}
+use Rattle.stream_spec.specs.Packed.{spread, sliceTransfer}
+use Rattle.stream_spec.specs.Layout.{widthMost, size, odd, Kept, typesOf, anyReserved, lanesOf, transferOf, octets, records, sliced}
+use Rattle.stream_spec.specs.Checks.{shapeChecks, ratioCheck, lengthCheck, transferChecks, reservedFault}
+use Rattle.stream_spec.specs.Memory.{Writes}
+use Rattle.stream_spec.specs.Walk.{Passed}
 use Rattle.stream_record.specs.declared.Header.{Header}
-use Rattle.stream_downsize.specs.declared.Found.{Found}
-use Rattle.stream_downsize.specs.declared.Found.the-variants.{Nothing, Fault}
 
--- what was found, as the checks tell it
-abbrev pub foundOf : Found → Option Refusal
-foundOf Nothing = none
-foundOf (Fault f) = some f
+-- ---- what is known before anything is written
+
+-- the tests in front have passed
+pub record Tested (s : Shape) (v : ℕ) (xs : List ℕ) : Type 0 where
+  pub shapes : first (shapeChecks s (v ∷ [])) ≡ none
+  pub ratio : ratioCheck s v .found ≡ false
+  pub length : lengthCheck s xs .found ≡ false
 
 -- no record of the take has a fault
 abbrev pub NoFault : Shape → List ℕ → Type 0
-NoFault s input = first (transferChecks s 0 (records s input)) ≡ none
+NoFault s xs = first (transferChecks s 0 (records s xs)) ≡ none
 
 -- widths from 1 to 16 of which the second divides the first
 pub record Cuts (s t : Shape) : Type 0 where
-  pub high : s .width ≤ 16
+  pub high : s .width ≤ widthMost
   pub low : 1 ≤ s .width
-  pub small : t .width ≤ 16
+  pub small : t .width ≤ widthMost
   pub some : 1 ≤ t .width
   pub whole : s .width % t .width ≡ 0
+
+-- ---- one slice
 
 -- a data octet where the lowest bit of strb is high
 abbrev pub octetIf : ℕ → ℕ → ℕ
@@ -59,3 +64,28 @@ above v h = record { flags = h .flags; tid = h .tid; tdest = h .tdest; keep = h 
 -- the octets of k slices without TLAST and one more, which has the header's
 abbrev pub slicesFrom : ℕ → ℕ → Header → List ℕ → List ℕ
 slicesFrom k v h ds = octets (spread k v (pairIn h) (lanesIn (suc k * v) h ds) (odd (h .flags)))
+
+-- ---- what is written
+
+-- octets written at `to`, up to `next`
+pub record Put (octets before : List ℕ) (to : ℕ) (after : List ℕ) (next : ℕ) : Type 0 where
+  pub same : length after ≡ length before
+  pub writes : Writes octets before to after next
+
+-- the slices of one record
+abbrev pub recordSlices : Shape → Shape → List ℕ → List ℕ
+recordSlices s t rec = octets (sliceTransfer (s .width) (t .width) (transferOf s rec))
+
+-- a record whose slices find room from octet `at` on
+pub record RecordFits (s t : Shape) (rec out : List ℕ) (at : ℕ) : Type 0 where
+  pub cuts : Cuts s t
+  pub whole : length rec ≡ size s
+  pub sound : reservedFault s rec ≡ false
+  pub room : at + length (recordSlices s t rec) ≤ length out
+
+-- a take whose slices find room
+pub record TakeFits (s t : Shape) (xs out : List ℕ) : Type 0 where
+  pub cuts : Cuts s t
+  pub passed : Passed s xs
+  pub faultless : NoFault s xs
+  pub room : length (sliced s (t .width) xs) ≤ length out

@@ -5,7 +5,7 @@ use Prim.Native.Nat.{_-_}
 use lib.ListN.{length}
 use Rattle.stream_spec.specs.Layout.{size, odd, octetsOf}
 use Rattle.stream_downsize.specs.Slices.{sliceOf}
-use Rattle.repack_emit.proofs.Memory.{lent-long, lent-writes}
+use Rattle.stream_spec.proofs.Memory.{lent-long, lent-writes}
 use Rattle.stream_downsize.proofs.Slices.{slice-long}
 use Rattle.stream_downsize.proofs.put_at.Statement.{statement}
 use Rattle.stream_downsize.proofs.put_at.Tie as tie
@@ -33,14 +33,18 @@ same-length c = search needs
 
 returns : tie.Need-returns
 returns c =
-    let a = c .before .before .before .before .before .before .before .args in
-    let p = c .before .before .before .before .before .before .before .pre in
-    rw (c .before .before .before .put-record .ensures, c .record-size .ensures) (
+    let put = c .before .before .before in
+    let e = put .before .before .before .before in
+    let a = e .args in
+    let slice = octetsOf (sliceOf (a .t .width) (a .h) (a .lanes .now) (odd (a .last))) in
+    let long = slice-long (a .t) (a .h) (a .lanes .now) (odd (a .last)) in
+    let lent = length (a .out .now) - a .to in
+    rw (put .put-record .ensures, c .record-size .ensures) (
       refl,
-      lent-long (a .out .now) (octetsOf (sliceOf (a .t .width) (a .h) (a .lanes .now) (odd (a .last)))) (a .to) (size (a .t))
-          (slice-long (a .t) (a .h) (a .lanes .now) (odd (a .last))) (p .2) (length (a .out .now) - a .to) refl,
-      lent-writes (a .out .now) (octetsOf (sliceOf (a .t .width) (a .h) (a .lanes .now) (odd (a .last)))) (a .to) (size (a .t))
-          (slice-long (a .t) (a .h) (a .lanes .now) (odd (a .last))) (p .2) (length (a .out .now) - a .to) refl,
+      record {
+        same = lent-long (a .out .now) slice (a .to) (size (a .t)) long (e .pre .2) lent refl;
+        writes = lent-writes (a .out .now) slice (a .to) (size (a .t)) long (e .pre .2) lent refl;
+      },
     )
 
 pub put-at-spec : {M : Type 1} → statement M

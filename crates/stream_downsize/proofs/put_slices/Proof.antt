@@ -1,62 +1,94 @@
 -- `stream_downsize::put_slices` meets its contract: slice by slice while k are left before the last one, then the last one.
 -- Assumes nothing.
 use borrow.Author.Needs.{needs}
-use mathlib.Core.Path.{_∙_}
-use Prim.Native.Nat.{_-_, _/_}
+use mathlib.Core.Path.{_≡_, ap, _∙_}
+use mathlib.Core.List.{List}
+use Prim.Native.Nat.{ℕ, _+_, _-_, _/_, _≤_}
 use native.Mathlib.Omega.{arith}
-use lib.ListN.{drop, length-drop}
-use Rattle.repack_emit.proofs.Memory.{size-is}
-use Rattle.repack_emit.proofs.Stretches.{lent-items, odd-bit}
+use lib.ListN.{length, take, drop, length-drop}
+use lib.Seq.{take-all}
+use Rattle.stream_spec.specs.Layout.{headOctets, odd}
+use Rattle.stream_spec.proofs.Bits.{odd-low}
+use Rattle.stream_spec.proofs.Size.{size-holds}
 use Rattle.stream_downsize.specs.Slices.{slicesFrom}
 use Rattle.stream_downsize.proofs.Slices.{Slicing, slices-some, slicing-starts, slicing-told, slicing-lanes, slicing-unreserved, slicing-room, slicing-next, slicing-last-room, slicing-done}
 use Rattle.stream_downsize.proofs.put_slices.Statement.{statement}
 use Rattle.stream_downsize.proofs.put_slices.Tie as tie
 
 abbrev Inv-loop : tie.InvT-loop
-Inv-loop out₀ at rec t h₀ v k₀ to₀ from₀ out h k to from = Slicing t rec out₀ at (slicesFrom k₀ (t .width) h₀ (drop 7 rec)) out h k to from
+Inv-loop out₀ at rec t h₀ v k₀ to₀ from₀ out h k to from = Slicing t rec out₀ at (slicesFrom k₀ (t .width) h₀ (drop headOctets rec)) out h k to from
 
 abbrev μ-loop : tie.MeasureT-loop
 μ-loop out₀ at rec t h₀ v k₀ to₀ from₀ out h k to from = k
 
+-- ---- what is known in a turn, and what is known behind the loop's end
+
+abbrev Turns : Type 0
+Turns = tie.At-loop Inv-loop μ-loop
+
+abbrev entry : Turns → tie.Start Inv-loop μ-loop
+entry t = t .before .before .before .before .before
+
+abbrev rec : Turns → List ℕ
+rec t = entry t .args .rec .now
+
+-- the lanes that are lent
+abbrev lanes : Turns → List ℕ
+lanes t = take (length (rec t) - t .loop .from) (drop (t .loop .from) (rec t))
+
+lent : (t : Turns) → lanes t ≡ drop (t .loop .from) (rec t)
+lent t = take-all (length (rec t) - t .loop .from) (drop (t .loop .from) (rec t)) (omega (arith, length-drop (t .loop .from) (rec t)))
+
+lanes-fit : (t : Turns) → t .loop .from + entry t .args .t .width ≤ length (rec t)
+lanes-fit t = slicing-lanes (t .loop .inv)
+
+lent-long : (t : Turns) → entry t .args .t .width ≤ length (drop (t .loop .from) (rec t))
+lent-long t = omega (arith, lanes-fit t, length-drop (t .loop .from) (rec t))
+
+-- the turn, from its end
+abbrev put : tie.After-shifted Inv-loop μ-loop → tie.After-put-at Inv-loop μ-loop
+put c = c .before .before .before
+
+abbrev turn : tie.After-put-at Inv-loop μ-loop → tie.In-loop Inv-loop μ-loop
+turn c = c .before .before .before
+
+-- ---- the needs
+
 read-header-requires : tie.Need-read-header-requires Inv-loop μ-loop
-read-header-requires c κs = omega (arith, c .before .before .pre .1, size-is (c .before .before .args .s))
+read-header-requires c κs = let e = c .before .before in omega (arith, e .pre .whole, size-holds (e .args .s))
 
 div-k : tie.Need-div-k Inv-loop μ-loop
-div-k c = omega (arith, c .before .before .before .before .pre .0 .some)
+div-k c = omega (arith, c .before .before .before .before .pre .cuts .some)
 
 sub-k : tie.Need-sub-k Inv-loop μ-loop
-sub-k c = slices-some (c .before .before .before .before .args .s .width) (c .before .before .before .before .args .t .width) (c .before .before .before .before .pre .0 .whole) (c .before .before .before .before .pre .0 .low)
+sub-k c =
+    let e = c .before .before .before .before in
+    slices-some (e .args .s .width) (e .args .t .width) (e .pre .cuts .whole) (e .pre .cuts .low)
 
 loop-holds : tie.Need-loop-holds Inv-loop μ-loop
-loop-holds c = slicing-starts (c .before .before .before .before .args .s) (c .before .before .before .before .args .t) (c .before .before .before .before .args .rec .now) (c .before .read-header .result) (c .before .before .before .before .pre .0) (c .before .before .before .before .pre .1) (c .before .read-header .ensures) (c .before .before .before .before .args .out .now) (c .before .before .before .before .args .at) (c .before .before .before .before .pre .2) (c .before .before .before .before .pre .3)
+loop-holds c = let h = c .before .read-header in slicing-starts (c .before .before .before .before .pre) (h .result) (h .ensures)
 
 sub-put-at : tie.Need-sub-put-at Inv-loop μ-loop
-sub-put-at c = omega (arith, slicing-lanes (c .before .before .before .before .before .before .before .args .t) (c .before .before .before .before .before .before .before .args .rec .now) (c .before .before .before .before .before .before .before .args .out .now) (c .before .before .before .before .before .before .before .args .at) (slicesFrom (c .before .before .before .before .before .before .before .args .s .width / c .before .before .before .before .before .before .before .args .t .width - 1) (c .before .before .before .before .before .before .before .args .t .width) (c .before .before .before .before .read-header .result) (drop 7 (c .before .before .before .before .before .before .before .args .rec .now))) (c .before .before .loop .out) (c .before .before .loop .h) (c .before .before .loop .k) (c .before .before .loop .to) (c .before .before .loop .from) (c .before .before .loop .inv))
+sub-put-at c = omega (arith, lanes-fit (c .before .before))
 
 part-put-at-start : tie.Need-part-put-at-start Inv-loop μ-loop
-part-put-at-start c = omega (arith, slicing-lanes (c .before .before .before .before .before .before .before .args .t) (c .before .before .before .before .before .before .before .args .rec .now) (c .before .before .before .before .before .before .before .args .out .now) (c .before .before .before .before .before .before .before .args .at) (slicesFrom (c .before .before .before .before .before .before .before .args .s .width / c .before .before .before .before .before .before .before .args .t .width - 1) (c .before .before .before .before .before .before .before .args .t .width) (c .before .before .before .before .read-header .result) (drop 7 (c .before .before .before .before .before .before .before .args .rec .now))) (c .before .before .loop .out) (c .before .before .loop .h) (c .before .before .loop .k) (c .before .before .loop .to) (c .before .before .loop .from) (c .before .before .loop .inv))
+part-put-at-start c = omega (arith, lanes-fit (c .before .before))
 
 part-put-at-end : tie.Need-part-put-at-end Inv-loop μ-loop
-part-put-at-end c = omega (arith, slicing-lanes (c .before .before .before .before .before .before .before .args .t) (c .before .before .before .before .before .before .before .args .rec .now) (c .before .before .before .before .before .before .before .args .out .now) (c .before .before .before .before .before .before .before .args .at) (slicesFrom (c .before .before .before .before .before .before .before .args .s .width / c .before .before .before .before .before .before .before .args .t .width - 1) (c .before .before .before .before .before .before .before .args .t .width) (c .before .before .before .before .read-header .result) (drop 7 (c .before .before .before .before .before .before .before .args .rec .now))) (c .before .before .loop .out) (c .before .before .loop .h) (c .before .before .loop .k) (c .before .before .loop .to) (c .before .before .loop .from) (c .before .before .loop .inv))
+part-put-at-end c = omega (arith, lanes-fit (c .before .before))
 
 put-at-requires : tie.Need-put-at-requires Inv-loop μ-loop
 put-at-requires c κs =
-    let a = c .before .before .before .before .before .before .before .before .args in
-    let l = c .before .before .before .loop in
-    let p = c .before .before .before .before .before .before .before .before .pre in
-    rw (lent-items (a .rec .now) (l .from)) (
-      p .0 .small,
-      rw (length-drop (l .from) (a .rec .now)) (omega (arith, slicing-lanes (c .before .before .before .before .before .before .before .before .args .t) (c .before .before .before .before .before .before .before .before .args .rec .now) (c .before .before .before .before .before .before .before .before .args .out .now) (c .before .before .before .before .before .before .before .before .args .at) (slicesFrom (c .before .before .before .before .before .before .before .before .args .s .width / c .before .before .before .before .before .before .before .before .args .t .width - 1) (c .before .before .before .before .before .before .before .before .args .t .width) (c .before .before .before .before .before .read-header .result) (drop 7 (c .before .before .before .before .before .before .before .before .args .rec .now))) (c .before .before .before .loop .out) (c .before .before .before .loop .h) (c .before .before .before .loop .k) (c .before .before .before .loop .to) (c .before .before .before .loop .from) (c .before .before .before .loop .inv))),
-      slicing-room (c .before .before .before .before .before .before .before .before .args .t) (c .before .before .before .before .before .before .before .before .args .rec .now) (c .before .before .before .before .before .before .before .before .args .out .now) (c .before .before .before .before .before .before .before .before .args .at) (slicesFrom (c .before .before .before .before .before .before .before .before .args .s .width / c .before .before .before .before .before .before .before .before .args .t .width - 1) (c .before .before .before .before .before .before .before .before .args .t .width) (c .before .before .before .before .before .read-header .result) (drop 7 (c .before .before .before .before .before .before .before .before .args .rec .now))) (c .before .before .before .loop .out) (c .before .before .before .loop .h) (c .before .before .before .loop .k) (c .before .before .before .loop .to) (c .before .before .before .loop .from) (c .before .before .before .loop .inv) (c .before .before .loop-test .taken),
-      slicing-unreserved (c .before .before .before .before .before .before .before .before .args .t) (c .before .before .before .before .before .before .before .before .args .rec .now) (c .before .before .before .before .before .before .before .before .args .out .now) (c .before .before .before .before .before .before .before .before .args .at) (slicesFrom (c .before .before .before .before .before .before .before .before .args .s .width / c .before .before .before .before .before .before .before .before .args .t .width - 1) (c .before .before .before .before .before .before .before .before .args .t .width) (c .before .before .before .before .before .read-header .result) (drop 7 (c .before .before .before .before .before .before .before .before .args .rec .now))) (c .before .before .before .loop .out) (c .before .before .before .loop .h) (c .before .before .before .loop .k) (c .before .before .before .loop .to) (c .before .before .before .loop .from) (c .before .before .before .loop .inv),
-      omega arith,
-    )
+    let turn = c .before .before in
+    let t = turn .before in
+    rw (lent t)
+    (entry t .pre .cuts .small, lent-long t, slicing-room (t .loop .inv) (turn .loop-test .taken), slicing-unreserved (t .loop .inv), omega arith)
 
 shifted-requires : tie.Need-shifted-requires Inv-loop μ-loop
-shifted-requires c κs = c .before .before .before .before .before .before .before .before .before .before .before .pre .0 .small
+shifted-requires c κs = entry (turn (c .before .before) .before) .pre .cuts .small
 
 add-from : tie.Need-add-from Inv-loop μ-loop
-add-from c = omega (arith, slicing-lanes (c .before .before .before .before .before .before .before .before .before .before .before .before .args .t) (c .before .before .before .before .before .before .before .before .before .before .before .before .args .rec .now) (c .before .before .before .before .before .before .before .before .before .before .before .before .args .out .now) (c .before .before .before .before .before .before .before .before .before .before .before .before .args .at) (slicesFrom (c .before .before .before .before .before .before .before .before .before .before .before .before .args .s .width / c .before .before .before .before .before .before .before .before .before .before .before .before .args .t .width - 1) (c .before .before .before .before .before .before .before .before .before .before .before .before .args .t .width) (c .before .before .before .before .before .before .before .before .before .read-header .result) (drop 7 (c .before .before .before .before .before .before .before .before .before .before .before .before .args .rec .now))) (c .before .before .before .before .before .before .before .loop .out) (c .before .before .before .before .before .before .before .loop .h) (c .before .before .before .before .before .before .before .loop .k) (c .before .before .before .before .before .before .before .loop .to) (c .before .before .before .before .before .before .before .loop .from) (c .before .before .before .before .before .before .before .loop .inv), c .before .before .before .before .before .before .before .before .before .before .before .before .good)
+add-from c = let t = turn (put c) .before in omega (arith, lanes-fit t, entry t .good)
 
 sub-k-2 : tie.Need-sub-k-2 Inv-loop μ-loop
 sub-k-2 c = search needs
@@ -66,44 +98,58 @@ loop-less c = search needs
 
 loop-again : tie.Need-loop-again Inv-loop μ-loop
 loop-again c =
-    slicing-next (c .before .before .before .before .before .before .before .before .before .before .before .before .args .t) (c .before .before .before .before .before .before .before .before .before .before .before .before .args .rec .now) (c .before .before .before .before .before .before .before .before .before .before .before .before .args .out .now) (c .before .before .before .before .before .before .before .before .before .before .before .before .args .at) (slicesFrom (c .before .before .before .before .before .before .before .before .before .before .before .before .args .s .width / c .before .before .before .before .before .before .before .before .before .before .before .before .args .t .width - 1) (c .before .before .before .before .before .before .before .before .before .before .before .before .args .t .width) (c .before .before .before .before .before .before .before .before .before .read-header .result) (drop 7 (c .before .before .before .before .before .before .before .before .before .before .before .before .args .rec .now))) (c .before .before .before .before .before .before .before .loop .out) (c .before .before .before .before .before .before .before .loop .h) (c .before .before .before .before .before .before .before .loop .k) (c .before .before .before .before .before .before .before .loop .to) (c .before .before .before .before .before .before .before .loop .from) (c .before .before .before .before .before .before .before .loop .inv) (c .before .before .before .before .before .before .loop-test .taken) (c .before .before .before .put-at .last .0) (c .before .before .before .put-at .result) (c .shifted .result) (c .shifted .ensures) (c .before .before .before .put-at .ensures .0) (c .before .before .before .put-at .ensures .1)
-    (rw (lent-items (c .before .before .before .before .before .before .before .before .before .before .before .before .args .rec .now) (c .before .before .before .before .before .before .before .loop .from)) at (c .before .before .before .put-at .ensures .2))
+    let p = put c .put-at in
+    let turn' = turn (put c) in
+    let t = turn' .before in
+    slicing-next (t .loop .inv) (turn' .loop-test .taken) (p .last .0) (p .result) (c .shifted .result) (c .shifted .ensures) (p .ensures .0) (p .ensures .1 .same)
+    (rw (lent t) at (p .ensures .1 .writes))
 
 sub-put-at-2 : tie.Need-sub-put-at-2 Inv-loop μ-loop
-sub-put-at-2 c = omega (arith, slicing-lanes (c .before .before .before .before .before .before .before .args .t) (c .before .before .before .before .before .before .before .args .rec .now) (c .before .before .before .before .before .before .before .args .out .now) (c .before .before .before .before .before .before .before .args .at) (slicesFrom (c .before .before .before .before .before .before .before .args .s .width / c .before .before .before .before .before .before .before .args .t .width - 1) (c .before .before .before .before .before .before .before .args .t .width) (c .before .before .before .before .read-header .result) (drop 7 (c .before .before .before .before .before .before .before .args .rec .now))) (c .before .before .loop .out) (c .before .before .loop .h) (c .before .before .loop .k) (c .before .before .loop .to) (c .before .before .loop .from) (c .before .before .loop .inv))
+sub-put-at-2 c = omega (arith, lanes-fit (c .before .before))
 
 part-put-at-start-2 : tie.Need-part-put-at-start-2 Inv-loop μ-loop
-part-put-at-start-2 c = omega (arith, slicing-lanes (c .before .before .before .before .before .before .before .args .t) (c .before .before .before .before .before .before .before .args .rec .now) (c .before .before .before .before .before .before .before .args .out .now) (c .before .before .before .before .before .before .before .args .at) (slicesFrom (c .before .before .before .before .before .before .before .args .s .width / c .before .before .before .before .before .before .before .args .t .width - 1) (c .before .before .before .before .before .before .before .args .t .width) (c .before .before .before .before .read-header .result) (drop 7 (c .before .before .before .before .before .before .before .args .rec .now))) (c .before .before .loop .out) (c .before .before .loop .h) (c .before .before .loop .k) (c .before .before .loop .to) (c .before .before .loop .from) (c .before .before .loop .inv))
+part-put-at-start-2 c = omega (arith, lanes-fit (c .before .before))
 
 part-put-at-end-2 : tie.Need-part-put-at-end-2 Inv-loop μ-loop
-part-put-at-end-2 c = omega (arith, slicing-lanes (c .before .before .before .before .before .before .before .args .t) (c .before .before .before .before .before .before .before .args .rec .now) (c .before .before .before .before .before .before .before .args .out .now) (c .before .before .before .before .before .before .before .args .at) (slicesFrom (c .before .before .before .before .before .before .before .args .s .width / c .before .before .before .before .before .before .before .args .t .width - 1) (c .before .before .before .before .before .before .before .args .t .width) (c .before .before .before .before .read-header .result) (drop 7 (c .before .before .before .before .before .before .before .args .rec .now))) (c .before .before .loop .out) (c .before .before .loop .h) (c .before .before .loop .k) (c .before .before .loop .to) (c .before .before .loop .from) (c .before .before .loop .inv))
+part-put-at-end-2 c = omega (arith, lanes-fit (c .before .before))
+
+tlast-requires : tie.Need-tlast-requires Inv-loop μ-loop
+tlast-requires c κs = search needs
 
 cast-put-at : tie.Need-cast-put-at Inv-loop μ-loop
-cast-put-at c = search needs
+cast-put-at c = omega (arith, c .tlast .ensures .1)
 
 put-at-requires-2 : tie.Need-put-at-requires-2 Inv-loop μ-loop
 put-at-requires-2 c κs =
-    let a = c .before .before .before .before .before .before .before .before .before .args in
-    let l = c .before .before .before .before .loop in
-    let p = c .before .before .before .before .before .before .before .before .before .pre in
-    rw (lent-items (a .rec .now) (l .from)) (
-      p .0 .small,
-      rw (length-drop (l .from) (a .rec .now)) (omega (arith, slicing-lanes (c .before .before .before .before .before .before .before .before .before .args .t) (c .before .before .before .before .before .before .before .before .before .args .rec .now) (c .before .before .before .before .before .before .before .before .before .args .out .now) (c .before .before .before .before .before .before .before .before .before .args .at) (slicesFrom (c .before .before .before .before .before .before .before .before .before .args .s .width / c .before .before .before .before .before .before .before .before .before .args .t .width - 1) (c .before .before .before .before .before .before .before .before .before .args .t .width) (c .before .before .before .before .before .before .read-header .result) (drop 7 (c .before .before .before .before .before .before .before .before .before .args .rec .now))) (c .before .before .before .before .loop .out) (c .before .before .before .before .loop .h) (c .before .before .before .before .loop .k) (c .before .before .before .before .loop .to) (c .before .before .before .before .loop .from) (c .before .before .before .before .loop .inv))),
-      slicing-last-room (c .before .before .before .before .before .before .before .before .before .args .t) (c .before .before .before .before .before .before .before .before .before .args .rec .now) (c .before .before .before .before .before .before .before .before .before .args .out .now) (c .before .before .before .before .before .before .before .before .before .args .at) (slicesFrom (c .before .before .before .before .before .before .before .before .before .args .s .width / c .before .before .before .before .before .before .before .before .before .args .t .width - 1) (c .before .before .before .before .before .before .before .before .before .args .t .width) (c .before .before .before .before .before .before .read-header .result) (drop 7 (c .before .before .before .before .before .before .before .before .before .args .rec .now))) (c .before .before .before .before .loop .out) (c .before .before .before .before .loop .h) (c .before .before .before .before .loop .k) (c .before .before .before .before .loop .to) (c .before .before .before .before .loop .from) (c .before .before .before .before .loop .inv) (c .before .before .before .loop-test .left),
-      slicing-unreserved (c .before .before .before .before .before .before .before .before .before .args .t) (c .before .before .before .before .before .before .before .before .before .args .rec .now) (c .before .before .before .before .before .before .before .before .before .args .out .now) (c .before .before .before .before .before .before .before .before .before .args .at) (slicesFrom (c .before .before .before .before .before .before .before .before .before .args .s .width / c .before .before .before .before .before .before .before .before .before .args .t .width - 1) (c .before .before .before .before .before .before .before .before .before .args .t .width) (c .before .before .before .before .before .before .read-header .result) (drop 7 (c .before .before .before .before .before .before .before .before .before .args .rec .now))) (c .before .before .before .before .loop .out) (c .before .before .before .before .loop .h) (c .before .before .before .before .loop .k) (c .before .before .before .before .loop .to) (c .before .before .before .before .loop .from) (c .before .before .before .before .loop .inv),
-      omega arith,
-    )
+    let end = c .before .before .before in
+    let t = end .before in
+    rw (lent t)
+    (entry t .pre .cuts .small, lent-long t, slicing-last-room (t .loop .inv) (end .loop-test .left), slicing-unreserved (t .loop .inv), omega (arith, c .tlast .ensures .1))
+
+-- the last slice, from behind it
+abbrev last-put : tie.After-slice-known3 Inv-loop μ-loop → tie.After-put-at2 Inv-loop μ-loop
+last-put c = c .before .before
+
+abbrev end-of : tie.After-put-at2 Inv-loop μ-loop → tie.After-loop Inv-loop μ-loop
+end-of c = c .before .before .before .before
 
 same-length : tie.Need-same-length Inv-loop μ-loop
-same-length c = c .before .before .put-at2 .kept .0 ∙ c .before .before .before .before .before .before .before .loop .inv .same
+same-length c = last-put c .put-at2 .kept .0 ∙ end-of (last-put c) .before .loop .inv .same
 
 returns : tie.Need-returns Inv-loop μ-loop
-returns c = (
-  c .before .before .put-at2 .ensures .1 ∙ c .before .before .before .before .before .before .before .loop .inv .same,
-  slicing-told (c .before .before .before .before .before .before .before .before .before .before .before .before .args .s) (c .before .before .before .before .before .before .before .before .before .before .before .before .args .t) (c .before .before .before .before .before .before .before .before .before .before .before .before .args .rec .now) (c .before .before .before .before .before .before .before .before .before .read-header .result) (c .before .before .before .before .before .before .before .before .before .before .before .before .pre .0) (c .before .before .before .before .before .before .before .before .before .before .before .before .pre .1) (c .before .before .before .before .before .before .before .before .before .read-header .ensures) (c .before .before .before .before .before .before .before .before .before .before .before .before .args .out .now) (c .before .before .before .before .before .before .before .before .before .before .before .before .args .at) (c .before .before .put-at2 .last .0) (c .before .before .put-at2 .result)
-      (slicing-done (c .before .before .before .before .before .before .before .before .before .before .before .before .args .t) (c .before .before .before .before .before .before .before .before .before .before .before .before .args .rec .now) (c .before .before .before .before .before .before .before .before .before .before .before .before .args .out .now) (c .before .before .before .before .before .before .before .before .before .before .before .before .args .at) (slicesFrom (c .before .before .before .before .before .before .before .before .before .before .before .before .args .s .width / c .before .before .before .before .before .before .before .before .before .before .before .before .args .t .width - 1) (c .before .before .before .before .before .before .before .before .before .before .before .before .args .t .width) (c .before .before .before .before .before .before .before .before .before .read-header .result) (drop 7 (c .before .before .before .before .before .before .before .before .before .before .before .before .args .rec .now))) (c .before .before .before .before .before .before .before .loop .out) (c .before .before .before .before .before .before .before .loop .h) (c .before .before .before .before .before .before .before .loop .k) (c .before .before .before .before .before .before .before .loop .to) (c .before .before .before .before .before .before .before .loop .from) (c .before .before .before .before .before .before .before .loop .inv) (c .before .before .before .before .before .before .loop-test .left) (c .before .before .put-at2 .last .0) (c .before .before .put-at2 .result)
-      (rw (lent-items (c .before .before .before .before .before .before .before .before .before .before .before .before .args .rec .now) (c .before .before .before .before .before .before .before .loop .from), odd-bit (c .before .before .before .before .before .before .before .loop .h .flags)) at (c .before .before .put-at2 .ensures .2))),
-)
+returns c =
+    let p = last-put c .put-at2 in
+    let bit = last-put c .before .tlast in
+    let end = end-of (last-put c) in
+    let t = end .before in
+    let h = t .before .before .read-header in
+    let is : odd (bit .result) ≡ odd (t .loop .h .flags) = ap odd (bit .ensures .1) ∙ odd-low (t .loop .h .flags) in
+    record {
+      same = p .ensures .1 .same ∙ t .loop .inv .same;
+      writes =
+          slicing-told (entry t .pre) (h .result) (h .ensures) (p .last .0) (p .result)
+          (slicing-done (t .loop .inv) (end .loop-test .left) (lanes t) (lent t) (odd (bit .result)) is (p .last .0) (p .result) (p .ensures .1 .writes));
+    }
 
 pub put-slices-spec : {M : Type 1} → statement M
 put-slices-spec =
@@ -127,6 +173,7 @@ put-slices-spec =
     sub-put-at-2
     part-put-at-start-2
     part-put-at-end-2
+    tlast-requires
     cast-put-at
     put-at-requires-2
     same-length
