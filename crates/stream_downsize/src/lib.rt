@@ -114,7 +114,7 @@ fn write_all(s: Shape, v: usize, transfers: &[u8], out: &mut [u8]) -> Written
     requires { ⌜ Tested s v (now transfers) × NoFault s (now transfers) ⌝ }
     ensures { λ r. ⌜ Downsized s v (now (transfers .entry)) (now (out .entry)) (now (out .exit)) r ⌝ }
 {
-    let t = Shape { width: v };
+    let t = stream_record::at_width(s, v);
     let n = transfers.len() / stream_record::record_size(s) * (s.width / v);
     if out.len() < n * stream_record::record_size(t) {
         return Written::Refused(Refusal::Room);
