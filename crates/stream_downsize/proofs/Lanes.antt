@@ -7,8 +7,6 @@ use mathlib.Core.Option.{Option}
 use Prim.Native.Nat.{ℕ, zero, suc, _+_, _*_, _/_, _%_, _^_, _≤_, _<_}
 use native.Mathlib.Nat.{add-zero, add-suc, div-one, div-div-eq-div-mul, pow-suc, pow-succ'}
 use native.Mathlib.Omega.{arith}
-use borrow.Author.Tests.{eqb-true, eqb-false}
-use lib.Dec.{eqb}
 use lib.Arith.{mod-mul}
 use lib.Pow.{pow-pos}
 use lib.ListN.{length, getD, take, drop, length-map}
@@ -17,6 +15,8 @@ use Rattle.stream_spec.specs.declared.Shape.{Shape}
 use Rattle.stream_spec.specs.Packed.{fitted}
 use Rattle.stream_spec.specs.Layout.{size, odd, bitOf, maskOf, LaneType, laneType, laneOf, Kept, typesOf, isReserved, anyReserved, lanesOf, keepBit, strbBit, laneOctet, octetsOf}
 use Rattle.stream_spec.proofs.Bools.{neither}
+use Rattle.stream_spec.proofs.Bits.{odd-number, number-back}
+use Rattle.stream_spec.proofs.Size.{size-is}
 use Rattle.stream_spec.proofs.Pack.{length-fitted}
 use Rattle.stream_record.specs.declared.Header.{Header}
 use Rattle.stream_write.specs.Write.{headerOctets}
@@ -96,16 +96,9 @@ lane-octet true false d e = refl
 lane-octet false true d e = let z : _≡_ {A = ℕ} 0 1 = cc in absurd (omega arith)
 lane-octet false false d e = refl
 
-pub odd-is : (x : ℕ) → bitOf (odd x) ≡ x % 2
-odd-is x = go (eqb (x % 2) 1) refl
-  where
-    go : (b : Bool) → eqb (x % 2) 1 ≡ b → bitOf (eqb (x % 2) 1) ≡ x % 2
-    go true e = rw e (sym (eqb-true (x % 2) 1 e))
-    go false e = rw e (let low : x % 2 ≡ 1 → ⊥ = eqb-false (x % 2) 1 e in omega arith)
-
 low-bits : (x v m : ℕ) → m ≡ x / 2 % 2 ^ v → bitOf (odd x) + 2 * m ≡ x % 2 ^ suc v
 low-bits x v m e =
-    rw (odd-is x, pow-suc 2 v) (omega (arith, e, mod-mul x {m = 2 ^ v} {c = 2} (pow-pos v) (omega arith)))
+    rw (odd-number x, pow-suc 2 v) (omega (arith, e, mod-mul x {m = 2 ^ v} {c = 2} (pow-pos v) (omega arith)))
 
 -- ---- the masks of the lowest lanes
 
@@ -166,24 +159,21 @@ module _ (v : ℕ) (h : Header) (ds : List ℕ) where
       let next : suc i ≡ j = omega arith in
       sym (drop-cons dataIn i 0 (rw data-long (omega arith)) ∙ rw (next, lane-at v i (h .keep) (h .strb) ds (omega arith) u, f) refl)
 
-last-is : (last : ℕ) → last ≤ 1 → bitOf (odd last) ≡ last
-last-is last h = odd-is last ∙ omega arith
-
 -- data octets, then the header: the slice
 pub slice-written : (t : Shape) (h : Header) (ds out out1 out2 : List ℕ) (last keep strb : ℕ) → size t ≤ length out → Unreserved (t .width) h → last ≤ 1
     → keep ≡ h .keep % 2 ^ t .width → strb ≡ h .strb % 2 ^ t .width
     → out1 ≡ take 7 out ++ (dataIn (t .width) h ds ++ drop (7 + t .width) out)
     → out2 ≡ headerOctets last (h .tid) (h .tdest) keep strb ++ drop 7 out1
     → out2 ≡ octetsOf (sliceOf (t .width) h ds (odd last)) ++ drop (size t) out
-unfolding size
 slice-written t h ds out out1 out2 last keep strb l u b ke se e f =
     f
     ∙ ap (λ (o : List ℕ). headerOctets last (h .tid) (h .tdest) keep strb ++ o)
-    (ap (drop 7) e ∙ drop-at (take 7 out) (dataIn (t .width) h ds ++ drop (7 + t .width) out) 7 (length-take-le 7 out (omega arith)))
+    (ap (drop 7) e ∙ drop-at (take 7 out) (dataIn (t .width) h ds ++ drop (7 + t .width) out) 7 (length-take-le 7 out (omega (arith, size-is t))))
     ∙ rw (
+      size-is t,
       ke,
       se,
-      last-is last b,
+      number-back last b,
       keep-low (t .width) (h .keep) (h .strb) ds,
       strb-low (t .width) (h .keep) (h .strb) ds u,
     ) refl
