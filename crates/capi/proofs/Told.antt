@@ -1,7 +1,9 @@
 -- What C is told of a burst's and of a stream's answer: the numbers that its definition shows. Assumes nothing.
 use mathlib.Core.Path.{_≡_, sym, ap, _∙_, subst}
+use mathlib.Core.List.{List}
 use Prim.Native.Nat.{ℕ}
 use lib.IntN.{ℤ, pos, negsuc}
+use lib.ListN.{length}
 use lib.Signed.{_≤ℤ_}
 use lib.Dec.{leb→le}
 use mir.Syntax.{w32}
@@ -13,10 +15,12 @@ use Rattle.burst_spec.specs.Answers.{stepAnswer}
 use Rattle.burst_spec.specs.Answers as burst
 use Rattle.burst_spec.proofs.Answers.{answered-step}
 use Rattle.burst_spec.proofs.Step.{step-in-range}
-use Rattle.stream_spec.specs.Answers.{Values, values}
+use Rattle.stream_spec.specs.declared.Shape.{Shape}
+use Rattle.stream_spec.specs.Answers.{Values, values, lookupValues, dataAnswer, dataStart, dataPart}
 use Rattle.capi.specs.declared.burst_calls.BurstAnswer.{BurstAnswer}
+use Rattle.capi.specs.declared.stream_calls.PartAnswer.{PartAnswer}
 use Rattle.capi.specs.declared.stream_calls.StreamAnswer.{StreamAnswer}
-use Rattle.capi.specs.Shows.{ShowsBurst, ShowsStream}
+use Rattle.capi.specs.Shows.{ShowsBurst, ShowsStream, ShowsPart}
 
 -- ---- bursts
 
@@ -47,3 +51,8 @@ shown valuesOf a e h = subst (λ z. ShowsStream a (valuesOf z)) (sym e) h
 pub numbers : (a : StreamAnswer) {refusal place rule count : ℕ}
     → (a .refusal ≡ refusal) × (a .rule ≡ rule) × (a .place ≡ place) × (a .count ≡ count) → ShowsStream a (values refusal place rule count)
 numbers a e = record { refusal = e .0; rule = e .1; place = e .2; count = e .3 }
+
+-- the three numbers of a part
+pub part-shown : {a : PartAnswer} {s : Shape} {capture : List ℕ} {k : ℕ} → a .refusal ≡ lookupValues (dataAnswer s capture k) .refusal
+    → a .start ≡ dataStart s capture k → a .length ≡ length (dataPart s capture k) → ShowsPart a s capture k
+part-shown refusal start octets = record { refusal = refusal; start = start; octets = octets }

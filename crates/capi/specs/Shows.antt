@@ -6,7 +6,6 @@ use Prim.Native.Nat.{ℕ}
 use lib.ListN.{length}
 use Rattle.burst_spec.specs.Answers as burst
 use Rattle.stream_spec.specs.declared.Shape.{Shape}
-use Rattle.stream_spec.specs.Layout.{ofWidth}
 use Rattle.stream_spec.specs.Answers.{Values, lookupValues, dataAnswer, dataStart, dataPart}
 use Rattle.capi.specs.declared.stream_calls.PartAnswer.{PartAnswer}
 use Rattle.capi.specs.declared.stream_calls.StreamAnswer.{StreamAnswer}
@@ -25,10 +24,6 @@ pub record ShowsStream (a : StreamAnswer) (values : Values) : Type 0 where
   pub place : a .place ≡ values .place
   pub rule : a .rule ≡ values .rule
   pub count : a .count ≡ values .count
-
--- the shape of records of this width
-abbrev pub shape : ℕ → Shape
-shape width = ofWidth width
 
 -- A refusal of data octets has place and rule 0, so the struct has no field for them.
 pub record ShowsPart (a : PartAnswer) (s : Shape) (capture : List ℕ) (k : ℕ) : Type 0 where

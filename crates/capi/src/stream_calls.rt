@@ -1,14 +1,15 @@
 // The stream calls as C functions.
 use refusal::Refusal;
+use stream_record::shape_of;
 use stream_spec::Lookup;
-use stream_spec::Shape;
 use stream_spec::Verdict;
 use stream_spec::Written;
 ghost use mathlib.Core.Path.{_≡_};
 ghost use lib.ListN.{length};
 ghost use Rattle.stream_spec.specs.Handshake.{baseLevel};
+ghost use Rattle.stream_spec.specs.Layout.{ofWidth};
 ghost use Rattle.stream_spec.specs.Answers.{refusalValues, verdictValues, writtenValues, lookupValues, judgeAnswer, harvestAnswer, harvestAfter, fillAnswer, fillAfter, repackAnswer, repackAfter, downsizeAnswer, downsizeAfter};
-ghost use Rattle.capi.specs.Shows.{ShowsStream, ShowsPart, shape};
+ghost use Rattle.capi.specs.Shows.{ShowsStream, ShowsPart};
 
 // What a stream call answers: the refusal's number, or 0; its place, or the broken cycle; the rule; the count of transfers
 // or records. What it has not is 0.
@@ -60,45 +61,45 @@ fn of_verdict(v: Verdict) -> StreamAnswer
 // Judges a take of cycle records.
 #[no_mangle]
 pub extern "C" fn urd_judge(width: usize, capture: &[u8]) -> StreamAnswer
-    ensures { λ a. ⌜ ShowsStream a (verdictValues (judgeAnswer (shape width) (now (capture .entry)))) ⌝ }
+    ensures { λ a. ⌜ ShowsStream a (verdictValues (judgeAnswer (ofWidth width) (now (capture .entry)))) ⌝ }
 {
-    of_verdict(stream_judge::judge(Shape { width }, capture))
+    of_verdict(stream_judge::judge(shape_of(width), capture))
 }
 
 // Writes the transfers of a clean take of cycle records into a lent output.
 #[no_mangle]
 pub extern "C" fn urd_harvest(width: usize, capture: &[u8], out: &mut [u8]) -> StreamAnswer
-    ensures { λ a. ⌜ ShowsStream a (writtenValues (harvestAnswer (shape width) (now (capture .entry)) (length (now (out .entry))))) ⌝ }
-    ensures { λ a. ⌜ now (out .exit) ≡ harvestAfter (shape width) (now (capture .entry)) (now (out .entry)) ⌝ }
+    ensures { λ a. ⌜ ShowsStream a (writtenValues (harvestAnswer (ofWidth width) (now (capture .entry)) (length (now (out .entry))))) ⌝ }
+    ensures { λ a. ⌜ now (out .exit) ≡ harvestAfter (ofWidth width) (now (capture .entry)) (now (out .entry)) ⌝ }
 {
-    of_written(stream_harvest::harvest(Shape { width }, capture, out))
+    of_written(stream_harvest::harvest(shape_of(width), capture, out))
 }
 
 // Clears TLAST in a lent take.
 #[no_mangle]
 pub extern "C" fn urd_fill_in(width: usize, capture: &mut [u8]) -> StreamAnswer
-    ensures { λ a. ⌜ ShowsStream a (writtenValues (fillAnswer (shape width) (now (capture .entry)))) ⌝ }
-    ensures { λ a. ⌜ now (capture .exit) ≡ fillAfter baseLevel (shape width) (now (capture .entry)) ⌝ }
+    ensures { λ a. ⌜ ShowsStream a (writtenValues (fillAnswer (ofWidth width) (now (capture .entry)))) ⌝ }
+    ensures { λ a. ⌜ now (capture .exit) ≡ fillAfter baseLevel (ofWidth width) (now (capture .entry)) ⌝ }
 {
-    of_written(stream_fill_in::fill_in(Shape { width }, capture))
+    of_written(stream_fill_in::fill_in(shape_of(width), capture))
 }
 
 // Repacks a take of transfer records to width v into a lent output.
 #[no_mangle]
 pub extern "C" fn urd_repack(width: usize, v: usize, input: &[u8], out: &mut [u8]) -> StreamAnswer
-    ensures { λ a. ⌜ ShowsStream a (writtenValues (repackAnswer (shape width) v (now (input .entry)) (length (now (out .entry))))) ⌝ }
-    ensures { λ a. ⌜ now (out .exit) ≡ repackAfter (shape width) v (now (input .entry)) (now (out .entry)) ⌝ }
+    ensures { λ a. ⌜ ShowsStream a (writtenValues (repackAnswer (ofWidth width) v (now (input .entry)) (length (now (out .entry))))) ⌝ }
+    ensures { λ a. ⌜ now (out .exit) ≡ repackAfter (ofWidth width) v (now (input .entry)) (now (out .entry)) ⌝ }
 {
-    of_written(stream_repack::repack(Shape { width }, v, input, out))
+    of_written(stream_repack::repack(shape_of(width), v, input, out))
 }
 
 // Slices a take of transfer records to width v, lane by lane, into a lent output.
 #[no_mangle]
 pub extern "C" fn urd_downsize(width: usize, v: usize, input: &[u8], out: &mut [u8]) -> StreamAnswer
-    ensures { λ a. ⌜ ShowsStream a (writtenValues (downsizeAnswer (shape width) v (now (input .entry)) (length (now (out .entry))))) ⌝ }
-    ensures { λ a. ⌜ now (out .exit) ≡ downsizeAfter (shape width) v (now (input .entry)) (now (out .entry)) ⌝ }
+    ensures { λ a. ⌜ ShowsStream a (writtenValues (downsizeAnswer (ofWidth width) v (now (input .entry)) (length (now (out .entry))))) ⌝ }
+    ensures { λ a. ⌜ now (out .exit) ≡ downsizeAfter (ofWidth width) v (now (input .entry)) (now (out .entry)) ⌝ }
 {
-    of_written(stream_downsize::downsize(Shape { width }, v, input, out))
+    of_written(stream_downsize::downsize(shape_of(width), v, input, out))
 }
 
 // Where the data octets of a record stand in a take: the refusal's number, or 0 with their offset and their number.
@@ -124,9 +125,9 @@ fn number_of(l: Lookup) -> u32
 // The data octets of record k of a take.
 #[no_mangle]
 pub extern "C" fn urd_data_octets(width: usize, capture: &[u8], k: usize) -> PartAnswer
-    ensures { λ a. ⌜ ShowsPart a (shape width) (now (capture .entry)) k ⌝ }
+    ensures { λ a. ⌜ ShowsPart a (ofWidth width) (now (capture .entry)) k ⌝ }
 {
-    let s = Shape { width };
+    let s = shape_of(width);
     let octets = stream_data::data_octets(s, capture, k);
     PartAnswer {
         refusal: number_of(stream_data::find_data(s, capture, k)),

@@ -6,6 +6,9 @@ use borrow.Author.Needs.{needs}
 use Rattle.capi.proofs.stream_calls.urd_downsize.Statement.{statement}
 use Rattle.capi.proofs.stream_calls.urd_downsize.Tie as tie
 
+shape-of-requires : tie.Need-shape-of-requires
+shape-of-requires c κs = search needs
+
 downsize-requires : tie.Need-downsize-requires
 downsize-requires c κs = search needs
 
@@ -16,10 +19,10 @@ same-length : tie.Need-same-length
 same-length c = search needs
 
 returns : tie.Need-returns
-returns c = (
-  shown writtenValues (c .of-written .result) (sym (c .before .before .before .downsize .ensures .is)) (c .of-written .ensures),
-  c .before .before .before .downsize .ensures .leaves,
-)
+returns c =
+    let d = c .before .before .before in
+    let h = rw (d .before .before .shape-of .ensures) at (d .downsize .ensures) in
+    (shown writtenValues (c .of-written .result) (sym (h .is)) (c .of-written .ensures), h .leaves)
 
 pub urd-downsize-spec : {M : Type 1} → statement M
-urd-downsize-spec = tie.close (tie.spec downsize-requires of-written-requires same-length returns)
+urd-downsize-spec = tie.close (tie.spec shape-of-requires downsize-requires of-written-requires same-length returns)

@@ -6,6 +6,9 @@ use borrow.Author.Needs.{needs}
 use Rattle.capi.proofs.stream_calls.urd_fill_in.Statement.{statement}
 use Rattle.capi.proofs.stream_calls.urd_fill_in.Tie as tie
 
+shape-of-requires : tie.Need-shape-of-requires
+shape-of-requires c κs = search needs
+
 fill-in-requires : tie.Need-fill-in-requires
 fill-in-requires c κs = search needs
 
@@ -16,10 +19,10 @@ same-length : tie.Need-same-length
 same-length c = search needs
 
 returns : tie.Need-returns
-returns c = (
-  shown writtenValues (c .of-written .result) (sym (c .before .before .before .fill-in .ensures .is)) (c .of-written .ensures),
-  c .before .before .before .fill-in .ensures .leaves,
-)
+returns c =
+    let d = c .before .before .before in
+    let h = rw (d .before .before .shape-of .ensures) at (d .fill-in .ensures) in
+    (shown writtenValues (c .of-written .result) (sym (h .is)) (c .of-written .ensures), h .leaves)
 
 pub urd-fill-in-spec : {M : Type 1} → statement M
-urd-fill-in-spec = tie.close (tie.spec fill-in-requires of-written-requires same-length returns)
+urd-fill-in-spec = tie.close (tie.spec shape-of-requires fill-in-requires of-written-requires same-length returns)

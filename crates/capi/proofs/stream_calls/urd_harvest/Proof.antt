@@ -6,6 +6,9 @@ use borrow.Author.Needs.{needs}
 use Rattle.capi.proofs.stream_calls.urd_harvest.Statement.{statement}
 use Rattle.capi.proofs.stream_calls.urd_harvest.Tie as tie
 
+shape-of-requires : tie.Need-shape-of-requires
+shape-of-requires c κs = search needs
+
 harvest-requires : tie.Need-harvest-requires
 harvest-requires c κs = search needs
 
@@ -16,10 +19,10 @@ same-length : tie.Need-same-length
 same-length c = search needs
 
 returns : tie.Need-returns
-returns c = (
-  shown writtenValues (c .of-written .result) (sym (c .before .before .before .harvest .ensures .is)) (c .of-written .ensures),
-  c .before .before .before .harvest .ensures .leaves,
-)
+returns c =
+    let d = c .before .before .before in
+    let h = rw (d .before .before .shape-of .ensures) at (d .harvest .ensures) in
+    (shown writtenValues (c .of-written .result) (sym (h .is)) (c .of-written .ensures), h .leaves)
 
 pub urd-harvest-spec : {M : Type 1} → statement M
-urd-harvest-spec = tie.close (tie.spec harvest-requires of-written-requires same-length returns)
+urd-harvest-spec = tie.close (tie.spec shape-of-requires harvest-requires of-written-requires same-length returns)

@@ -6,6 +6,9 @@ use borrow.Author.Needs.{needs}
 use Rattle.capi.proofs.stream_calls.urd_repack.Statement.{statement}
 use Rattle.capi.proofs.stream_calls.urd_repack.Tie as tie
 
+shape-of-requires : tie.Need-shape-of-requires
+shape-of-requires c κs = search needs
+
 repack-requires : tie.Need-repack-requires
 repack-requires c κs = search needs
 
@@ -16,10 +19,10 @@ same-length : tie.Need-same-length
 same-length c = search needs
 
 returns : tie.Need-returns
-returns c = (
-  shown writtenValues (c .of-written .result) (sym (c .before .before .before .repack .ensures .is)) (c .of-written .ensures),
-  c .before .before .before .repack .ensures .leaves,
-)
+returns c =
+    let d = c .before .before .before in
+    let h = rw (d .before .before .shape-of .ensures) at (d .repack .ensures) in
+    (shown writtenValues (c .of-written .result) (sym (h .is)) (c .of-written .ensures), h .leaves)
 
 pub urd-repack-spec : {M : Type 1} → statement M
-urd-repack-spec = tie.close (tie.spec repack-requires of-written-requires same-length returns)
+urd-repack-spec = tie.close (tie.spec shape-of-requires repack-requires of-written-requires same-length returns)
