@@ -1,6 +1,2 @@
-pub mod Lanes
-pub mod Memory
-pub mod Stretches
-pub mod Fulls
+pub mod Tables
 pub mod Answer
-pub mod Near

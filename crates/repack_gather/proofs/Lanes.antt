@@ -1,24 +1,25 @@
--- A record's kept lanes where each is data: some, and more behind them; all in bulk; one after the other, where what is left
+-- A record's kept lanes where each is data: all in bulk; one after the other, where what is left
 -- to keep gets shorter as the octets get more. Assumes nothing.
 use mathlib.Core.Path.{_≡_, refl, sym, ap, _∙_}
-use mathlib.Core.Bool.{Bool, true, false, cond}
+use mathlib.Core.Bool.{Bool, true, false}
 use mathlib.Core.List.{List, [], _∷_, _++_, map, append-assoc, append-nil}
-use Prim.Native.Nat.{ℕ, zero, suc, _+_, _-_, _*_, _/_, _%_, _^_, _≤_, _<_}
+use Prim.Native.Nat.{ℕ, zero, suc, _+_, _-_, _/_, _%_, _^_, _≤_, _<_}
 use native.Mathlib.Nat.{pow-suc, add-zero}
 use native.Mathlib.Numerals.{add-one}
 use native.Mathlib.Omega.{arith}
 use borrow.Author.Tests.{eqb-true, eqb-false}
-use lib.Pow.{pow-pos, mod-pow-add, shr-shr}
-use lib.ListN.{length-drop, length, getD, take, drop, set, length-append, length-set}
-use lib.Seq.{take-all, take-suc-set, take-set-le, getD-drop, drop-drop, length-take-le, take-append-add, take-append-le}
+use lib.Pow.{pow-pos}
+use lib.ListN.{length, getD, take, drop, set, length-set}
+use lib.Seq.{take-suc-set, take-set-le, getD-drop, drop-drop}
 use Rattle.stream_spec.specs.Layout.{odd}
 use Rattle.words.specs.Splice.{splice}
 use Rattle.words.specs.Words.{padded}
-use Rattle.words.proofs.Splice.{splice-long}
 use Rattle.words.proofs.Words.{length-padded, take-padded}
 use Rattle.repack_scratch.specs.Codes.{dataCode, heldCodes, sifted}
 use Rattle.repack_scratch.proofs.Held.{length-held, held-more}
-use Rattle.repack_gather.specs.Gather.{keptOctet, keptOctets, Collected, Gathered, Clear}
+use Rattle.repack_sieve.specs.Kept.{keptOctet, keptOctets, Collected}
+use Rattle.repack_sieve.proofs.Kept.{kept-split, collected-as, stored-kept}
+use Rattle.repack_gather.specs.Gather.{Gathered, Clear}
 
 -- ---- one lane
 
@@ -40,51 +41,7 @@ lane-kept o n x k h =
         let bit : k % 2 ≡ 0 = omega arith in
         rw (bit, add-zero n, take-set-le n o n x (omega arith)) (sym (append-nil (take n o)))
 
--- ---- what a mask keeps
-
-kept-few : (w k : ℕ) (ds : List ℕ) → length (keptOctets w k ds) ≤ w
-kept-few zero k ds = omega arith
-kept-few (suc w) k ds =
-    rw (length-append (keptOctet k (getD ds 0 0)) (keptOctets w (k / 2) (drop 1 ds)))
-    (omega (arith, kept-few w (k / 2) (drop 1 ds), one (odd k)))
-  where
-    one : (b : Bool) → length (cond b (getD ds 0 0 ∷ []) []) ≤ 1
-    one true = omega arith
-    one false = omega arith
-
--- some lanes, and those behind them
-pub kept-split : (a b k : ℕ) (ds : List ℕ) → keptOctets (a + b) k ds ≡ keptOctets a k ds ++ keptOctets b (k / 2 ^ a) (drop a ds)
-kept-split zero b k ds =
-    let none : 0 + b ≡ b = omega arith in
-    let all : k / 2 ^ 0 ≡ k = omega arith in
-    rw (none, all) refl
-kept-split (suc a) b k ds =
-    let one : suc a + b ≡ suc (a + b) = omega arith in
-    let past : suc a ≡ 1 + a = omega arith in
-    let rest : k / 2 / 2 ^ a ≡ k / 2 ^ (1 + a) = shr-shr k 1 a in
-    rw one
-    (ap (λ (l : List ℕ). keptOctet k (getD ds 0 0) ++ l) (kept-split a b (k / 2) (drop 1 ds) ∙ rw (rest, drop-drop a 1 ds, ← past) refl)
-    ∙ sym (append-assoc (keptOctet k (getD ds 0 0)) (keptOctets a (k / 2) (drop 1 ds)) (keptOctets b (k / 2 ^ suc a) (drop (suc a) ds))))
-
--- only the bits of these lanes count
-pub kept-bits : (w k : ℕ) (ds : List ℕ) → keptOctets w (k % 2 ^ w) ds ≡ keptOctets w k ds
-kept-bits zero k ds = refl
-kept-bits (suc w) k ds =
-    let more : suc w ≡ w + 1 = omega arith in
-    let split : k % 2 ^ (w + 1) ≡ (k / 2 % 2 ^ w) * 2 + k % 2 = mod-pow-add k w 1 in
-    let low : ((k / 2 % 2 ^ w) * 2 + k % 2) % 2 ≡ k % 2 = omega arith in
-    let high : ((k / 2 % 2 ^ w) * 2 + k % 2) / 2 ≡ k / 2 % 2 ^ w = omega arith in
-    rw (more, split, low, high, kept-bits w (k / 2) (drop 1 ds)) refl
-
--- lanes that are filled up with zeros
-pub kept-padded : (v w k : ℕ) (ds : List ℕ) → w ≤ v → k < 2 ^ w → keptOctets v k (padded v w ds) ≡ keptOctets w k ds
-kept-padded zero zero k ds h l = refl
-kept-padded zero (suc w) k ds h l = absurd (omega arith)
-kept-padded (suc v) zero k ds h l =
-    let none : k ≡ 0 = omega arith in
-    rw none (kept-padded v zero 0 (drop 1 ds) (omega arith) (omega arith))
-kept-padded (suc v) (suc w) k ds h l =
-    ap (λ (r : List ℕ). keptOctet k (getD ds 0 0) ++ r) (kept-padded v w (k / 2) (drop 1 ds) (omega arith) (omega (arith, pow-suc 2 w)))
+-- ---- all lanes
 
 -- a mask of all ones keeps every lane
 kept-full : (w : ℕ) (ds : List ℕ) → keptOctets w (2 ^ w - 1) ds ≡ padded w w ds
@@ -93,47 +50,6 @@ kept-full (suc w) ds =
     let low : (2 ^ suc w - 1) % 2 ≡ 1 = omega (arith, pow-suc 2 w, pow-pos w) in
     let high : (2 ^ suc w - 1) / 2 ≡ 2 ^ w - 1 = omega (arith, pow-suc 2 w, pow-pos w) in
     rw (low, high) (ap {B = List ℕ} (λ l. getD ds 0 0 ∷ l) (kept-full w (drop 1 ds)))
-
--- ---- what is collected
-
-module _ (c keep at r : ℕ) (ds o after : List ℕ) (same : length after ≡ length o) (beyond : at ≤ r) (room : r ≤ length o)
-    (is : take r after ≡ take at o ++ keptOctets c keep ds) where
-  collected : Collected c keep ds o at after r
-  collected =
-      let long : r ≡ at + length (keptOctets c keep ds) =
-      sym (length-take-le r after (omega arith))
-      ∙ ap length is
-      ∙ length-append (take at o) (keptOctets c keep ds)
-      ∙ ap (λ (n : ℕ). n + length (keptOctets c keep ds)) (length-take-le at o (omega arith)) in
-      record { same = same; beyond = beyond; within = omega (arith, long, kept-few c keep ds); is = is }
-
--- the same octets, told otherwise
-pub collected-as : (a c k keep at r : ℕ) (xs ds o after : List ℕ) → at + a ≤ length o → keptOctets c keep ds ≡ keptOctets a k xs
-    → Collected a k xs o at after r → Collected c keep ds o at after r
-collected-as a c k keep at r xs ds o after h e f =
-    collected c keep at r ds o after (f .same) (f .beyond) (omega (arith, f .within)) (f .is ∙ rw e refl)
-
--- some, and more behind them
-pub collected-on : (a b c k k' keep at n r : ℕ) (xs ys ds o o1 o2 : List ℕ) → at + a + b ≤ length o
-    → keptOctets c keep ds ≡ keptOctets a k xs ++ keptOctets b k' ys → Collected a k xs o at o1 n → Collected b k' ys o1 n o2 r
-    → Collected c keep ds o at o2 r
-collected-on a b c k k' keep at n r xs ys ds o o1 o2 h e f g =
-    collected c keep at r ds o o2 (g .same ∙ f .same) (omega (arith, f .beyond, g .beyond)) (omega (arith, f .within, g .within))
-    (g .is ∙ rw (f .is, e) (append-assoc (take at o) (keptOctets a k xs) (keptOctets b k' ys)))
-
--- the first n of some octets that were stored
-pub stored-kept : (c keep at n : ℕ) (ds xs o after : List ℕ) → at + length xs ≤ length o → n ≤ length xs → take n xs ≡ keptOctets c keep ds
-    → after ≡ splice at xs o → Collected c keep ds o at after (at + n)
-stored-kept c keep at n ds xs o after h l k e =
-    let before : length (take at o) ≡ at = length-take-le at o (omega arith) in
-    let before : take (at + n) (splice at xs o) ≡ take at o ++ take n (xs ++ drop (at + length xs) o) =
-    rw before at (take-append-add (take at o) (xs ++ drop (at + length xs) o) n) in
-    collected c keep at (at + n) ds o after (ap length e ∙ splice-long at xs o h) (omega arith) (omega arith)
-    (ap (take (at + n)) e ∙ before ∙ rw (take-append-le n xs (drop (at + length xs) o) l, k) refl)
-
--- a part of a take up to its end
-pub part-rest : (from : ℕ) (input : List ℕ) → take (length input - from) (drop from input) ≡ drop from input
-part-rest from input = take-all (length input - from) (drop from input) (omega (arith, length-drop from input))
 
 -- a row of which as many octets are wanted as there are, or more
 padded-enough : (k n : ℕ) (xs : List ℕ) → k ≤ n → padded k n xs ≡ padded k k xs

@@ -1,16 +1,16 @@
 // The kept lanes of one record as held items, behind the items that are there: an octet each, and a mark where it is a
-// position item. Null lanes are closed up in sieve.rt. Which records are read, and when, is not here. Helpers for
+// position item. Null lanes are closed up by repack_sieve. Which records are read, and when, is not here. Helpers for
 // repack_parse, which has made room for the lanes.
-mod sieve;
-
-pub use sieve::make_sieve;
+use repack_scratch::Lanes;
 ghost use mathlib.Core.Path.{_≡_};
 ghost use mathlib.Core.List.{[], _∷_};
 ghost use Prim.Native.Nat.{_+_, _-_, _*_, _/_, _%_, _^_, _≤_, _<_};
 ghost use lib.ListN.{length, getD, drop, set};
 ghost use Rattle.repack_scratch.specs.Codes.{markBits};
-ghost use Rattle.repack_gather.specs.Gather.{Collected, Clear, Marks};
-ghost use Rattle.repack_gather.specs.Sieve.{sieveRows};
+ghost use Rattle.repack_scratch.specs.Lanes.{Wide};
+ghost use Rattle.repack_sieve.specs.Kept.{Collected};
+ghost use Rattle.repack_sieve.specs.Sieve.{sieveRows};
+ghost use Rattle.repack_gather.specs.Gather.{Clear, Marks};
 
 // One lane, at place n. Where TKEEP's lowest bit is 0 the place stays, and the next lane is stored over this one.
 fn keep_lane(octets: &mut [u8], n: usize, lane: u8, keep: u32) -> usize
@@ -52,39 +52,39 @@ pub fn gather_lanes(octets: &mut [u8], at: usize, lanes: &[u8], keep: u32, full:
 
 // All of the w lanes at place `from` of a take. Sixteen octets are moved where the take has them: what stands behind the
 // lanes is written over by the next record's.
-fn gather_all(octets: &mut [u8], at: usize, input: &[u8], from: usize, w: usize) -> usize
-    requires { ⌜ (1 ≤ w) × (w ≤ 16) × (from + w ≤ length (now input)) × (at + 16 ≤ length (now octets)) ⌝ }
-    ensures { λ r. ⌜ Collected w (2 ^ w - 1) (drop from (now (input .entry))) (now (octets .entry)) at (now (octets .exit)) r ⌝ }
+fn gather_all(octets: &mut [u8], at: usize, transfers: &[u8], from: usize, w: usize) -> usize
+    requires { ⌜ (1 ≤ w) × (w ≤ 16) × (from + w ≤ length (now transfers)) × (at + 16 ≤ length (now octets)) ⌝ }
+    ensures { λ r. ⌜ Collected w (2 ^ w - 1) (drop from (now (transfers .entry))) (now (octets .entry)) at (now (octets .exit)) r ⌝ }
 {
-    if from + 16 <= input.len() {
-        words::place(octets, at, &input[from..], 16, 16);
+    if from + 16 <= transfers.len() {
+        words::place(octets, at, &transfers[from..], 16, 16);
         return at + w;
     }
-    words::place(octets, at, &input[from..], w, w);
+    words::place(octets, at, &transfers[from..], w, w);
     at + w
 }
 
-// The same for the w lanes at place `from` of a take, fast: null lanes are closed up by the sieve, four or eight at a time.
+// The kept ones of the lanes at place `from` of a take, fast: null lanes are closed up by the sieve, four or eight at a time.
 pub fn gather(
     octets: &mut [u8],
     at: usize,
-    input: &[u8],
+    transfers: &[u8],
     from: usize,
-    w: usize,
+    lanes: Lanes,
     keep: u32,
-    full: u32,
     sieve: &[u64],
 ) -> usize
-    requires { ⌜ (1 ≤ w) × (w ≤ 16) × (7 ≤ from) × (from + w ≤ length (now input)) × (at + 16 ≤ length (now octets)) × (full ≡ 2 ^ w - 1) × (keep ≤ full) × (now sieve ≡ sieveRows) ⌝ }
-    ensures { λ r. ⌜ Collected w keep (drop from (now (input .entry))) (now (octets .entry)) at (now (octets .exit)) r ⌝ }
+    requires { ⌜ Wide lanes × (keep ≤ lanes .full) × (7 ≤ from) × (from + lanes .width ≤ length (now transfers)) ⌝ }
+    requires { ⌜ (at + 16 ≤ length (now octets)) × (now sieve ≡ sieveRows) ⌝ }
+    ensures { λ r. ⌜ Collected (lanes .width) keep (drop from (now (transfers .entry))) (now (octets .entry)) at (now (octets .exit)) r ⌝ }
 {
-    if w == 1 {
-        return keep_lane(octets, at, input[from], keep);
+    if lanes.width == 1 {
+        return keep_lane(octets, at, transfers[from], keep);
     }
-    if keep == full {
-        return gather_all(octets, at, input, from, w);
+    if keep == lanes.full {
+        return gather_all(octets, at, transfers, from, lanes.width);
     }
-    sieve::sift(octets, at, input, from, w, keep, sieve)
+    repack_sieve::sift(octets, at, transfers, from, lanes.width, keep, sieve)
 }
 
 // An octet of marks with mark m at place i, where none stands.
@@ -105,7 +105,9 @@ fn keep_marked(
     strb: u32,
 ) -> usize
     requires { ⌜ (n < length (now octets)) × (n < 8 * length (now marks)) × (getD (markBits (now marks)) n 0 ≡ 0) ⌝ }
-    ensures { λ r. ⌜ (r ≡ n + keep % 2) × (now (octets .exit) ≡ set (now (octets .entry)) n lane) × (markBits (now (marks .exit)) ≡ set (markBits (now (marks .entry))) n ((1 - strb % 2) * (keep % 2))) ⌝ }
+    ensures { λ r. ⌜ r ≡ n + keep % 2 ⌝ }
+    ensures { λ _. ⌜ now (octets .exit) ≡ set (now (octets .entry)) n lane ⌝ }
+    ensures { λ _. ⌜ markBits (now (marks .exit)) ≡ set (markBits (now (marks .entry))) n ((1 - strb % 2) * (keep % 2)) ⌝ }
 {
     octets[n] = lane;
     let q = n / 8;

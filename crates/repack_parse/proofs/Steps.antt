@@ -15,7 +15,7 @@ use Rattle.repack_scratch.specs.Codes.{keptOf, pairFrom, entryOf, stretchesOf, 
 use Rattle.repack_scratch.specs.Stands.{closedAt, pairedAt, Stands}
 use Rattle.repack_scratch.proofs.Codes.{stretches-more}
 use Rattle.repack_scratch.proofs.Stands.{opened, made, close-stands, turn-stands, all-closed, pairs-differ, cut-apart, cut-last}
-use Rattle.repack_parse.specs.Read.{Turned, Ended, Finished}
+use Rattle.repack_parse.specs.Read.{Closable, Turned, Ended, Finished}
 
 -- ---- closing
 
@@ -23,7 +23,7 @@ use Rattle.repack_parse.specs.Read.{Turned, Ended, Finished}
 listed : (table : List ℕ) (m e : ℕ) → m < length table → take (m + 1) (set table m e) ≡ take m table ++ e ∷ []
 listed table m e h = rw (add-one m) (take-suc-set table m e h)
 
-module _ (table : List ℕ) (st : Open) (s : st .start ≤ st .items) (b : st .items < 65536) (m : st .closed < length table) where
+module _ (table : List ℕ) (st : Open) (c : Closable st table) where
   abbrev entry : ℕ → ℕ
   entry last = entryOf (st .items - st .start) last (st .pair)
 
@@ -32,12 +32,12 @@ module _ (table : List ℕ) (st : Open) (s : st .start ≤ st .items) (b : st .i
       → Stands codes (take (st .closed) table) st rest all
       → Stands codes (take (st .closed + 1) (set table (st .closed) (entry last))) (closedAt st pair) rest' all
   closed-stands codes rest rest' all last pair l e h =
-      rw (listed table (st .closed) (entry last) m)
-      (close-stands codes (take (st .closed) table) st all rest rest' last pair l s b e h)
+      rw (listed table (st .closed) (entry last) (c .lists))
+      (close-stands codes (take (st .closed) table) st all rest rest' last pair l (c .started) (c .small) e h)
 
   -- some bytes are open
   some-open : (codes : List ℕ) → (st .start ≡ st .items → ⊥) → length codes ≡ st .items → 0 < length (opened st codes)
-  some-open codes n e = rw (length-map (drop (st .start) codes) keptOf, length-drop (st .start) codes) (omega arith)
+  some-open codes n e = rw (length-map (drop (st .start) codes) keptOf, length-drop (st .start) codes) (omega (arith, c .started))
 
   -- ---- turning to another pair
 
@@ -107,11 +107,10 @@ finished items table st all e h =
       h .started ∙ e,
     )
 
-pub finish-close : (items table : List ℕ) (st : Open) (all : List (Stretch Kept)) (s : st .start ≤ st .items) (b : st .items < 65536)
-    (m : st .closed < length table) → (st .start ≡ st .items → ⊥) → Stands (take (st .items) items) (take (st .closed) table) st [] all
+pub finish-close : (items table : List ℕ) (st : Open) (all : List (Stretch Kept)) (c : Closable st table) → (st .start ≡ st .items → ⊥) → Stands (take (st .items) items) (take (st .closed) table) st [] all
     → Finished (st .closed + 1) items (set table (st .closed) (entryOf (st .items - st .start) 0 (st .pair))) all
     × (total (take (st .closed + 1) (set table (st .closed) (entryOf (st .items - st .start) 0 (st .pair)))) ≡ st .items)
-finish-close items table st all s b m n h =
+finish-close items table st all c n h =
     finished items (set table (st .closed) (entryOf (st .items - st .start) 0 (st .pair))) (closedAt st (st .pair)) all refl
-    (closed-stands table st s b m (take (st .items) items) [] [] all 0 (st .pair) (omega arith)
-    (cut-last (pairFrom (st .pair)) (opened st (take (st .items) items)) (some-open table st s b m (take (st .items) items) n (h .kept))) h)
+    (closed-stands table st c (take (st .items) items) [] [] all 0 (st .pair) (omega arith)
+    (cut-last (pairFrom (st .pair)) (opened st (take (st .items) items)) (some-open table st c (take (st .items) items) n (h .kept))) h)

@@ -1,100 +1,46 @@
--- A take, record by record: the first record and what is left of it, and the invariant of reading. Assumes nothing.
+-- The invariant of reading a take, record by record: where it starts, what a record more does to it, and what it says at the
+-- end. How records follow each other is stream_spec's Walk. Assumes nothing.
 use mathlib.Core.Path.{_≡_, refl, sym, ap, _∙_, subst}
-use mathlib.Core.Bool.{Bool, true, false, cond}
+use mathlib.Core.Bool.{Bool, true, false}
 use mathlib.Core.List.{List, [], _∷_, _++_}
 use mathlib.Core.Option.{none, some}
-use Prim.Native.Nat.{ℕ, suc, _+_, _-_, _/_, _%_, _≤_, _<_}
-use native.Mathlib.Nat.{mod-eq-of-lt, add-mod-right, add-div-right, zero-div}
+use Prim.Native.Nat.{ℕ, _+_, _*_, _/_, _≤_, _<_}
+use native.Mathlib.Nat.{zero-div}
 use native.Mathlib.Numerals.{add-one}
 use native.Mathlib.Omega.{arith}
-use borrow.Author.Tests.{leb-true, leb-false}
-use lib.Dec.{leb}
-use lib.ListN.{length, take, drop, length-drop, drop-of-length-le}
-use lib.Seq.{drop-drop, length-take-le}
+use lib.ListN.{length, take, drop}
 use Rattle.refusal.specs.declared.Refusal.{Refusal}
-use Rattle.stream_spec.specs.declared.Shape.{Shape}
-use Rattle.stream_spec.specs.Items.{items, transferItems}
-use Rattle.stream_spec.specs.Packed.{cut}
-use Rattle.stream_spec.specs.Layout.{size, transferOf, recordCount, records, streamItems}
-use Rattle.refusal.specs.declared.Refusal.the-variants.{Field, Reserved}
 use Rattle.refusal.specs.Checks.{first}
-use Rattle.stream_spec.specs.Checks.{transferFlags, fieldFault, reservedFault, transferChecks}
-use Rattle.stream_spec.proofs.Records.{size-pos}
+use Rattle.stream_spec.specs.Items.{transferItems}
+use Rattle.stream_spec.specs.Packed.{cut}
+use Rattle.stream_spec.specs.Layout.{size, ofWidth, transferOf, records, streamItems}
+use Rattle.stream_spec.specs.Checks.{transferFaults, transferChecks}
+use Rattle.stream_spec.specs.Walk.{Passed, recordAt}
 use Rattle.stream_spec.proofs.Bools.{no-such}
+use Rattle.stream_spec.proofs.RecordChecks.{each-found, each-passed}
+use Rattle.stream_spec.proofs.Size.{size-holds}
+use Rattle.stream_spec.proofs.Walk.{left-start, record-fits, record-is, record-long, left-next, records-next, place-next, no-records}
 use Rattle.repack_scratch.specs.declared.Open.{Open}
-use Rattle.repack_scratch.specs.Codes.{heldCodes, Unmarked, markBits, total}
+use Rattle.repack_scratch.specs.Codes.{itemRoom, markRoom, stretchRoom, heldCodes, codesIn, Unmarked, markBits, total}
 use Rattle.repack_scratch.specs.Stands.{Stands}
 use Rattle.repack_scratch.proofs.Held.{unmarked-at}
 use Rattle.repack_scratch.proofs.Marks.{length-marks}
 use Rattle.repack_gather.specs.Gather.{Clear}
-use Rattle.repack_parse.specs.Read.{Added, Ready, Sounds, Finished, Taken}
-use Rattle.repack_parse.specs.Reading.{Reading, Holding}
-use Rattle.repack_parse.proofs.Records.{size-low}
+use Rattle.repack_parse.specs.Read.{Closable, Added, Ready, Sounds, Finished, FinishIs, Taken}
+use Rattle.repack_parse.specs.Reading.{Reading, Holding, Skimmed}
 
--- ---- the first record of a take
-
-module _ (s : Shape) (xs : List ℕ) (whole : length xs % size s ≡ 0) (some : 0 < length xs) where
-  pub record-fits : size s ≤ length xs
-  record-fits = go (leb (size s) (length xs)) refl
-    where
-      go : (b : Bool) → leb (size s) (length xs) ≡ b → size s ≤ length xs
-      go true h = leb-true (size s) (length xs) h
-      go false h = absurd (omega (arith, mod-eq-of-lt (leb-false (size s) (length xs) h)))
-
-  again : length xs ≡ length (drop (size s) xs) + size s
-  again = rw (length-drop (size s) xs) (omega (arith, record-fits))
-
-  pub rest-whole : length (drop (size s) xs) % size s ≡ 0
-  rest-whole = sym (add-mod-right (length (drop (size s) xs)) (size s)) ∙ ap (λ (n : ℕ). n % size s) (sym again) ∙ whole
-
-  counts : recordCount s xs ≡ suc (recordCount s (drop (size s) xs))
-  counts =
-      ap (λ (n : ℕ). n / size s) again ∙ add-div-right (length (drop (size s) xs)) (size-pos s) ∙ add-one (recordCount s (drop (size s) xs))
-
-  pub records-step : records s xs ≡ take (size s) xs ∷ records s (drop (size s) xs)
-  records-step = rw counts refl
-
-  pub items-step : streamItems s xs ≡ transferItems (transferOf s (take (size s) xs)) ++ streamItems s (drop (size s) xs)
-  items-step = rw records-step refl
-
--- ---- faults
-
--- a record without fault leaves the faults to those after it, and a record's fault is the first
-pub checks-after : (s : Shape) (k : ℕ) (r : List ℕ) (rs : List (List ℕ)) → first (transferChecks s k (r ∷ [])) ≡ none
-    → first (transferChecks s k (r ∷ rs)) ≡ first (transferChecks s (suc k) rs)
-checks-after s k r rs e = go (fieldFault transferFlags s r) (reservedFault s r) e
-  where
-    go : (a b : Bool) → cond a (some (Field k)) (cond b (some (Reserved k)) none) ≡ none
-        → cond a (some (Field k)) (cond b (some (Reserved k)) (first (transferChecks s (suc k) rs))) ≡ first (transferChecks s (suc k) rs)
-    go true b h = let z : _≡_ {A = ℕ} 0 1 = cc in absurd (omega arith)
-    go false true h = let z : _≡_ {A = ℕ} 0 1 = cc in absurd (omega arith)
-    go false false h = refl
-
-pub checks-found : (s : Shape) (k : ℕ) (r : List ℕ) (rs : List (List ℕ)) (f : Refusal) → first (transferChecks s k (r ∷ [])) ≡ some f
-    → first (transferChecks s k (r ∷ rs)) ≡ some f
-checks-found s k r rs f e = go (fieldFault transferFlags s r) (reservedFault s r) e
-  where
-    go : (a b : Bool) → cond a (some (Field k)) (cond b (some (Reserved k)) none) ≡ some f
-        → cond a (some (Field k)) (cond b (some (Reserved k)) (first (transferChecks s (suc k) rs))) ≡ some f
-    go true b h = h
-    go false true h = h
-    go false false h = let z : _≡_ {A = ℕ} 0 1 = cc in absurd (omega arith)
-
--- ---- the invariant
+-- ---- the start
 
 abbrev pub start : Open
 start = record { items = 0; start = 0; closed = 0; pair = 0 }
 
-pub reading-starts : (s : Shape) (input octets table : List ℕ) → 1 ≤ s .width → s .width ≤ 16 → length input ≤ 65536 → length input % size s ≡ 0
-    → length octets ≡ 45664 → length table ≡ 8193 → Reading s input octets table start 0
-reading-starts s input octets table low high short w i t =
-    let zeroth : 0 / size s ≡ 0 = zero-div (size s) in
+pub reading-starts : (w : ℕ) (transfers octets table : List ℕ) → Passed (ofWidth w) transfers → length octets ≡ itemRoom → length table ≡ stretchRoom
+    → Reading w transfers octets table start 0
+reading-starts w transfers octets table p i t =
+    let zeroth : 0 / size (ofWidth w) ≡ 0 = zero-div (size (ofWidth w)) in
     record {
-      low = low;
-      high = high;
-      short = short;
-      within = omega arith;
-      whole = w;
+      passed = p;
+      left = left-start (ofWidth w) transfers (p .whole);
       faults = rw zeroth refl;
       sameOctets = i;
       sameTable = t;
@@ -105,167 +51,222 @@ reading-starts s input octets table low high short w i t =
       few = rw zeroth (omega arith);
     }
 
-pub holding-starts : (s : Shape) (input octets marks table : List ℕ) → length marks ≡ length octets → Unmarked marks
-    → Holding s input octets marks table start 0
-holding-starts s input octets marks table l u =
+pub holding-starts : (w : ℕ) (transfers octets marks table : List ℕ) → length marks ≡ length octets → Unmarked marks
+    → Holding w transfers octets marks table start 0
+holding-starts w transfers octets marks table l u =
     record { long = l; clear = λ i b. unmarked-at marks u i; stands = record { kept = refl; closed = refl; started = refl; is = refl } }
 
-module _ (s : Shape) (input octets table : List ℕ) (st : Open) (at : ℕ) (r : Reading s input octets table st at) where
-  module _ (more : at < length input) where
-    left : 0 < length (drop at input)
-    left = rw (length-drop at input) (omega arith)
+-- ---- a record more
 
+module _ (w : ℕ) (transfers octets table : List ℕ) (st : Open) (at : ℕ) (r : Reading w transfers octets table st at) where
+  module _ (more : at < length transfers) where
     -- another record stands there
-    pub reading-fits : at + size s ≤ length input
-    reading-fits = omega (arith, record-fits s (drop at input) (r .whole) left, length-drop at input)
+    pub reading-fits : at + size (ofWidth w) ≤ length transfers
+    reading-fits = record-fits (ofWidth w) transfers at (r .left) more (size (ofWidth w)) refl
 
-    pub reading-ready : Ready s octets table st
+    -- it is the first of those that are left
+    here : records (ofWidth w) (drop at transfers)
+        ≡ take (size (ofWidth w)) (drop at transfers) ∷ records (ofWidth w) (drop (at + size (ofWidth w)) transfers)
+    here =
+        records-next (ofWidth w) transfers at (r .left) more (size (ofWidth w)) refl
+        ∙ ap (λ (xs : List ℕ). xs ∷ records (ofWidth w) (drop (at + size (ofWidth w)) transfers)) (record-is (ofWidth w) transfers at (r .left) more (size (ofWidth w)) refl)
+
+    faults-here : first (transferChecks (ofWidth w) 0 (records (ofWidth w) transfers))
+        ≡ first
+        (transferChecks (ofWidth w) (at / size (ofWidth w))
+        (take (size (ofWidth w)) (drop at transfers) ∷ records (ofWidth w) (drop (at + size (ofWidth w)) transfers)))
+    faults-here = r .faults ∙ ap (λ (rs : List (List ℕ)). first (transferChecks (ofWidth w) (at / size (ofWidth w)) rs)) here
+
+    pub reading-ready : Ready w octets table st
     reading-ready =
         let room = reading-fits in
-        let long = size-low s in
+        let long : 7 + w ≤ size (ofWidth w) = size-holds (ofWidth w) in
         record {
-          low = r .low;
-          high = r .high;
+          low = r .passed .low;
+          high = r .passed .high;
           started = r .started;
           pair = r .pair;
-          holds = omega (arith, r .kept, r .sameOctets, r .short, r .low);
+          holds = omega (arith, r .kept, r .sameOctets, r .passed .short, r .passed .low);
           small = omega (arith, r .sameOctets);
-          lists = omega (arith, r .few, r .started, r .many, r .sameTable, r .short, r .low);
+          lists = omega (arith, r .few, r .started, r .many, r .sameTable, r .passed .short, r .passed .low);
         }
 
     -- a record's fault is the take's
-    pub reading-refused : (rec : List ℕ) (f : Refusal) → rec ≡ take (size s) (drop at input)
-        → first (transferChecks s (at / size s) (rec ∷ [])) ≡ some f → first (transferChecks s 0 (records s input)) ≡ some f
+    pub reading-refused : (rec : List ℕ) (f : Refusal) → rec ≡ take (size (ofWidth w)) (drop at transfers)
+        → first (transferFaults (ofWidth w) (at / size (ofWidth w)) rec) ≡ some f
+        → first (transferChecks (ofWidth w) 0 (records (ofWidth w) transfers)) ≡ some f
     reading-refused rec f e h =
-        r .faults
-        ∙ rw (records-step s (drop at input) (r .whole) left)
-        (checks-found s (at / size s) (take (size s) (drop at input)) (records s (drop (size s) (drop at input))) f (rw e at h))
+        faults-here
+        ∙ each-found (transferFaults (ofWidth w)) (at / size (ofWidth w)) (take (size (ofWidth w)) (drop at transfers))
+        (records (ofWidth w) (drop (at + size (ofWidth w)) transfers)) f (rw e at h)
 
     -- the next record's place
-    next-place : (at + size s) / size s ≡ at / size s + 1
-    next-place = add-div-right at (size-pos s)
+    next-place : (at + size (ofWidth w)) / size (ofWidth w) ≡ at / size (ofWidth w) + 1
+    next-place = place-next (ofWidth w) transfers at (r .left) more (size (ofWidth w)) refl
 
-    module _ (rec octets' table' : List ℕ) (st' : Open) (e : rec ≡ take (size s) (drop at input)) where
-      pub reading-next : (codes codes' : List ℕ) → first (transferChecks s (at / size s) (rec ∷ [])) ≡ none → length octets' ≡ length octets
-          → Added s rec codes table st codes' table' st' → Reading s input octets' table' st' (at + size s)
+    module _ (rec octets' table' : List ℕ) (st' : Open) (e : rec ≡ take (size (ofWidth w)) (drop at transfers)) where
+      pub reading-next : (codes codes' : List ℕ) → first (transferFaults (ofWidth w) (at / size (ofWidth w)) rec) ≡ none → length octets' ≡ length octets
+          → Added w rec codes table st codes' table' st' → Reading w transfers octets' table' st' (at + size (ofWidth w))
       reading-next codes codes' sound l a =
-          let room = reading-fits in
-          let long = size-low s in
+          let long : 7 + w ≤ size (ofWidth w) = size-holds (ofWidth w) in
           record {
-            low = r .low;
-            high = r .high;
-            short = r .short;
-            within = room;
-            whole = rw (← drop-drop (size s) at input) (rest-whole s (drop at input) (r .whole) left);
+            passed = r .passed;
+            left = left-next (ofWidth w) transfers at (r .left) more (size (ofWidth w)) refl;
             faults =
-                r .faults
-                ∙ rw (records-step s (drop at input) (r .whole) left)
-                (checks-after s (at / size s) (take (size s) (drop at input)) (records s (drop (size s) (drop at input))) (rw e at sound)
-                ∙ rw (drop-drop (size s) at input, next-place, add-one (at / size s)) refl);
+                faults-here
+                ∙ each-passed (transferFaults (ofWidth w)) (at / size (ofWidth w)) (take (size (ofWidth w)) (drop at transfers))
+                (records (ofWidth w) (drop (at + size (ofWidth w)) transfers)) (rw e at sound)
+                ∙ rw (next-place, add-one (at / size (ofWidth w))) refl;
             sameOctets = l ∙ r .sameOctets;
             sameTable = a .sameTable ∙ r .sameTable;
             started = a .started;
             pair = a .pair;
-            kept = omega (arith, a .kept, r .kept, r .high);
-            many = rw next-place (omega (arith, r .many, r .low));
-            few = rw next-place (a .few (at / size s) (r .few));
+            kept = omega (arith, a .kept, r .kept, r .passed .high);
+            many = rw next-place (omega (arith, r .many, r .passed .low));
+            few = rw next-place (a .few (at / size (ofWidth w)) (r .few));
           }
 
+      items-here : streamItems (ofWidth w) (drop at transfers)
+          ≡ transferItems (transferOf (ofWidth w) rec) ++ streamItems (ofWidth w) (drop (at + size (ofWidth w)) transfers)
+      items-here = rw (here, e) refl
+
       pub holding-next : (marks marks' : List ℕ) → length octets' ≡ length octets → length marks' ≡ length marks → Clear (st' .items) marks'
-          → Added s rec (heldCodes octets marks) table st (heldCodes octets' marks') table' st'
-          → Holding s input octets marks table st at → Holding s input octets' marks' table' st' (at + size s)
+          → Added w rec (heldCodes octets marks) table st (heldCodes octets' marks') table' st'
+          → Holding w transfers octets marks table st at → Holding w transfers octets' marks' table' st' (at + size (ofWidth w))
       holding-next marks marks' l m c a h =
           record {
             long = m ∙ h .long ∙ sym l;
             clear = c;
             stands =
-                a .stands (streamItems s (drop (at + size s) input)) (cut (streamItems s input))
-                (subst (λ R. Stands (take (st .items) (heldCodes octets marks)) (take (st .closed) table) st R (cut (streamItems s input)))
-                (items-step s (drop at input) (r .whole) left ∙ rw (e, drop-drop (size s) at input) refl) (h .stands));
+                a .stands (streamItems (ofWidth w) (drop (at + size (ofWidth w)) transfers)) (cut (streamItems (ofWidth w) transfers))
+                (subst (λ R. Stands (take (st .items) (heldCodes octets marks)) (take (st .closed) table) st R (cut (streamItems (ofWidth w) transfers)))
+                items-here (h .stands));
           }
 
-  -- nothing is left
-  module _ (done : length input ≤ at) where
-    none-left : drop at input ≡ []
-    none-left = drop-of-length-le input done
+  -- ---- nothing is left
 
-    no-records : records s [] ≡ []
-    no-records = rw (zero-div (size s)) refl
+  module _ (done : length transfers ≤ at) where
+    pub reading-faultless : first (transferChecks (ofWidth w) 0 (records (ofWidth w) transfers)) ≡ none
+    reading-faultless = r .faults ∙ rw (no-records (ofWidth w) transfers at done) refl
 
-    pub reading-faultless : first (transferChecks s 0 (records s input)) ≡ none
-    reading-faultless = r .faults ∙ rw none-left (rw no-records refl)
-
-    pub holding-stands : (marks : List ℕ) → Holding s input octets marks table st at
-        → Stands (take (st .items) (heldCodes octets marks)) (take (st .closed) table) st [] (cut (streamItems s input))
+    pub holding-stands : (marks : List ℕ) → Holding w transfers octets marks table st at
+        → Stands (take (st .items) (heldCodes octets marks)) (take (st .closed) table) st [] (cut (streamItems (ofWidth w) transfers))
     holding-stands marks h =
-        subst (λ R. Stands (take (st .items) (heldCodes octets marks)) (take (st .closed) table) st R (cut (streamItems s input)))
-        (rw none-left (rw no-records refl)) (h .stands)
+        subst (λ R. Stands (take (st .items) (heldCodes octets marks)) (take (st .closed) table) st R (cut (streamItems (ofWidth w) transfers)))
+        (rw (no-records (ofWidth w) transfers at done) refl) (h .stands)
 
     -- what closing the last stretch needs
-    pub reading-closes : (st .start ≤ st .items) × (st .items < 65536) × (st .closed < length table) × (st .pair < 4096)
-    reading-closes = (
-      r .started,
-      omega (arith, r .kept, r .within, r .short),
-      omega (arith, r .few, r .started, r .many, r .within, r .sameTable, r .short),
-      r .pair,
-    )
+    pub reading-closes : Closable st table
+    reading-closes =
+        record {
+          started = r .started;
+          small = omega (arith, r .kept, r .left .within, r .passed .short);
+          lists = omega (arith, r .few, r .started, r .many, r .left .within, r .sameTable, r .passed .short);
+          pair = r .pair;
+        }
 
     -- the whole take is read
-    pub taken : (marks table' : List ℕ) (n : ℕ) (plain : Bool) → length marks ≡ length octets → (plain ≡ true → Unmarked marks)
-        → Finished n (heldCodes octets marks) table' (cut (streamItems s input)) → total (take n table') ≡ st .items
-        → Taken s input octets marks table' n plain
+    pub taken : (marks table' : List ℕ) (n : ℕ) (plain : Bool) → length (markBits marks) ≡ length octets → (plain ≡ true → Unmarked (markBits marks))
+        → Finished n (codesIn octets marks) table' (cut (streamItems (ofWidth w) transfers)) → total (take n table') ≡ st .items
+        → Taken w transfers octets marks table' n plain
     taken marks table' n plain l u f t =
         record {
           faultless = reading-faultless;
           finished = f;
           sameOctets = r .sameOctets;
           sameMarks = l ∙ r .sameOctets;
-          room = omega (arith, t, r .kept, r .within, r .short, r .sameOctets);
+          room = omega (arith, t, r .kept, r .left .within, r .passed .short, r .sameOctets);
           unmarked = u;
         }
 
 -- ---- reading it, record by record
 
 -- and where `plain` is told, no item is marked
-pub record Parsing (s : Shape) (input octets marks table : List ℕ) (st : Open) (at : ℕ) (plain : Bool) : Type 0 where
-  pub reading : Reading s input octets table st at
-  pub holding : Holding s input octets marks table st at
-  pub unmarked : plain ≡ true → Unmarked marks
+pub record Parsing (w : ℕ) (transfers octets marks table : List ℕ) (st : Open) (at : ℕ) (plain : Bool) : Type 0 where
+  pub reading : Reading w transfers octets table st at
+  pub holding : Holding w transfers octets (markBits marks) table st at
+  pub unmarked : plain ≡ true → Unmarked (markBits marks)
 
-module _ (s : Shape) (input octets marks table : List ℕ) (st : Open) (at : ℕ) (r : Reading s input octets table st at)
-    (h : Holding s input octets marks table st at) (more : at < length input) (rec : List ℕ) (e : rec ≡ take (size s) (drop at input))
-    (octets' marks' table' : List ℕ) (st' : Open) (plain : Bool) (l : length octets' ≡ length octets) (m : length marks' ≡ length marks)
-    (sound : Sounds s rec (at / size s) octets marks table st octets' marks' table' st') where
-  parsing-sound : (plain ≡ true → Unmarked marks') → Parsing s input octets' marks' table' st' (at + size s) plain
-  parsing-sound u =
-      let a = sound .added in
-      record {
-        reading =
-            reading-next s input octets table st at r more rec octets' table' st' e (heldCodes octets marks) (heldCodes octets' marks') (sound .faultless) l
-            (a .added);
-        holding = holding-next s input octets table st at r more rec octets' table' st' e marks marks' l m (a .clear) (a .added) h;
-        unmarked = u;
-      }
+pub parsing-starts : (w : ℕ) (transfers octets marks table : List ℕ) → Passed (ofWidth w) transfers → Unmarked (markBits marks)
+    → length octets ≡ itemRoom → length marks ≡ markRoom → length table ≡ stretchRoom → Parsing w transfers octets marks table start 0 true
+parsing-starts w transfers octets marks table p u i m t =
+    record {
+      reading = reading-starts w transfers octets table p i t;
+      holding = holding-starts w transfers octets (markBits marks) table (omega (arith, length-marks marks)) u;
+      unmarked = λ e. u;
+    }
 
-  -- no mark is touched
-  pub parsing-read : marks' ≡ marks → (plain ≡ true → Unmarked marks) → Parsing s input octets' marks' table' st' (at + size s) plain
-  parsing-read same u = parsing-sound (λ t. rw same (u t))
-
-  -- some are
-  pub parsing-marked : plain ≡ false → Parsing s input octets' marks' table' st' (at + size s) plain
-  parsing-marked f = parsing-sound (λ t. no-such f t)
-
--- ---- the part of the input that is lent as the next record
-
-pub this-record : (s : Shape) (input : List ℕ) (at z : ℕ) → z ≡ size s → take (at + z - at) (drop at input) ≡ take (size s) (drop at input)
-this-record s input at z e = let same : at + z - at ≡ size s = omega arith in rw same refl
-
-pub this-long : (s : Shape) (input : List ℕ) (at z : ℕ) → z ≡ size s → at + size s ≤ length input
-    → length (take (at + z - at) (drop at input)) ≡ size s
-this-long s input at z e h =
-    ap length (this-record s input at z e) ∙ length-take-le (size s) (drop at input) (rw (length-drop at input) (omega arith))
-
--- ---- as many octets of marks hold as many marks
-
-pub marks-kept : (ms ms' : List ℕ) → length ms' ≡ length ms → length (markBits ms') ≡ length (markBits ms)
+-- as many octets of marks hold as many marks
+marks-kept : (ms ms' : List ℕ) → length ms' ≡ length ms → length (markBits ms') ≡ length (markBits ms)
 marks-kept ms ms' e = omega (arith, length-marks ms, length-marks ms')
+
+module _ (w : ℕ) (transfers octets marks table : List ℕ) (st : Open) (at : ℕ) (plain : Bool)
+    (q : Parsing w transfers octets marks table st at plain) where
+  -- usual records are skimmed
+  pub parsing-skimmed : (octets' table' : List ℕ) (st' : Open) (at' : ℕ) → Skimmed w transfers octets table st at octets' table' st' at'
+      → Parsing w transfers octets' marks table' st' at' plain
+  parsing-skimmed octets' table' st' at' k =
+      record { reading = k .reading; holding = k .holding (markBits marks) (q .holding); unmarked = q .unmarked }
+
+  -- as many marks are there as were lent
+  pub marks-room : length marks ≡ markRoom
+  marks-room = omega (arith, length-marks marks, q .holding .long, q .reading .sameOctets)
+
+  -- nothing is left: the last stretch is closed
+  pub parsing-closes : length transfers ≤ at → Closable st table
+  parsing-closes done = reading-closes w transfers octets table st at (q .reading) done
+
+  pub parsing-done : length transfers ≤ at → (after : List ℕ) (n : ℕ) → FinishIs table st after n → Taken w transfers octets marks after n plain
+  parsing-done done after n f =
+      let g =
+      f (codesIn octets marks) (cut (streamItems (ofWidth w) transfers))
+      (holding-stands w transfers octets table st at (q .reading) done (markBits marks) (q .holding)) in
+      taken w transfers octets table st at (q .reading) done marks after n plain (q .holding .long) (q .unmarked) (g .0) (g .1)
+
+  -- another record stands there, in z octets
+  module _ (more : at < length transfers) (z : ℕ) (e : z ≡ size (ofWidth w)) where
+    pub parsing-fits : at + z ≤ length transfers
+    parsing-fits = record-fits (ofWidth w) transfers at (q .reading .left) more z e
+
+    is-here : recordAt transfers at z ≡ take (size (ofWidth w)) (drop at transfers)
+    is-here = record-is (ofWidth w) transfers at (q .reading .left) more z e
+
+    -- what reading it needs
+    pub parsing-long : length (recordAt transfers at z) ≡ size (ofWidth w)
+    parsing-long = record-long (ofWidth w) transfers at (q .reading .left) more z e
+
+    pub parsing-ready : Ready w octets table st
+    parsing-ready = reading-ready w transfers octets table st at (q .reading) more
+
+    pub parsing-marks : 8 * length marks ≡ length octets
+    parsing-marks = sym (length-marks marks) ∙ q .holding .long
+
+    -- its fault is the take's
+    pub parsing-refused : (f : Refusal) → first (transferFaults (ofWidth w) (at / size (ofWidth w)) (recordAt transfers at z)) ≡ some f
+        → first (transferChecks (ofWidth w) 0 (records (ofWidth w) transfers)) ≡ some f
+    parsing-refused f h = reading-refused w transfers octets table st at (q .reading) more (recordAt transfers at z) f is-here h
+
+    -- it is read
+    module _ (octets' marks' table' : List ℕ) (st' : Open) (l : length octets' ≡ length octets) (m : length marks' ≡ length marks)
+        (sound : Sounds w (recordAt transfers at z) (at / size (ofWidth w)) octets (markBits marks) table st octets' (markBits marks') table' st') where
+      parsing-sound : (plain' : Bool) → (plain' ≡ true → Unmarked (markBits marks')) → Parsing w transfers octets' marks' table' st' (at + z) plain'
+      parsing-sound plain' u =
+          let a = sound .added in
+          rw e
+          (record {
+            reading =
+                reading-next w transfers octets table st at (q .reading) more (recordAt transfers at z) octets' table' st' is-here
+                (codesIn octets marks) (codesIn octets' marks') (sound .faultless) l (a .added);
+            holding =
+                holding-next w transfers octets table st at (q .reading) more (recordAt transfers at z) octets' table' st' is-here
+                (markBits marks) (markBits marks') l (marks-kept marks marks' m) (a .clear) (a .added) (q .holding);
+            unmarked = u;
+          })
+
+      -- no mark is touched
+      pub parsing-read : markBits marks' ≡ markBits marks → Parsing w transfers octets' marks' table' st' (at + z) plain
+      parsing-read same = parsing-sound plain (λ t. rw same (q .unmarked t))
+
+      -- some are
+      pub parsing-marked : Parsing w transfers octets' marks' table' st' (at + z) false
+      parsing-marked = parsing-sound false (λ t. no-such refl t)

@@ -12,7 +12,7 @@ use Rattle.stream_spec.specs.Items.{kept}
 use Rattle.stream_spec.specs.Packed.{Stretch}
 use Rattle.stream_spec.specs.Layout.{odd, laneType, laneOf, lanesOf, typesOf, Kept, octet, position}
 use Rattle.stream_spec.specs.Legal.{Octets}
-use Rattle.repack_scratch.specs.Codes.{itemCode, keptOf, sifted, pairFrom, entryOf, entryCount, stretchOf, stretchesOf, total}
+use Rattle.repack_scratch.specs.Codes.{itemCode, keptOf, sifted, pairFrom, entryOf, entryCount, entryLast, entryPair, stretchOf, stretchesOf, total}
 
 -- ---- items
 
@@ -57,20 +57,19 @@ sifted-kept (suc w) k t (d ∷ ds) h = go (sifted-kept w (k / 2) (t / 2) ds (h .
 
 -- ---- entries
 
-pub entry-count : (n last pair : ℕ) → n < 65536 → entryCount (entryOf n last pair) ≡ n
+pub entry-count : (n last pair : ℕ) → n < 0x10000 → entryCount (entryOf n last pair) ≡ n
 entry-count n last pair h = omega arith
 
-entry-ended : (n last pair : ℕ) → n < 65536 → last ≤ 1 → odd (entryOf n last pair / 65536) ≡ odd last
-entry-ended n last pair h l = let high : entryOf n last pair / 65536 ≡ last + 2 * pair = omega arith in
-    let low : (last + 2 * pair) % 2 ≡ last % 2 = omega arith in rw (high, low) refl
+entry-last : (n last pair : ℕ) → n < 0x10000 → last ≤ 1 → entryLast (entryOf n last pair) ≡ last
+entry-last n last pair h l = omega arith
 
-entry-pair : (n last pair : ℕ) → n < 65536 → last ≤ 1 → entryOf n last pair / 131072 ≡ pair
+entry-pair : (n last pair : ℕ) → n < 0x10000 → last ≤ 1 → entryPair (entryOf n last pair) ≡ pair
 entry-pair n last pair h l = omega arith
 
-pub entry-stretch : (n last pair : ℕ) (codes : List ℕ) → n < 65536 → last ≤ 1
+pub entry-stretch : (n last pair : ℕ) (codes : List ℕ) → n < 0x10000 → last ≤ 1
     → stretchOf (entryOf n last pair) codes ≡ record { pair = pairFrom pair; bytes = map keptOf codes; ended = odd last }
 entry-stretch n last pair codes h l =
-    λ i. record { pair = pairFrom (entry-pair n last pair h l i); bytes = map keptOf codes; ended = entry-ended n last pair h l i }
+    λ i. record { pair = pairFrom (entry-pair n last pair h l i); bytes = map keptOf codes; ended = odd (entry-last n last pair h l i) }
 
 -- ---- tables
 

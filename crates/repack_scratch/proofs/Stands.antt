@@ -28,7 +28,7 @@ made st codes ended = record { pair = pairFrom (st .pair); bytes = opened st cod
 
 module _ (codes entries : List ℕ) (st : Open) (all : List (Stretch Kept)) where
   -- closing, where the open bytes with what follows them are cut off as one stretch
-  pub close-stands : (rest rest' : List (Item Kept)) (last pair : ℕ) → last ≤ 1 → st .start ≤ st .items → st .items < 65536
+  pub close-stands : (rest rest' : List (Item Kept)) (last pair : ℕ) → last ≤ 1 → st .start ≤ st .items → st .items < 0x10000
       → cut (map (byte (pairFrom (st .pair))) (opened st codes) ++ rest) ≡ made st codes (odd last) ∷ cut rest'
       → Stands codes entries st rest all
       → Stands codes (entries ++ entryOf (st .items - st .start) last (st .pair) ∷ []) (closedAt st pair) rest' all

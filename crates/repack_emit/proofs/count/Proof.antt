@@ -4,17 +4,18 @@ use Prim.Native.Nat.{_+_, _-_, _*_, _≤_}
 use native.Mathlib.Omega.{arith}
 use borrow.Author.Needs.{needs}
 use lib.ListN.{length, drop, drop-of-length-le}
-use Rattle.repack_emit.specs.Write.{countOf}
-use Rattle.repack_emit.proofs.Stretches.{count-step}
+use Rattle.repack_emit.specs.Emit.{countOf}
+use Rattle.repack_emit.proofs.Tables.{count-step}
 use Rattle.repack_emit.proofs.count.Statement.{statement}
 use Rattle.repack_emit.proofs.count.Tie as tie
 use Rattle.repack_emit.proofs.count.Reads as reads
 use Rattle.repack_emit.proofs.count.Lts as lts
 use Rattle.repack_emit.proofs.counted.Reads as counted-reads
 use Rattle.repack_emit.proofs.list_counts.Reads as list-counts-reads
+use Rattle.repack_scratch.proofs.entry_count.Reads as entry-count-reads
 
 abbrev Inv-loop : tie.InvT-loop
-Inv-loop table v few n₀ k₀ n k = (k ≤ length table) × (n ≤ 65536 * k) × (n + countOf v (drop k table) ≡ countOf v table)
+Inv-loop table v few n₀ k₀ n k = (k ≤ length table) × (n ≤ 0x10000 * k) × (n + countOf v (drop k table) ≡ countOf v table)
 
 abbrev μ-loop : tie.MeasureT-loop
 μ-loop table v few n₀ k₀ n k = length table - k
@@ -28,17 +29,22 @@ list-counts-requires c κs = (c .before .before .pre .0, refl)
 loop-holds : tie.Need-loop-holds Inv-loop μ-loop
 loop-holds c = (search needs, search needs, omega arith)
 
-mul-counted : tie.Need-mul-counted Inv-loop μ-loop
-mul-counted c = search needs
+mul-entry-count : tie.Need-mul-entry-count Inv-loop μ-loop
+mul-entry-count c = search needs
 
-shared-slice-read-counted : tie.Need-shared-slice-read-counted Inv-loop μ-loop
-shared-slice-read-counted c = search needs
+shared-slice-read-entry-count : tie.Need-shared-slice-read-entry-count Inv-loop μ-loop
+shared-slice-read-entry-count c = search needs
+
+entry-count-requires : tie.Need-entry-count-requires Inv-loop μ-loop
+entry-count-requires c κs = search needs
 
 slice-aggregate-counted : tie.Need-slice-aggregate-counted Inv-loop μ-loop
 slice-aggregate-counted c = search needs
 
 counted-requires : tie.Need-counted-requires Inv-loop μ-loop
-counted-requires c κs = (c .before .before .before .before .before .before .before .before .pre .0, search needs, c .before .before .before .before .before .list-counts .kept .0, c .before .before .before .before .before .list-counts .ensures)
+counted-requires c κs =
+    let few = c .before .before .before .before .before .before in
+    (few .before .before .before .pre .0, omega (arith, c .before .entry-count .ensures), few .list-counts .kept .0, few .list-counts .ensures)
 
 cast-n : tie.Need-cast-n Inv-loop μ-loop
 cast-n c = search needs
@@ -54,11 +60,12 @@ loop-less c = search needs
 
 loop-again : tie.Need-loop-again Inv-loop μ-loop
 loop-again c =
-    let a = c .before .before .before .before .before .before .before .before .before .args in
-    let l = c .before .before .before .before .loop in (
+    let l = c .before .before .before .before .before .loop in
+    let a = c .before .before .before .before .before .before .before .before .before .before .args in
+    let r = rw (c .before .before .entry-count .ensures) at (c .counted .ensures .0) in (
       omega arith,
       omega (arith, c .counted .ensures .1),
-      count-step (a .v) (a .table .now) (l .n) (l .k) (c .counted .result) (countOf (a .v) (a .table .now)) (c .before .before .before .loop-test .taken) (c .counted .ensures .0) (l .inv .2),
+      count-step (a .v) (a .table .now) (l .n) (l .k) (c .counted .result) (countOf (a .v) (a .table .now)) (c .before .before .before .before .loop-test .taken) r (l .inv .2),
     )
 
 returns : tie.Need-returns Inv-loop μ-loop
@@ -77,8 +84,9 @@ count-spec =
     slice-aggregate-list-counts
     list-counts-requires
     loop-holds
-    mul-counted
-    shared-slice-read-counted
+    mul-entry-count
+    shared-slice-read-entry-count
+    entry-count-requires
     slice-aggregate-counted
     counted-requires
     cast-n

@@ -1,6 +1,6 @@
 -- `repack_emit::counted` meets its contract: by the list, or by the division. Assumes nothing.
 use native.Mathlib.Omega.{arith}
-use Rattle.repack_emit.proofs.Stretches.{records-few}
+use Rattle.repack_emit.proofs.Tables.{records-few}
 use borrow.Author.Needs.{needs}
 use Rattle.repack_emit.proofs.counted.Statement.{statement}
 use Rattle.repack_emit.proofs.counted.Tie as tie

@@ -3,8 +3,8 @@ use Prim.Native.Nat.{_-_, _≤_}
 use mathlib.Core.Path.{_≡_, _∙_}
 use native.Mathlib.Omega.{arith}
 use lib.ListN.{length, length-set}
-use Rattle.repack_emit.specs.Write.{Counts}
-use Rattle.repack_emit.proofs.Stretches.{counts-more}
+use Rattle.repack_emit.specs.Emit.{Counts}
+use Rattle.repack_emit.proofs.Tables.{counts-more}
 use borrow.Author.Needs.{needs}
 use Rattle.repack_emit.proofs.list_counts.Statement.{statement}
 use Rattle.repack_emit.proofs.list_counts.Tie as tie

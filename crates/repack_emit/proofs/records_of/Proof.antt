@@ -3,7 +3,7 @@ use mathlib.Core.Path.{_≡_, refl}
 use Prim.Native.Nat.{_-_, _/_}
 use native.Mathlib.Nat.{div-eq-of-lt}
 use native.Mathlib.Omega.{arith}
-use Rattle.repack_emit.proofs.Stretches.{records-few}
+use Rattle.repack_emit.proofs.Tables.{records-few}
 use borrow.Author.Needs.{needs}
 use Rattle.repack_emit.proofs.records_of.Statement.{statement}
 use Rattle.repack_emit.proofs.records_of.Tie as tie

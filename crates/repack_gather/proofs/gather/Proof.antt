@@ -9,7 +9,7 @@ use Rattle.repack_gather.proofs.gather.Reads as reads
 use Rattle.repack_gather.proofs.gather.Lts as lts
 use Rattle.repack_gather.proofs.gather_all.Reads as gather-all-reads
 use Rattle.repack_gather.proofs.keep_lane.Reads as keep-lane-reads
-use Rattle.repack_gather.proofs.sieve.sift.Reads as sift-reads
+use Rattle.repack_sieve.proofs.sift.Reads as sift-reads
 
 shared-slice-read-keep-lane : tie.Need-shared-slice-read-keep-lane
 shared-slice-read-keep-lane c = search needs
@@ -22,9 +22,11 @@ same-length c = search needs
 
 returns : tie.Need-returns
 returns c =
-    let a = c .before .before .before .before .before .before .before .before .before .args in
-    one-kept (a .w) (a .from) (a .keep) (a .at) (c .before .before .keep-lane .result) (a .input .now) (a .octets .now) (c .before .before .keep-lane .last .0)
-    (c .before .before .before .before .before .if1 .taken) (omega (arith, c .before .before .before .before .before .before .before .before .before .pre .4)) (c .before .before .keep-lane .ensures)
+    let b = c .before .before .before .before .before in
+    let s = b .before .before .before .before .before in
+    let a = s .args in
+    one-kept (a .lanes .width) (a .from) (a .keep) (a .at) (c .before .before .keep-lane .result) (a .transfers .now) (a .octets .now) (c .before .before .keep-lane .last .0)
+    (b .if1 .taken) (omega (arith, s .pre .1 .0)) (c .before .before .keep-lane .ensures)
 
 gather-all-requires : tie.Need-gather-all-requires
 gather-all-requires c κs = search needs
@@ -33,7 +35,9 @@ same-length-2 : tie.Need-same-length-2
 same-length-2 c = search needs
 
 returns-2 : tie.Need-returns-2
-returns-2 c = rw (c .before .before .before .before .if2 .taken ∙ c .before .before .before .before .before .before .before .before .before .pre .5) (c .before .before .gather-all .ensures)
+returns-2 c =
+    let b = c .before .before .before .before in
+    rw (b .if2 .taken ∙ b .before .before .before .before .before .before .before .pre .0 .0 .full) (c .before .before .gather-all .ensures)
 
 sift-requires : tie.Need-sift-requires
 sift-requires c κs = search needs

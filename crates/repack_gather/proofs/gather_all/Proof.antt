@@ -1,7 +1,8 @@
 -- `repack_gather::gather_all` meets its contract: the lanes are the first of the octets that are moved. Assumes nothing.
 use native.Mathlib.Omega.{arith}
 use lib.ListN.{drop}
-use Rattle.repack_gather.proofs.Lanes.{all-kept, part-rest}
+use Rattle.stream_spec.proofs.Memory.{lent-rest}
+use Rattle.repack_gather.proofs.Lanes.{all-kept}
 use borrow.Author.Needs.{needs}
 use Rattle.repack_gather.proofs.gather_all.Statement.{statement}
 use Rattle.repack_gather.proofs.gather_all.Tie as tie
@@ -34,8 +35,8 @@ returns : tie.Need-returns
 returns c =
     let a = c .before .before .before .before .before .before .before .before .args in
     let p = c .before .before .before .before .before .before .before .before .pre in
-    all-kept (a .w) 16 (drop (a .from) (a .input .now)) (a .octets .now) (c .before .before .place .last .0) (a .at) (omega (arith, p .1)) (omega (arith, p .1, p .3))
-    (rw (part-rest (a .from) (a .input .now)) at (c .before .before .place .ensures))
+    all-kept (a .w) 16 (drop (a .from) (a .transfers .now)) (a .octets .now) (c .before .before .place .last .0) (a .at) (omega (arith, p .1)) (omega (arith, p .1, p .3))
+    (rw (lent-rest (a .transfers .now) (a .from)) at (c .before .before .place .ensures))
 
 sub-place-2 : tie.Need-sub-place-2
 sub-place-2 c = search needs
@@ -59,8 +60,8 @@ returns-2 : tie.Need-returns-2
 returns-2 c =
     let a = c .before .before .before .before .before .before .before .before .args in
     let p = c .before .before .before .before .before .before .before .before .pre in
-    all-kept (a .w) (a .w) (drop (a .from) (a .input .now)) (a .octets .now) (c .before .before .place2 .last .0) (a .at) (omega (arith, p .1)) (omega (arith, p .1, p .3))
-    (rw (part-rest (a .from) (a .input .now)) at (c .before .before .place2 .ensures))
+    all-kept (a .w) (a .w) (drop (a .from) (a .transfers .now)) (a .octets .now) (c .before .before .place2 .last .0) (a .at) (omega (arith, p .1)) (omega (arith, p .1, p .3))
+    (rw (lent-rest (a .transfers .now) (a .from)) at (c .before .before .place2 .ensures))
 
 pub gather-all-spec : {M : Type 1} → statement M
 gather-all-spec =

@@ -50,7 +50,7 @@ returns : tie.Need-returns
 returns c =
     let a = c .before .before .before .before .args in
     let p = c .before .before .before .before .pre in
-    (refl, refl, rw (c .add-mark .ensures) (mark-set (a .marks .now) (a .n) (markOf (a .keep) (a .strb)) (p .1) (mark-small (a .keep) (a .strb)) (p .2)))
+    (refl, (refl, rw (c .add-mark .ensures) (mark-set (a .marks .now) (a .n) (markOf (a .keep) (a .strb)) (p .1) (mark-small (a .keep) (a .strb)) (p .2))))
 
 pub keep-marked-spec : {M : Type 1} → statement M
 keep-marked-spec =

@@ -46,7 +46,7 @@ loop-again c =
     let l = c .before .before .before .before .before .before .before .before .before .loop in
     let e = c .before .before .before .before .keep-marked .ensures in
     marking-lane (a .keep) (a .strb) (a .lanes .now) (a .octets .now) (markBits (a .marks .now)) (a .at) (length-marks (a .marks .now) ∙ c .before .before .before .before .before .before .before .before .before .before .before .before .before .pre .0) (l .octets) (markBits (l .marks)) (l .n) (l .k) (l .t) (l .j) (l .inv)
-    (c .before .before .before .before .before .before .before .before .before .before .before .before .before .pre .1) (c .before .before .before .before .before .before .before .before .loop-test .taken) (c .before .before .before .before .keep-marked .last .0) (markBits (c .before .before .before .before .keep-marked .last .1 .0)) (c .before .before .before .before .keep-marked .result) (e .0) (e .1) (e .2)
+    (c .before .before .before .before .before .before .before .before .before .before .before .before .before .pre .1) (c .before .before .before .before .before .before .before .before .loop-test .taken) (c .before .before .before .before .keep-marked .last .0) (markBits (c .before .before .before .before .keep-marked .last .1 .0)) (c .before .before .before .before .keep-marked .result) (e .0) (e .1 .0) (e .1 .1)
 
 same-length : tie.Need-same-length Inv-loop μ-loop
 same-length c = c .before .loop .inv .sameOctets

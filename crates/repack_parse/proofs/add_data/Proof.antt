@@ -3,10 +3,19 @@ use mathlib.Core.Path.{_≡_, refl}
 use Prim.Native.Nat.{_+_, _-_}
 use native.Mathlib.Omega.{arith}
 use lib.ListN.{take, drop}
-use Rattle.repack_parse.proofs.Records.{size-low, lanes-ready, end-ready, added-data}
+use Rattle.stream_spec.specs.Layout.{ofWidth}
+use Rattle.stream_spec.proofs.Size.{size-holds}
+use Rattle.repack_parse.proofs.Records.{lanes-ready, end-ready, added-data}
 use borrow.Author.Needs.{needs}
 use Rattle.repack_parse.proofs.add_data.Statement.{statement}
 use Rattle.repack_parse.proofs.add_data.Tie as tie
+use Rattle.repack_parse.proofs.add_data.Reads as reads
+use Rattle.repack_parse.proofs.add_data.Lts as lts
+use Rattle.repack_gather.proofs.gather_lanes.Reads as gather-lanes-reads
+use Rattle.repack_parse.proofs.end.Reads as end-reads
+use Rattle.repack_parse.proofs.pair_code.Reads as pair-code-reads
+use Rattle.repack_parse.proofs.turn.Reads as turn-reads
+use Rattle.repack_parse.proofs.with_items.Reads as with-items-reads
 
 pair-code-requires : tie.Need-pair-code-requires
 pair-code-requires c κs = search needs
@@ -24,31 +33,35 @@ part-gather-lanes-start : tie.Need-part-gather-lanes-start
 part-gather-lanes-start c = search needs
 
 part-gather-lanes-end : tie.Need-part-gather-lanes-end
-part-gather-lanes-end c = omega (arith, c .before .before .before .before .before .before .before .before .before .before .pre .0 .1, size-low (c .before .before .before .before .before .before .before .before .before .before .args .s))
-
-full-mask-requires : tie.Need-full-mask-requires
-full-mask-requires c κs = search needs
+part-gather-lanes-end c =
+    let s = c .before .before .before .before .before .before .before .before .before .before in
+    omega (arith, s .pre .1 .long, size-holds (ofWidth (s .args .lanes .width)))
 
 gather-lanes-requires : tie.Need-gather-lanes-requires
 gather-lanes-requires c κs =
-    let a = c .before .before .before .before .before .before .before .before .before .before .before .before .args in
-    let p = c .before .before .before .before .before .before .before .before .before .before .before .before .pre in
-    lanes-ready (a .s) (a .rec .now) (a .octets .now) (a .table .now) (c .before .before .before .before .before .before .turn .last .0) (a .h) (a .st) (c .before .before .before .before .before .before .turn .result)
-    (λ i. omega (arith, c .before .before .before .before .before .before .before .before .before .before .before .shared-slice-known .given i)) (p .0 .1) (p .0 .0) (p .0 .2) (p .1) (p .0 .3) (c .before .before .before .before .before .before .before .pair-code .result)
-    (c .before .before .before .before .before .before .before .pair-code .ensures) (c .before .before .before .before .before .before .turn .ensures) (take (7 + a .s .width - 7) (drop 7 (a .rec .now))) (let w : 7 + a .s .width - 7 ≡ a .s .width = omega arith in rw w refl)
-    (c .full-mask .result) (c .full-mask .ensures)
+    let turn = c .before .before .before .before .before in
+    let known = turn .before .before .before .before .before in
+    let s = known .before in
+    let a = s .args in
+    let p = s .pre in
+    lanes-ready (a .lanes .width) (a .rec .now) (a .octets .now) (a .table .now) (turn .turn .last .0) (a .h) (a .st) (turn .turn .result)
+    (λ i. omega (arith, known .shared-slice-known .given i)) (p .1) (p .3) (turn .before .pair-code .result)
+    (turn .before .pair-code .ensures) (turn .turn .ensures) (take (7 + a .lanes .width - 7) (drop 7 (a .rec .now))) (let same : 7 + a .lanes .width - 7 ≡ a .lanes .width = omega arith in rw same refl) (a .lanes .full) (p .0 .full)
 
 with-items-requires : tie.Need-with-items-requires
 with-items-requires c κs = search needs
 
 end-requires : tie.Need-end-requires
 end-requires c κs =
-    let a = c .before .before .before .before .before .before .before .before .before .before .before .before .before .before .before .before .before .args in
-    let p = c .before .before .before .before .before .before .before .before .before .before .before .before .before .before .before .before .before .pre in
-    rw (c .with-items .ensures) (end-ready (a .s) (a .rec .now) (a .octets .now) (a .table .now) (c .before .before .before .before .before .before .before .before .before .before .before .turn .last .0) (a .h) (a .st) (c .before .before .before .before .before .before .before .before .before .before .before .turn .result)
-    (λ i. omega (arith, c .before .before .before .before .before .before .before .before .before .before .before .before .before .before .before .before .shared-slice-known .given i)) (p .0 .1) (p .0 .0) (p .0 .2) (p .1) (p .0 .3) (c .before .before .before .before .before .before .before .before .before .before .before .before .pair-code .result)
-    (c .before .before .before .before .before .before .before .before .before .before .before .before .pair-code .ensures) (c .before .before .before .before .before .before .before .before .before .before .before .turn .ensures) (take (7 + a .s .width - 7) (drop 7 (a .rec .now))) (let w : 7 + a .s .width - 7 ≡ a .s .width = omega arith in rw w refl)
-    (c .before .before .before .before .gather-lanes .result) (c .before .before .before .before .gather-lanes .ensures .beyond) (c .before .before .before .before .gather-lanes .ensures .within))
+    let gather = c .before .before .before .before .gather-lanes in
+    let turn = c .before .before .before .before .before .before .before .before .before .before in
+    let known = turn .before .before .before .before .before in
+    let s = known .before in
+    let a = s .args in
+    let p = s .pre in
+    rw (c .with-items .ensures) (end-ready (a .lanes .width) (a .rec .now) (a .octets .now) (a .table .now) (turn .turn .last .0) (a .h) (a .st) (turn .turn .result)
+    (λ i. omega (arith, known .shared-slice-known .given i)) (p .1) (p .3) (turn .before .pair-code .result)
+    (turn .before .pair-code .ensures) (turn .turn .ensures) (take (7 + a .lanes .width - 7) (drop 7 (a .rec .now))) (let same : 7 + a .lanes .width - 7 ≡ a .lanes .width = omega arith in rw same refl) (gather .result) (gather .ensures .beyond) (gather .ensures .within))
 
 same-length : tie.Need-same-length
 same-length c = search needs
@@ -58,13 +71,17 @@ same-length-2 c = search needs
 
 returns : tie.Need-returns
 returns c =
-    let a = c .before .before .before .before .before .before .before .before .before .before .before .before .before .before .before .before .before .before .before .before .args in
-    let p = c .before .before .before .before .before .before .before .before .before .before .before .before .before .before .before .before .before .before .before .before .pre in
-    added-data (a .s) (a .rec .now) (a .octets .now) (a .table .now) (c .before .before .before .before .before .before .before .before .before .before .before .before .before .before .turn .last .0) (a .h) (a .st) (c .before .before .before .before .before .before .before .before .before .before .before .before .before .before .turn .result)
-    (λ i. omega (arith, c .before .before .before .before .before .before .before .before .before .before .before .before .before .before .before .before .before .before .before .shared-slice-known .given i)) (p .0 .1) (p .0 .0) (p .0 .2) (p .1) (p .0 .3) (c .before .before .before .before .before .before .before .before .before .before .before .before .before .before .before .pair-code .result)
-    (c .before .before .before .before .before .before .before .before .before .before .before .before .before .before .before .pair-code .ensures) (c .before .before .before .before .before .before .before .before .before .before .before .before .before .before .turn .ensures) (take (7 + a .s .width - 7) (drop 7 (a .rec .now))) (let w : 7 + a .s .width - 7 ≡ a .s .width = omega arith in rw w refl)
-    (c .before .before .before .before .before .before .before .gather-lanes .last .0) (c .before .before .end .last .0) (c .before .before .end .result) (c .before .before .before .before .before .before .before .gather-lanes .result) (p .0 .4)
-    (c .before .before .before .before .before .before .before .gather-lanes .ensures) (rw (c .before .before .before .with-items .ensures) at (c .before .before .end .ensures))
+    let gather = c .before .before .before .before .before .before .before .gather-lanes in
+    let end = c .before .before .end in
+    let turn = c .before .before .before .before .before .before .before .before .before .before .before .before .before in
+    let known = turn .before .before .before .before .before in
+    let s = known .before in
+    let a = s .args in
+    let p = s .pre in
+    added-data (a .lanes .width) (a .rec .now) (a .octets .now) (a .table .now) (turn .turn .last .0) (a .h) (a .st) (turn .turn .result)
+    (λ i. omega (arith, known .shared-slice-known .given i)) (p .1) (p .3) (turn .before .pair-code .result)
+    (turn .before .pair-code .ensures) (turn .turn .ensures) (take (7 + a .lanes .width - 7) (drop 7 (a .rec .now))) (let same : 7 + a .lanes .width - 7 ≡ a .lanes .width = omega arith in rw same refl)
+    (gather .last .0) (end .last .0) (end .result) (gather .result) (p .2) (gather .ensures) (rw (c .before .before .before .with-items .ensures) at (end .ensures))
 
 pub add-data-spec : {M : Type 1} → statement M
 add-data-spec =
@@ -76,7 +93,6 @@ add-data-spec =
     sub-gather-lanes
     part-gather-lanes-start
     part-gather-lanes-end
-    full-mask-requires
     gather-lanes-requires
     with-items-requires
     end-requires

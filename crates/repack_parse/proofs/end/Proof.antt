@@ -7,7 +7,7 @@ use Rattle.repack_parse.proofs.end.Statement.{statement}
 use Rattle.repack_parse.proofs.end.Tie as tie
 
 returns : tie.Need-returns
-returns c = rw (c .if1 .taken) (end-none (c .before .before .args .table .now) (c .before .before .args .st) (c .before .before .pre .0))
+returns c = rw (c .if1 .taken) (end-none (c .before .before .args .table .now) (c .before .before .args .st) (c .before .before .pre .0 .started))
 
 close-requires : tie.Need-close-requires
 close-requires c κs = search needs
@@ -20,7 +20,7 @@ returns-2 c =
     let a = c .before .before .before .before .before .before .args in
     let p = c .before .before .before .before .before .before .pre in
     let one : a .flags ≡ 1 = omega arith in
-    rw (one, c .before .before .close .ensures .0, c .before .before .close .ensures .1) (end-close (a .table .now) (a .st) (p .0) (p .1) (p .2))
+    rw (one, c .before .before .close .ensures .0, c .before .before .close .ensures .1) (end-close (a .table .now) (a .st) (p .0))
 
 pub end-spec : {M : Type 1} → statement M
 end-spec = tie.close (tie.spec returns close-requires same-length returns-2)

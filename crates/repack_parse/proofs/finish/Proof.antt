@@ -18,7 +18,7 @@ returns-2 c =
     let a = c .before .before .before .before .before .before .before .args in
     let p = c .before .before .before .before .before .before .before .pre in
     rw (c .before .before .close .ensures .0, c .before .before .close .ensures .1)
-    (λ items all h. finish-close items (a .table .now) (a .st) all (p .0) (p .1) (p .2) (c .before .before .before .before .if1 .left) h)
+    (λ items all h. finish-close items (a .table .now) (a .st) all p (c .before .before .before .before .if1 .left) h)
 
 pub finish-spec : {M : Type 1} → statement M
 finish-spec = tie.close (tie.spec returns close-requires same-length returns-2)

@@ -1,73 +1,136 @@
 -- `repack_parse::parse` meets its contract: the usual records, then one of another kind, and at last the open stretch. Assumes nothing.
-use mathlib.Core.Path.{refl, sym, ap, _∙_}
-use mathlib.Core.Bool.{false}
-use Prim.Native.Nat.{_+_, _-_}
+use mathlib.Core.Path.{sym, ap, _∙_}
+use Prim.Native.Nat.{_-_}
 use native.Mathlib.Omega.{arith}
-use lib.ListN.{length, take, drop}
-use Rattle.stream_spec.proofs.Records.{size-pos}
-use Rattle.repack_scratch.specs.Codes.{markBits}
-use Rattle.repack_scratch.proofs.Marks.{length-marks}
-use Rattle.repack_parse.proofs.Take.{reading-starts, holding-starts, reading-fits, reading-ready, reading-refused, reading-closes, holding-stands, taken, Parsing, parsing-read, parsing-marked, this-record, this-long, marks-kept}
 use borrow.Author.Needs.{needs}
+use lib.ListN.{length}
+use Rattle.stream_spec.specs.Layout.{ofWidth}
+use Rattle.stream_spec.proofs.Size.{size-pos}
+use Rattle.repack_parse.proofs.Take.{Parsing, parsing-starts, parsing-skimmed, marks-room, parsing-closes, parsing-done, parsing-fits, parsing-long, parsing-ready, parsing-marks, parsing-refused, parsing-read, parsing-marked}
 use Rattle.repack_parse.proofs.parse.Statement.{statement}
 use Rattle.repack_parse.proofs.parse.Tie as tie
+use Rattle.repack_parse.proofs.parse.Reads as reads
+use Rattle.repack_parse.proofs.parse.Lts as lts
+use Rattle.repack_parse.proofs.finish.Reads as finish-reads
+use Rattle.repack_parse.proofs.unusual.Reads as unusual-reads
+use Rattle.repack_parse.proofs.usual.skim.Reads as skim-reads
+use Rattle.repack_scratch.proofs.lanes_of.Reads as lanes-of-reads
+use Rattle.repack_scratch.proofs.record_size.Reads as record-size-reads
+use Rattle.repack_sieve.proofs.make_sieve.Reads as make-sieve-reads
 
 abbrev Inv-loop : tie.InvT-loop
-Inv-loop s input octets₀ marks₀ table₀ z full sieve st₀ at₀ plain₀ octets marks table st at plain = Parsing s input octets (markBits marks) table st at plain
+Inv-loop w transfers octets₀ marks₀ table₀ z lanes sieve st₀ at₀ plain₀ octets marks table st at plain =
+    Parsing w transfers octets marks table st at plain
 
 abbrev μ-loop : tie.MeasureT-loop
-μ-loop s input octets₀ marks₀ table₀ z full sieve st₀ at₀ plain₀ octets marks table st at plain = length input - at
+μ-loop w transfers octets₀ marks₀ table₀ z lanes sieve st₀ at₀ plain₀ octets marks table st at plain =
+    length transfers - at
 
 record-size-requires : tie.Need-record-size-requires Inv-loop μ-loop
-record-size-requires c κs = c .before .before .before .before .pre .0 .1
+record-size-requires c κs = c .before .before .before .before .pre .0 .0 .high
 
-full-mask-requires : tie.Need-full-mask-requires Inv-loop μ-loop
-full-mask-requires c κs = c .before .before .before .before .before .pre .0 .1
+lanes-of-requires : tie.Need-lanes-of-requires Inv-loop μ-loop
+lanes-of-requires c κs =
+    let s = c .before .before .before .before .before in
+    (s .pre .0 .0 .low, s .pre .0 .0 .high)
 
 make-sieve-requires : tie.Need-make-sieve-requires Inv-loop μ-loop
 make-sieve-requires c κs = tt
 
 loop-holds : tie.Need-loop-holds Inv-loop μ-loop
 loop-holds c =
-    let a = c .before .before .before .before .before .before .before .args in
-    let p = c .before .before .before .before .before .before .before .pre in
-    record {
-      reading = reading-starts (a .s) (a .input .now) (a .octets .now) (a .table .now) (p .0 .0) (p .0 .1) (p .0 .2) (p .0 .3) (p .1 .0) (p .1 .2);
-      holding = holding-starts (a .s) (a .input .now) (a .octets .now) (markBits (a .marks .now)) (a .table .now) (omega (arith, length-marks (a .marks .now), p .1 .0, p .1 .1)) (p .1 .3);
-      unmarked = λ t. p .1 .3;
-    }
+    let s = c .before .before .before .before .before .before .before in
+    let a = s .args in
+    let p = s .pre in
+    parsing-starts (a .w) (a .transfers .now) (a .octets .now) (a .marks .now) (a .table .now) (p .0 .0) (p .0 .1) (p .1 .0) (p .1 .1) (p .1 .2)
 
 slice-aggregate-skim : tie.Need-slice-aggregate-skim Inv-loop μ-loop
 slice-aggregate-skim c = sym (ap length (c .before .before .make-sieve .ensures))
 
 skim-requires : tie.Need-skim-requires Inv-loop μ-loop
-skim-requires c κs = (c .before .before .before .before .before .full-mask .ensures, c .before .before .before .before .make-sieve .ensures, c .before .before .before .loop .inv .reading)
+skim-requires c κs =
+    let loop = c .before .before .before in
+    let lanes = loop .before .before .lanes-of .ensures in
+    (lanes .1, loop .before .make-sieve .ensures, rw (lanes .0) (loop .loop .inv .reading))
 
 finish-requires : tie.Need-finish-requires Inv-loop μ-loop
 finish-requires c κs =
-    let a = c .before .before .before .before .before .before .before .before .before .before .before .before .before .before .before .before .before .before .args in
-    reading-closes (a .s) (a .input .now) (c .before .before .before .before .before .before .skim .last .1 .1 .1 .1 .1 .0) (c .before .before .before .before .before .before .skim .last .1 .1 .1 .1 .1 .1 .0) (c .before .before .before .before .before .before .skim .result .st) (c .before .before .before .before .before .before .skim .result .at) (c .before .before .before .before .before .before .skim .ensures .reading) (c .before .if1 .taken)
+    let skim = c .before .before .before .before .before .before in
+    let loop = skim .before .before .before .before in
+    let l = loop .loop in
+    let lanes = loop .before .before in
+    let z = lanes .before .record-size in
+    let s = lanes .before .before .before .before .before .before in
+    let a = s .args in
+    let width = lanes .lanes-of .ensures .0 in
+    let q = parsing-skimmed (a .w) (a .transfers .now) (l .octets) (l .marks) (l .table) (l .st) (l .at) (l .plain) (l .inv) (skim .skim .last .1 .1 .1 .1 .0) (skim .skim .last .1 .1 .1 .1 .1 .0) (skim .skim .result .st) (skim .skim .result .at) (rw width at (skim .skim .ensures)) in
+    parsing-closes (a .w) (a .transfers .now) (skim .skim .last .1 .1 .1 .1 .0) (l .marks) (skim .skim .last .1 .1 .1 .1 .1 .0) (skim .skim .result .st) (skim .skim .result .at) (l .plain) q (c .before .if1 .taken)
 
 same-length : tie.Need-same-length Inv-loop μ-loop
-same-length c = c .before .before .before .before .before .before .before .before .before .skim .ensures .reading .sameOctets ∙ sym (c .before .before .before .before .before .before .before .before .before .before .before .before .before .before .before .before .before .before .before .before .before .pre .1 .0)
+same-length c =
+    let skim = c .before .before .before .before .before .before .before .before .before in
+    let loop = skim .before .before .before .before in
+    let l = loop .loop in
+    let lanes = loop .before .before in
+    let z = lanes .before .record-size in
+    let s = lanes .before .before .before .before .before .before in
+    let a = s .args in
+    let width = lanes .lanes-of .ensures .0 in
+    let q = parsing-skimmed (a .w) (a .transfers .now) (l .octets) (l .marks) (l .table) (l .st) (l .at) (l .plain) (l .inv) (skim .skim .last .1 .1 .1 .1 .0) (skim .skim .last .1 .1 .1 .1 .1 .0) (skim .skim .result .st) (skim .skim .result .at) (rw width at (skim .skim .ensures)) in
+    q .reading .sameOctets ∙ sym (s .pre .1 .0)
 
 same-length-2 : tie.Need-same-length-2 Inv-loop μ-loop
-same-length-2 c = omega (arith, length-marks (c .before .before .before .before .before .before .before .before .before .before .before .before .before .loop .marks), c .before .before .before .before .before .before .before .before .before .before .before .before .before .loop .inv .holding .long, c .before .before .before .before .before .before .before .before .before .before .before .before .before .loop .inv .reading .sameOctets, c .before .before .before .before .before .before .before .before .before .before .before .before .before .before .before .before .before .before .before .before .before .pre .1 .1)
+same-length-2 c =
+    let skim = c .before .before .before .before .before .before .before .before .before in
+    let loop = skim .before .before .before .before in
+    let l = loop .loop in
+    let lanes = loop .before .before in
+    let z = lanes .before .record-size in
+    let s = lanes .before .before .before .before .before .before in
+    let a = s .args in
+    let width = lanes .lanes-of .ensures .0 in
+    let q = parsing-skimmed (a .w) (a .transfers .now) (l .octets) (l .marks) (l .table) (l .st) (l .at) (l .plain) (l .inv) (skim .skim .last .1 .1 .1 .1 .0) (skim .skim .last .1 .1 .1 .1 .1 .0) (skim .skim .result .st) (skim .skim .result .at) (rw width at (skim .skim .ensures)) in
+    marks-room (a .w) (a .transfers .now) (skim .skim .last .1 .1 .1 .1 .0) (l .marks) (skim .skim .last .1 .1 .1 .1 .1 .0) (skim .skim .result .st) (skim .skim .result .at) (l .plain) q ∙ sym (s .pre .1 .1)
 
 same-length-3 : tie.Need-same-length-3 Inv-loop μ-loop
-same-length-3 c = c .before .before .finish .kept .0 ∙ c .before .before .before .before .before .before .before .before .before .skim .ensures .reading .sameTable ∙ sym (c .before .before .before .before .before .before .before .before .before .before .before .before .before .before .before .before .before .before .before .before .before .pre .1 .2)
+same-length-3 c =
+    let skim = c .before .before .before .before .before .before .before .before .before in
+    let loop = skim .before .before .before .before in
+    let l = loop .loop in
+    let lanes = loop .before .before in
+    let z = lanes .before .record-size in
+    let s = lanes .before .before .before .before .before .before in
+    let a = s .args in
+    let width = lanes .lanes-of .ensures .0 in
+    let q = parsing-skimmed (a .w) (a .transfers .now) (l .octets) (l .marks) (l .table) (l .st) (l .at) (l .plain) (l .inv) (skim .skim .last .1 .1 .1 .1 .0) (skim .skim .last .1 .1 .1 .1 .1 .0) (skim .skim .result .st) (skim .skim .result .at) (rw width at (skim .skim .ensures)) in
+    c .before .before .finish .kept .0 ∙ q .reading .sameTable ∙ sym (s .pre .1 .2)
 
 returns : tie.Need-returns Inv-loop μ-loop
 returns c =
-    let a = c .before .before .before .before .before .before .before .before .before .before .before .before .before .before .before .before .before .before .before .before .before .args in
-    let h = (c .before .before .before .before .before .before .before .before .before .skim .ensures .holding (markBits (c .before .before .before .before .before .before .before .before .before .before .before .before .before .loop .marks)) (c .before .before .before .before .before .before .before .before .before .before .before .before .before .loop .inv .holding)) in
-    let f = c .before .before .finish .ensures _ _ (holding-stands (a .s) (a .input .now) (c .before .before .before .before .before .before .before .before .before .skim .last .1 .1 .1 .1 .1 .0) (c .before .before .before .before .before .before .before .before .before .skim .last .1 .1 .1 .1 .1 .1 .0) (c .before .before .before .before .before .before .before .before .before .skim .result .st) (c .before .before .before .before .before .before .before .before .before .skim .result .at) (c .before .before .before .before .before .before .before .before .before .skim .ensures .reading) (c .before .before .before .before .if1 .taken) (markBits (c .before .before .before .before .before .before .before .before .before .before .before .before .before .loop .marks)) h) in
-    taken (a .s) (a .input .now) (c .before .before .before .before .before .before .before .before .before .skim .last .1 .1 .1 .1 .1 .0) (c .before .before .before .before .before .before .before .before .before .skim .last .1 .1 .1 .1 .1 .1 .0) (c .before .before .before .before .before .before .before .before .before .skim .result .st) (c .before .before .before .before .before .before .before .before .before .skim .result .at) (c .before .before .before .before .before .before .before .before .before .skim .ensures .reading) (c .before .before .before .before .if1 .taken) (markBits (c .before .before .before .before .before .before .before .before .before .before .before .before .before .loop .marks)) (c .before .before .finish .last .0) (c .before .before .finish .result) (c .before .before .before .before .before .before .before .before .before .before .before .before .before .loop .plain) (h .long) (c .before .before .before .before .before .before .before .before .before .before .before .before .before .loop .inv .unmarked) (f .0) (f .1)
+    let skim = c .before .before .before .before .before .before .before .before .before in
+    let loop = skim .before .before .before .before in
+    let l = loop .loop in
+    let lanes = loop .before .before in
+    let z = lanes .before .record-size in
+    let s = lanes .before .before .before .before .before .before in
+    let a = s .args in
+    let width = lanes .lanes-of .ensures .0 in
+    let q = parsing-skimmed (a .w) (a .transfers .now) (l .octets) (l .marks) (l .table) (l .st) (l .at) (l .plain) (l .inv) (skim .skim .last .1 .1 .1 .1 .0) (skim .skim .last .1 .1 .1 .1 .1 .0) (skim .skim .result .st) (skim .skim .result .at) (rw width at (skim .skim .ensures)) in
+    let finish = c .before .before .finish in
+    parsing-done (a .w) (a .transfers .now) (skim .skim .last .1 .1 .1 .1 .0) (l .marks) (skim .skim .last .1 .1 .1 .1 .1 .0) (skim .skim .result .st) (skim .skim .result .at) (l .plain) q (c .before .before .before .before .if1 .taken) (finish .last .0) (finish .result) (finish .ensures)
 
 add-e : tie.Need-add-e Inv-loop μ-loop
 add-e c =
-    let a = c .before .before .before .before .before .before .before .before .before .before .before .before .before .before .before .before .before .args in
-    omega (arith, c .before .before .before .before .before .before .before .before .before .before .before .before .record-size .ensures, reading-fits (a .s) (a .input .now) (c .before .before .before .before .before .skim .last .1 .1 .1 .1 .1 .0) (c .before .before .before .before .before .skim .last .1 .1 .1 .1 .1 .1 .0) (c .before .before .before .before .before .skim .result .st) (c .before .before .before .before .before .skim .result .at) (c .before .before .before .before .before .skim .ensures .reading) (c .if1 .left))
+    let skim = c .before .before .before .before .before in
+    let loop = skim .before .before .before .before in
+    let l = loop .loop in
+    let lanes = loop .before .before in
+    let z = lanes .before .record-size in
+    let s = lanes .before .before .before .before .before .before in
+    let a = s .args in
+    let width = lanes .lanes-of .ensures .0 in
+    let q = parsing-skimmed (a .w) (a .transfers .now) (l .octets) (l .marks) (l .table) (l .st) (l .at) (l .plain) (l .inv) (skim .skim .last .1 .1 .1 .1 .0) (skim .skim .last .1 .1 .1 .1 .1 .0) (skim .skim .result .st) (skim .skim .result .at) (rw width at (skim .skim .ensures)) in
+    omega (arith, parsing-fits (a .w) (a .transfers .now) (skim .skim .last .1 .1 .1 .1 .0) (l .marks) (skim .skim .last .1 .1 .1 .1 .1 .0) (skim .skim .result .st) (skim .skim .result .at) (l .plain) q (c .if1 .left) (z .result) (z .ensures))
 
 sub-unusual : tie.Need-sub-unusual Inv-loop μ-loop
 sub-unusual c = search needs
@@ -77,37 +140,95 @@ part-unusual-start c = search needs
 
 part-unusual-end : tie.Need-part-unusual-end Inv-loop μ-loop
 part-unusual-end c =
-    let a = c .before .before .before .before .before .before .before .before .before .before .before .before .before .before .before .before .before .args in
-    omega (arith, c .before .before .before .before .before .before .before .before .before .before .before .before .record-size .ensures, reading-fits (a .s) (a .input .now) (c .before .before .before .before .before .skim .last .1 .1 .1 .1 .1 .0) (c .before .before .before .before .before .skim .last .1 .1 .1 .1 .1 .1 .0) (c .before .before .before .before .before .skim .result .st) (c .before .before .before .before .before .skim .result .at) (c .before .before .before .before .before .skim .ensures .reading) (c .if1 .left))
+    let skim = c .before .before .before .before .before in
+    let loop = skim .before .before .before .before in
+    let l = loop .loop in
+    let lanes = loop .before .before in
+    let z = lanes .before .record-size in
+    let s = lanes .before .before .before .before .before .before in
+    let a = s .args in
+    let width = lanes .lanes-of .ensures .0 in
+    let q = parsing-skimmed (a .w) (a .transfers .now) (l .octets) (l .marks) (l .table) (l .st) (l .at) (l .plain) (l .inv) (skim .skim .last .1 .1 .1 .1 .0) (skim .skim .last .1 .1 .1 .1 .1 .0) (skim .skim .result .st) (skim .skim .result .at) (rw width at (skim .skim .ensures)) in
+    parsing-fits (a .w) (a .transfers .now) (skim .skim .last .1 .1 .1 .1 .0) (l .marks) (skim .skim .last .1 .1 .1 .1 .1 .0) (skim .skim .result .st) (skim .skim .result .at) (l .plain) q (c .if1 .left) (z .result) (z .ensures)
 
 unusual-requires : tie.Need-unusual-requires Inv-loop μ-loop
 unusual-requires c κs =
-    let a = c .before .before .before .before .before .before .before .before .before .before .before .before .before .before .before .before .before .before .before .before .before .args in
-    let h = (c .before .before .before .before .before .before .before .before .before .skim .ensures .holding (markBits (c .before .before .before .before .before .before .before .before .before .before .before .before .before .loop .marks)) (c .before .before .before .before .before .before .before .before .before .before .before .before .before .loop .inv .holding)) in
-    let fits = reading-fits (a .s) (a .input .now) (c .before .before .before .before .before .before .before .before .before .skim .last .1 .1 .1 .1 .1 .0) (c .before .before .before .before .before .before .before .before .before .skim .last .1 .1 .1 .1 .1 .1 .0) (c .before .before .before .before .before .before .before .before .before .skim .result .st) (c .before .before .before .before .before .before .before .before .before .skim .result .at) (c .before .before .before .before .before .before .before .before .before .skim .ensures .reading) (c .before .before .before .before .if1 .left) in (
-      this-long (a .s) (a .input .now) (c .before .before .before .before .before .before .before .before .before .skim .result .at) (c .before .before .before .before .before .before .before .before .before .before .before .before .before .before .before .before .record-size .result) (c .before .before .before .before .before .before .before .before .before .before .before .before .before .before .before .before .record-size .ensures) fits,
-      reading-ready (a .s) (a .input .now) (c .before .before .before .before .before .before .before .before .before .skim .last .1 .1 .1 .1 .1 .0) (c .before .before .before .before .before .before .before .before .before .skim .last .1 .1 .1 .1 .1 .1 .0) (c .before .before .before .before .before .before .before .before .before .skim .result .st) (c .before .before .before .before .before .before .before .before .before .skim .result .at) (c .before .before .before .before .before .before .before .before .before .skim .ensures .reading) (c .before .before .before .before .if1 .left),
-      sym (length-marks (c .before .before .before .before .before .before .before .before .before .before .before .before .before .loop .marks)) ∙ h .long,
-      h .clear,
+    let skim = c .before .before .before .before .before .before .before .before .before in
+    let loop = skim .before .before .before .before in
+    let l = loop .loop in
+    let lanes = loop .before .before in
+    let z = lanes .before .record-size in
+    let s = lanes .before .before .before .before .before .before in
+    let a = s .args in
+    let width = lanes .lanes-of .ensures .0 in
+    let q = parsing-skimmed (a .w) (a .transfers .now) (l .octets) (l .marks) (l .table) (l .st) (l .at) (l .plain) (l .inv) (skim .skim .last .1 .1 .1 .1 .0) (skim .skim .last .1 .1 .1 .1 .1 .0) (skim .skim .result .st) (skim .skim .result .at) (rw width at (skim .skim .ensures)) in
+    let more = c .before .before .before .before .if1 .left in (
+      (lanes .lanes-of .ensures .1, rw width (parsing-long (a .w) (a .transfers .now) (skim .skim .last .1 .1 .1 .1 .0) (l .marks) (skim .skim .last .1 .1 .1 .1 .1 .0) (skim .skim .result .st) (skim .skim .result .at) (l .plain) q more (z .result) (z .ensures)), rw width (parsing-ready (a .w) (a .transfers .now) (skim .skim .last .1 .1 .1 .1 .0) (l .marks) (skim .skim .last .1 .1 .1 .1 .1 .0) (skim .skim .result .st) (skim .skim .result .at) (l .plain) q more (z .result) (z .ensures))),
+      (parsing-marks (a .w) (a .transfers .now) (skim .skim .last .1 .1 .1 .1 .0) (l .marks) (skim .skim .last .1 .1 .1 .1 .1 .0) (skim .skim .result .st) (skim .skim .result .at) (l .plain) q more (z .result) (z .ensures), q .holding .clear),
     )
 
 enum-known-r : tie.Need-enum-known-r Inv-loop μ-loop
 enum-known-r c = search needs
 
 same-length-4 : tie.Need-same-length-4 Inv-loop μ-loop
-same-length-4 c = c .before .before .before .before .before .before .before .before .before .unusual .kept .1 .1 .1 .0 ∙ c .before .before .before .before .before .before .before .before .before .before .before .before .before .before .before .before .before .before .before .skim .ensures .reading .sameOctets ∙ sym (c .before .before .before .before .before .before .before .before .before .before .before .before .before .before .before .before .before .before .before .before .before .before .before .before .before .before .before .before .before .before .before .pre .1 .0)
+same-length-4 c =
+    let unusual = c .before .before .before .before .before .before .before .before .before in
+    let more = unusual .before .before .before .before .before .if1 .left in
+    let skim = unusual .before .before .before .before .before .before .before .before .before .before in
+    let loop = skim .before .before .before .before in
+    let l = loop .loop in
+    let lanes = loop .before .before in
+    let z = lanes .before .record-size in
+    let s = lanes .before .before .before .before .before .before in
+    let a = s .args in
+    let width = lanes .lanes-of .ensures .0 in
+    let q = parsing-skimmed (a .w) (a .transfers .now) (l .octets) (l .marks) (l .table) (l .st) (l .at) (l .plain) (l .inv) (skim .skim .last .1 .1 .1 .1 .0) (skim .skim .last .1 .1 .1 .1 .1 .0) (skim .skim .result .st) (skim .skim .result .at) (rw width at (skim .skim .ensures)) in
+    unusual .unusual .kept .1 .1 .1 .0 ∙ q .reading .sameOctets ∙ sym (s .pre .1 .0)
 
 same-length-5 : tie.Need-same-length-5 Inv-loop μ-loop
-same-length-5 c = c .before .before .before .before .before .before .before .before .before .unusual .kept .1 .1 .1 .1 .0 ∙ omega (arith, length-marks (c .before .before .before .before .before .before .before .before .before .before .before .before .before .before .before .before .before .before .before .before .before .before .before .loop .marks), c .before .before .before .before .before .before .before .before .before .before .before .before .before .before .before .before .before .before .before .before .before .before .before .loop .inv .holding .long, c .before .before .before .before .before .before .before .before .before .before .before .before .before .before .before .before .before .before .before .before .before .before .before .loop .inv .reading .sameOctets, c .before .before .before .before .before .before .before .before .before .before .before .before .before .before .before .before .before .before .before .before .before .before .before .before .before .before .before .before .before .before .before .pre .1 .1)
+same-length-5 c =
+    let unusual = c .before .before .before .before .before .before .before .before .before in
+    let more = unusual .before .before .before .before .before .if1 .left in
+    let skim = unusual .before .before .before .before .before .before .before .before .before .before in
+    let loop = skim .before .before .before .before in
+    let l = loop .loop in
+    let lanes = loop .before .before in
+    let z = lanes .before .record-size in
+    let s = lanes .before .before .before .before .before .before in
+    let a = s .args in
+    let width = lanes .lanes-of .ensures .0 in
+    let q = parsing-skimmed (a .w) (a .transfers .now) (l .octets) (l .marks) (l .table) (l .st) (l .at) (l .plain) (l .inv) (skim .skim .last .1 .1 .1 .1 .0) (skim .skim .last .1 .1 .1 .1 .1 .0) (skim .skim .result .st) (skim .skim .result .at) (rw width at (skim .skim .ensures)) in
+    unusual .unusual .kept .1 .1 .1 .1 .0 ∙ marks-room (a .w) (a .transfers .now) (skim .skim .last .1 .1 .1 .1 .0) (l .marks) (skim .skim .last .1 .1 .1 .1 .1 .0) (skim .skim .result .st) (skim .skim .result .at) (l .plain) q ∙ sym (s .pre .1 .1)
 
 same-length-6 : tie.Need-same-length-6 Inv-loop μ-loop
-same-length-6 c = c .before .before .before .before .before .before .before .before .before .unusual .kept .1 .1 .1 .1 .1 .0 ∙ c .before .before .before .before .before .before .before .before .before .before .before .before .before .before .before .before .before .before .before .skim .ensures .reading .sameTable ∙ sym (c .before .before .before .before .before .before .before .before .before .before .before .before .before .before .before .before .before .before .before .before .before .before .before .before .before .before .before .before .before .before .before .pre .1 .2)
+same-length-6 c =
+    let unusual = c .before .before .before .before .before .before .before .before .before in
+    let more = unusual .before .before .before .before .before .if1 .left in
+    let skim = unusual .before .before .before .before .before .before .before .before .before .before in
+    let loop = skim .before .before .before .before in
+    let l = loop .loop in
+    let lanes = loop .before .before in
+    let z = lanes .before .record-size in
+    let s = lanes .before .before .before .before .before .before in
+    let a = s .args in
+    let width = lanes .lanes-of .ensures .0 in
+    let q = parsing-skimmed (a .w) (a .transfers .now) (l .octets) (l .marks) (l .table) (l .st) (l .at) (l .plain) (l .inv) (skim .skim .last .1 .1 .1 .1 .0) (skim .skim .last .1 .1 .1 .1 .1 .0) (skim .skim .result .st) (skim .skim .result .at) (rw width at (skim .skim .ensures)) in
+    unusual .unusual .kept .1 .1 .1 .1 .1 .0 ∙ q .reading .sameTable ∙ sym (s .pre .1 .2)
 
 returns-2 : tie.Need-returns-2 Inv-loop μ-loop
 returns-2 c =
-    let a = c .before .before .before .before .before .before .before .before .before .before .before .before .before .before .before .before .before .before .before .before .before .before .before .before .before .before .before .before .before .before .before .args in
-    reading-refused (a .s) (a .input .now) (c .before .before .before .before .before .before .before .before .before .before .before .before .before .before .before .before .before .before .before .skim .last .1 .1 .1 .1 .1 .0) (c .before .before .before .before .before .before .before .before .before .before .before .before .before .before .before .before .before .before .before .skim .last .1 .1 .1 .1 .1 .1 .0) (c .before .before .before .before .before .before .before .before .before .before .before .before .before .before .before .before .before .before .before .skim .result .st) (c .before .before .before .before .before .before .before .before .before .before .before .before .before .before .before .before .before .before .before .skim .result .at) (c .before .before .before .before .before .before .before .before .before .before .before .before .before .before .before .before .before .before .before .skim .ensures .reading) (c .before .before .before .before .before .before .before .before .before .before .before .before .before .before .if1 .left) (take (c .before .before .before .before .before .before .before .before .before .before .before .before .before .before .before .before .before .before .before .skim .result .at + c .before .before .before .before .before .before .before .before .before .before .before .before .before .before .before .before .before .before .before .before .before .before .before .before .before .before .record-size .result - c .before .before .before .before .before .before .before .before .before .before .before .before .before .before .before .before .before .before .before .skim .result .at) (drop (c .before .before .before .before .before .before .before .before .before .before .before .before .before .before .before .before .before .before .before .skim .result .at) (a .input .now))) (c .before .r .given .0 .0) (this-record (a .s) (a .input .now) (c .before .before .before .before .before .before .before .before .before .before .before .before .before .before .before .before .before .before .before .skim .result .at) (c .before .before .before .before .before .before .before .before .before .before .before .before .before .before .before .before .before .before .before .before .before .before .before .before .before .before .record-size .result) (c .before .before .before .before .before .before .before .before .before .before .before .before .before .before .before .before .before .before .before .before .before .before .before .before .before .before .record-size .ensures))
-    (rw (c .before .r .given .1) at (c .before .before .before .before .before .before .before .before .before .unusual .ensures))
+    let unusual = c .before .before .before .before .before .before .before .before .before in
+    let more = unusual .before .before .before .before .before .if1 .left in
+    let skim = unusual .before .before .before .before .before .before .before .before .before .before in
+    let loop = skim .before .before .before .before in
+    let l = loop .loop in
+    let lanes = loop .before .before in
+    let z = lanes .before .record-size in
+    let s = lanes .before .before .before .before .before .before in
+    let a = s .args in
+    let width = lanes .lanes-of .ensures .0 in
+    let q = parsing-skimmed (a .w) (a .transfers .now) (l .octets) (l .marks) (l .table) (l .st) (l .at) (l .plain) (l .inv) (skim .skim .last .1 .1 .1 .1 .0) (skim .skim .last .1 .1 .1 .1 .1 .0) (skim .skim .result .st) (skim .skim .result .at) (rw width at (skim .skim .ensures)) in
+    parsing-refused (a .w) (a .transfers .now) (skim .skim .last .1 .1 .1 .1 .0) (l .marks) (skim .skim .last .1 .1 .1 .1 .1 .0) (skim .skim .result .st) (skim .skim .result .at) (l .plain) q more (z .result) (z .ensures) (c .before .r .given .0 .0) (rw (width, c .before .r .given .1) at (unusual .unusual .ensures))
 
 enum-known-o : tie.Need-enum-known-o Inv-loop μ-loop
 enum-known-o c = search needs
@@ -117,31 +238,67 @@ enum-known-o-2 c = search needs
 
 loop-less : tie.Need-loop-less Inv-loop μ-loop
 loop-less c =
-    let a = c .before .before .before .before .before .before .before .before .before .before .before .before .before .before .before .before .before .before .before .before .before .before .before .before .before .before .before .before .before .before .before .args in
-    omega (arith, c .before .before .before .before .before .before .before .before .before .before .before .before .before .before .before .before .before .before .before .before .before .before .before .before .before .before .record-size .ensures, size-pos (a .s), c .before .before .before .before .before .before .before .before .before .before .before .before .before .before .before .before .before .before .before .skim .ensures .on, c .before .before .before .before .before .before .before .before .before .before .before .before .before .before .if1 .left, reading-fits (a .s) (a .input .now) (c .before .before .before .before .before .before .before .before .before .before .before .before .before .before .before .before .before .before .before .skim .last .1 .1 .1 .1 .1 .0) (c .before .before .before .before .before .before .before .before .before .before .before .before .before .before .before .before .before .before .before .skim .last .1 .1 .1 .1 .1 .1 .0) (c .before .before .before .before .before .before .before .before .before .before .before .before .before .before .before .before .before .before .before .skim .result .st) (c .before .before .before .before .before .before .before .before .before .before .before .before .before .before .before .before .before .before .before .skim .result .at) (c .before .before .before .before .before .before .before .before .before .before .before .before .before .before .before .before .before .before .before .skim .ensures .reading) (c .before .before .before .before .before .before .before .before .before .before .before .before .before .before .if1 .left))
+    let unusual = c .before .before .before .before .before .before .before .before .before in
+    let more = unusual .before .before .before .before .before .if1 .left in
+    let skim = unusual .before .before .before .before .before .before .before .before .before .before in
+    let loop = skim .before .before .before .before in
+    let l = loop .loop in
+    let lanes = loop .before .before in
+    let z = lanes .before .record-size in
+    let s = lanes .before .before .before .before .before .before in
+    let a = s .args in
+    let width = lanes .lanes-of .ensures .0 in
+    let q = parsing-skimmed (a .w) (a .transfers .now) (l .octets) (l .marks) (l .table) (l .st) (l .at) (l .plain) (l .inv) (skim .skim .last .1 .1 .1 .1 .0) (skim .skim .last .1 .1 .1 .1 .1 .0) (skim .skim .result .st) (skim .skim .result .at) (rw width at (skim .skim .ensures)) in
+    omega (arith, z .ensures, size-pos (ofWidth (a .w)), skim .skim .ensures .on, parsing-fits (a .w) (a .transfers .now) (skim .skim .last .1 .1 .1 .1 .0) (l .marks) (skim .skim .last .1 .1 .1 .1 .1 .0) (skim .skim .result .st) (skim .skim .result .at) (l .plain) q more (z .result) (z .ensures))
 
 loop-again : tie.Need-loop-again Inv-loop μ-loop
 loop-again c =
-    let a = c .before .before .before .before .before .before .before .before .before .before .before .before .before .before .before .before .before .before .before .before .before .before .before .before .before .before .before .before .before .before .before .args in
-    let n = rw (c .before .o .given .1) at (c .before .before .before .before .before .before .before .before .before .unusual .ensures) in
-    rw (c .before .before .before .before .before .before .before .before .before .before .before .before .before .before .before .before .before .before .before .before .before .before .before .before .before .before .record-size .ensures)
-    (parsing-read (a .s) (a .input .now) (c .before .before .before .before .before .before .before .before .before .before .before .before .before .before .before .before .before .before .before .skim .last .1 .1 .1 .1 .1 .0) (markBits (c .before .before .before .before .before .before .before .before .before .before .before .before .before .before .before .before .before .before .before .before .before .before .before .loop .marks)) (c .before .before .before .before .before .before .before .before .before .before .before .before .before .before .before .before .before .before .before .skim .last .1 .1 .1 .1 .1 .1 .0) (c .before .before .before .before .before .before .before .before .before .before .before .before .before .before .before .before .before .before .before .skim .result .st) (c .before .before .before .before .before .before .before .before .before .before .before .before .before .before .before .before .before .before .before .skim .result .at) (c .before .before .before .before .before .before .before .before .before .before .before .before .before .before .before .before .before .before .before .skim .ensures .reading)
-    (c .before .before .before .before .before .before .before .before .before .before .before .before .before .before .before .before .before .before .before .skim .ensures .holding (markBits (c .before .before .before .before .before .before .before .before .before .before .before .before .before .before .before .before .before .before .before .before .before .before .before .loop .marks)) (c .before .before .before .before .before .before .before .before .before .before .before .before .before .before .before .before .before .before .before .before .before .before .before .loop .inv .holding)) (c .before .before .before .before .before .before .before .before .before .before .before .before .before .before .if1 .left) (take (c .before .before .before .before .before .before .before .before .before .before .before .before .before .before .before .before .before .before .before .skim .result .at + c .before .before .before .before .before .before .before .before .before .before .before .before .before .before .before .before .before .before .before .before .before .before .before .before .before .before .record-size .result - c .before .before .before .before .before .before .before .before .before .before .before .before .before .before .before .before .before .before .before .skim .result .at) (drop (c .before .before .before .before .before .before .before .before .before .before .before .before .before .before .before .before .before .before .before .skim .result .at) (a .input .now))) (this-record (a .s) (a .input .now) (c .before .before .before .before .before .before .before .before .before .before .before .before .before .before .before .before .before .before .before .skim .result .at) (c .before .before .before .before .before .before .before .before .before .before .before .before .before .before .before .before .before .before .before .before .before .before .before .before .before .before .record-size .result) (c .before .before .before .before .before .before .before .before .before .before .before .before .before .before .before .before .before .before .before .before .before .before .before .before .before .before .record-size .ensures))
-    (c .before .before .before .before .before .before .before .before .before .unusual .last .1 .1 .1 .0) (markBits (c .before .before .before .before .before .before .before .before .before .unusual .last .1 .1 .1 .1 .0)) (c .before .before .before .before .before .before .before .before .before .unusual .last .1 .1 .1 .1 .1 .0) (c .before .o .given .0 .0) (c .before .before .before .before .before .before .before .before .before .before .before .before .before .before .before .before .before .before .before .before .before .before .before .loop .plain) (c .before .before .before .before .before .before .before .before .before .unusual .kept .1 .1 .1 .0) (marks-kept (c .before .before .before .before .before .before .before .before .before .before .before .before .before .before .before .before .before .before .before .before .before .before .before .loop .marks) (c .before .before .before .before .before .before .before .before .before .unusual .last .1 .1 .1 .1 .0) (c .before .before .before .before .before .before .before .before .before .unusual .kept .1 .1 .1 .1 .0)) (n .0) (n .1) (c .before .before .before .before .before .before .before .before .before .before .before .before .before .before .before .before .before .before .before .before .before .before .before .loop .inv .unmarked))
+    let unusual = c .before .before .before .before .before .before .before .before .before in
+    let more = unusual .before .before .before .before .before .if1 .left in
+    let skim = unusual .before .before .before .before .before .before .before .before .before .before in
+    let loop = skim .before .before .before .before in
+    let l = loop .loop in
+    let lanes = loop .before .before in
+    let z = lanes .before .record-size in
+    let s = lanes .before .before .before .before .before .before in
+    let a = s .args in
+    let width = lanes .lanes-of .ensures .0 in
+    let q = parsing-skimmed (a .w) (a .transfers .now) (l .octets) (l .marks) (l .table) (l .st) (l .at) (l .plain) (l .inv) (skim .skim .last .1 .1 .1 .1 .0) (skim .skim .last .1 .1 .1 .1 .1 .0) (skim .skim .result .st) (skim .skim .result .at) (rw width at (skim .skim .ensures)) in
+    let told = c .before .o .given in
+    let n = rw (width, told .1) at (unusual .unusual .ensures) in
+    parsing-read (a .w) (a .transfers .now) (skim .skim .last .1 .1 .1 .1 .0) (l .marks) (skim .skim .last .1 .1 .1 .1 .1 .0) (skim .skim .result .st) (skim .skim .result .at) (l .plain) q more (z .result) (z .ensures) (unusual .unusual .last .1 .1 .1 .0) (unusual .unusual .last .1 .1 .1 .1 .0) (unusual .unusual .last .1 .1 .1 .1 .1 .0) (told .0 .0) (unusual .unusual .kept .1 .1 .1 .0) (unusual .unusual .kept .1 .1 .1 .1 .0) (n .0) (n .1)
 
 loop-less-2 : tie.Need-loop-less-2 Inv-loop μ-loop
 loop-less-2 c =
-    let a = c .before .before .before .before .before .before .before .before .before .before .before .before .before .before .before .before .before .before .before .before .before .before .before .before .before .before .before .before .before .before .before .args in
-    omega (arith, c .before .before .before .before .before .before .before .before .before .before .before .before .before .before .before .before .before .before .before .before .before .before .before .before .before .before .record-size .ensures, size-pos (a .s), c .before .before .before .before .before .before .before .before .before .before .before .before .before .before .before .before .before .before .before .skim .ensures .on, c .before .before .before .before .before .before .before .before .before .before .before .before .before .before .if1 .left, reading-fits (a .s) (a .input .now) (c .before .before .before .before .before .before .before .before .before .before .before .before .before .before .before .before .before .before .before .skim .last .1 .1 .1 .1 .1 .0) (c .before .before .before .before .before .before .before .before .before .before .before .before .before .before .before .before .before .before .before .skim .last .1 .1 .1 .1 .1 .1 .0) (c .before .before .before .before .before .before .before .before .before .before .before .before .before .before .before .before .before .before .before .skim .result .st) (c .before .before .before .before .before .before .before .before .before .before .before .before .before .before .before .before .before .before .before .skim .result .at) (c .before .before .before .before .before .before .before .before .before .before .before .before .before .before .before .before .before .before .before .skim .ensures .reading) (c .before .before .before .before .before .before .before .before .before .before .before .before .before .before .if1 .left))
+    let unusual = c .before .before .before .before .before .before .before .before .before in
+    let more = unusual .before .before .before .before .before .if1 .left in
+    let skim = unusual .before .before .before .before .before .before .before .before .before .before in
+    let loop = skim .before .before .before .before in
+    let l = loop .loop in
+    let lanes = loop .before .before in
+    let z = lanes .before .record-size in
+    let s = lanes .before .before .before .before .before .before in
+    let a = s .args in
+    let width = lanes .lanes-of .ensures .0 in
+    let q = parsing-skimmed (a .w) (a .transfers .now) (l .octets) (l .marks) (l .table) (l .st) (l .at) (l .plain) (l .inv) (skim .skim .last .1 .1 .1 .1 .0) (skim .skim .last .1 .1 .1 .1 .1 .0) (skim .skim .result .st) (skim .skim .result .at) (rw width at (skim .skim .ensures)) in
+    omega (arith, z .ensures, size-pos (ofWidth (a .w)), skim .skim .ensures .on, parsing-fits (a .w) (a .transfers .now) (skim .skim .last .1 .1 .1 .1 .0) (l .marks) (skim .skim .last .1 .1 .1 .1 .1 .0) (skim .skim .result .st) (skim .skim .result .at) (l .plain) q more (z .result) (z .ensures))
 
 loop-again-2 : tie.Need-loop-again-2 Inv-loop μ-loop
 loop-again-2 c =
-    let a = c .before .before .before .before .before .before .before .before .before .before .before .before .before .before .before .before .before .before .before .before .before .before .before .before .before .before .before .before .before .before .before .args in
-    let n = rw (c .before .o2 .given .1) at (c .before .before .before .before .before .before .before .before .before .unusual .ensures) in
-    rw (c .before .before .before .before .before .before .before .before .before .before .before .before .before .before .before .before .before .before .before .before .before .before .before .before .before .before .record-size .ensures)
-    (parsing-marked (a .s) (a .input .now) (c .before .before .before .before .before .before .before .before .before .before .before .before .before .before .before .before .before .before .before .skim .last .1 .1 .1 .1 .1 .0) (markBits (c .before .before .before .before .before .before .before .before .before .before .before .before .before .before .before .before .before .before .before .before .before .before .before .loop .marks)) (c .before .before .before .before .before .before .before .before .before .before .before .before .before .before .before .before .before .before .before .skim .last .1 .1 .1 .1 .1 .1 .0) (c .before .before .before .before .before .before .before .before .before .before .before .before .before .before .before .before .before .before .before .skim .result .st) (c .before .before .before .before .before .before .before .before .before .before .before .before .before .before .before .before .before .before .before .skim .result .at) (c .before .before .before .before .before .before .before .before .before .before .before .before .before .before .before .before .before .before .before .skim .ensures .reading)
-    (c .before .before .before .before .before .before .before .before .before .before .before .before .before .before .before .before .before .before .before .skim .ensures .holding (markBits (c .before .before .before .before .before .before .before .before .before .before .before .before .before .before .before .before .before .before .before .before .before .before .before .loop .marks)) (c .before .before .before .before .before .before .before .before .before .before .before .before .before .before .before .before .before .before .before .before .before .before .before .loop .inv .holding)) (c .before .before .before .before .before .before .before .before .before .before .before .before .before .before .if1 .left) (take (c .before .before .before .before .before .before .before .before .before .before .before .before .before .before .before .before .before .before .before .skim .result .at + c .before .before .before .before .before .before .before .before .before .before .before .before .before .before .before .before .before .before .before .before .before .before .before .before .before .before .record-size .result - c .before .before .before .before .before .before .before .before .before .before .before .before .before .before .before .before .before .before .before .skim .result .at) (drop (c .before .before .before .before .before .before .before .before .before .before .before .before .before .before .before .before .before .before .before .skim .result .at) (a .input .now))) (this-record (a .s) (a .input .now) (c .before .before .before .before .before .before .before .before .before .before .before .before .before .before .before .before .before .before .before .skim .result .at) (c .before .before .before .before .before .before .before .before .before .before .before .before .before .before .before .before .before .before .before .before .before .before .before .before .before .before .record-size .result) (c .before .before .before .before .before .before .before .before .before .before .before .before .before .before .before .before .before .before .before .before .before .before .before .before .before .before .record-size .ensures))
-    (c .before .before .before .before .before .before .before .before .before .unusual .last .1 .1 .1 .0) (markBits (c .before .before .before .before .before .before .before .before .before .unusual .last .1 .1 .1 .1 .0)) (c .before .before .before .before .before .before .before .before .before .unusual .last .1 .1 .1 .1 .1 .0) (c .before .o2 .given .0 .0) false (c .before .before .before .before .before .before .before .before .before .unusual .kept .1 .1 .1 .0) (marks-kept (c .before .before .before .before .before .before .before .before .before .before .before .before .before .before .before .before .before .before .before .before .before .before .before .loop .marks) (c .before .before .before .before .before .before .before .before .before .unusual .last .1 .1 .1 .1 .0) (c .before .before .before .before .before .before .before .before .before .unusual .kept .1 .1 .1 .1 .0)) n refl)
+    let unusual = c .before .before .before .before .before .before .before .before .before in
+    let more = unusual .before .before .before .before .before .if1 .left in
+    let skim = unusual .before .before .before .before .before .before .before .before .before .before in
+    let loop = skim .before .before .before .before in
+    let l = loop .loop in
+    let lanes = loop .before .before in
+    let z = lanes .before .record-size in
+    let s = lanes .before .before .before .before .before .before in
+    let a = s .args in
+    let width = lanes .lanes-of .ensures .0 in
+    let q = parsing-skimmed (a .w) (a .transfers .now) (l .octets) (l .marks) (l .table) (l .st) (l .at) (l .plain) (l .inv) (skim .skim .last .1 .1 .1 .1 .0) (skim .skim .last .1 .1 .1 .1 .1 .0) (skim .skim .result .st) (skim .skim .result .at) (rw width at (skim .skim .ensures)) in
+    let told = c .before .o2 .given in
+    let n = rw (width, told .1) at (unusual .unusual .ensures) in
+    parsing-marked (a .w) (a .transfers .now) (skim .skim .last .1 .1 .1 .1 .0) (l .marks) (skim .skim .last .1 .1 .1 .1 .1 .0) (skim .skim .result .st) (skim .skim .result .at) (l .plain) q more (z .result) (z .ensures) (unusual .unusual .last .1 .1 .1 .0) (unusual .unusual .last .1 .1 .1 .1 .0) (unusual .unusual .last .1 .1 .1 .1 .1 .0) (told .0 .0) (unusual .unusual .kept .1 .1 .1 .0) (unusual .unusual .kept .1 .1 .1 .1 .0) n
 
 pub parse-spec : {M : Type 1} → statement M
 parse-spec =
@@ -150,7 +307,7 @@ parse-spec =
     Inv-loop
     μ-loop
     record-size-requires
-    full-mask-requires
+    lanes-of-requires
     make-sieve-requires
     loop-holds
     slice-aggregate-skim

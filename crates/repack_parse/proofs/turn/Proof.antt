@@ -27,7 +27,7 @@ returns-3 c =
     let a = c .before .before .before .before .before .before .before .before .before .before .args in
     let p = c .before .before .before .before .before .before .before .before .before .before .pre in
     rw (c .turned2 .ensures, c .before .before .before .close .ensures .0, c .before .before .before .close .ensures .1)
-    (turn-close (a .table .now) (a .st) (p .0) (p .1) (p .2) (a .pair) (c .before .before .before .before .before .before .before .if1 .left) (c .before .before .before .before .before .if2 .left))
+    (turn-close (a .table .now) (a .st) p (a .pair) (c .before .before .before .before .before .before .before .if1 .left) (c .before .before .before .before .before .if2 .left))
 
 pub turn-spec : {M : Type 1} → statement M
 turn-spec =

@@ -3,21 +3,34 @@ use mathlib.Core.Path.{refl, sym, _∙_}
 use Prim.Native.Nat.{_/_}
 use native.Mathlib.Omega.{arith}
 use lib.Pow.{pow-mono}
-use Rattle.stream_spec.specs.Layout.{size}
-use Rattle.stream_spec.proofs.Records.{size-pos}
-use Rattle.repack_scratch.specs.Codes.{heldCodes, markBits}
+use Rattle.stream_spec.specs.Layout.{size, ofWidth}
+use Rattle.stream_spec.proofs.Size.{size-pos, size-holds}
+use Rattle.stream_record.proofs.RecordFaults.{told-field, told-reserved, told-sound, told-fits}
+use Rattle.repack_scratch.specs.Codes.{codesIn, markBits}
 use Rattle.repack_scratch.proofs.Marks.{length-marks}
-use Rattle.repack_parse.proofs.Faults.{fields-of, told-field, told-reserved, told-sound, told-fields}
-use Rattle.repack_parse.proofs.Records.{size-low, added-none, data-marked}
+use Rattle.repack_parse.proofs.Records.{added-none, data-marked}
 use borrow.Author.Needs.{needs}
 use Rattle.repack_parse.proofs.unusual.Statement.{statement}
 use Rattle.repack_parse.proofs.unusual.Tie as tie
+use Rattle.repack_parse.proofs.unusual.Reads as reads
+use Rattle.repack_parse.proofs.unusual.Lts as lts
+use Rattle.repack_parse.proofs.add_data.Reads as add-data-reads
+use Rattle.repack_parse.proofs.add_marked.Reads as add-marked-reads
+use Rattle.repack_scratch.proofs.plain_shape.Reads as shape-of-reads
+use Rattle.repack_scratch.proofs.record_size.Reads as record-size-reads
+use Rattle.stream_record.proofs.fault_of.Reads as fault-of-reads
+use Rattle.stream_record.proofs.read_header.Reads as read-header-reads
 
 read-header-requires : tie.Need-read-header-requires
-read-header-requires c κs = omega (arith, c .before .before .before .before .pre .0, size-low (c .before .before .before .before .args .s))
+read-header-requires c κs =
+    let s = c .before .before .before .before in
+    omega (arith, s .pre .0 .1, size-holds (ofWidth (s .args .lanes .width)))
 
-judge-requires : tie.Need-judge-requires
-judge-requires c κs = search needs
+shape-of-requires : tie.Need-shape-of-requires
+shape-of-requires c κs = search needs
+
+fault-of-requires : tie.Need-fault-of-requires
+fault-of-requires c κs = rw (c .shape-of .ensures) (c .before .before .before .before .before .before .pre .0 .0 .high)
 
 enum-told : tie.Need-enum-told
 enum-told c = search needs
@@ -25,8 +38,8 @@ enum-told c = search needs
 record-size-requires : tie.Need-record-size-requires
 record-size-requires c κs = search needs
 
-div-t12 : tie.Need-div-t12
-div-t12 c = rw (c .record-size .ensures) (size-pos (c .before .before .before .before .before .before .before .before .before .args .s))
+div-t13 : tie.Need-div-t13
+div-t13 c = rw (c .record-size .ensures) (size-pos (ofWidth (c .before .before .before .before .before .before .before .before .before .before .args .lanes .width)))
 
 enum-told-2 : tie.Need-enum-told-2
 enum-told-2 c = search needs
@@ -34,30 +47,37 @@ enum-told-2 c = search needs
 record-size-requires-2 : tie.Need-record-size-requires-2
 record-size-requires-2 c κs = search needs
 
-div-t15 : tie.Need-div-t15
-div-t15 c = rw (c .record-size2 .ensures) (size-pos (c .before .before .before .before .before .before .before .before .before .args .s))
+div-t16 : tie.Need-div-t16
+div-t16 c = rw (c .record-size2 .ensures) (size-pos (ofWidth (c .before .before .before .before .before .before .before .before .before .before .args .lanes .width)))
 
 enum-told-3 : tie.Need-enum-told-3
 enum-told-3 c = search needs
 
 add-if1 : tie.Need-add-if1
 add-if1 c =
-    let a = c .before .before .before .before .before .before .before .before .before .args in
-    let f = fields-of (a .s) (c .before .before .before .before .read-header .result) (told-fields (a .s) (a .rec .now) (a .at / size (a .s)) (c .before .before .before .before .read-header .result) (c .before .before .before .before .read-header .ensures) (sym (c .before .enum-told3 .given .1) ∙ c .before .before .before .judge .ensures)) in
-    omega (arith, f .flags, f .keep, pow-mono (c .before .before .before .before .before .before .before .before .before .pre .1 .high))
+    let fault = c .before .before .before in
+    let read = fault .before .before .read-header in
+    let s = fault .before .before .before .before .before .before .before in
+    let a = s .args in
+    let p = s .pre in
+    let f = told-fits (ofWidth (a .lanes .width)) (a .rec .now) (a .at / size (ofWidth (a .lanes .width))) (read .result) (read .ensures) (sym (c .before .enum-told3 .given .1) ∙ (rw (fault .before .shape-of .ensures) at (fault .fault-of .ensures))) in
+    omega (arith, f .flags, f .keep, pow-mono (p .0 .0 .high))
 
 returns : tie.Need-returns
 returns c =
-    let a = c .before .before .before .before .before .before .before .before .before .before .args in
-    let p = c .before .before .before .before .before .before .before .before .before .before .pre in (
+    let fault = c .before .before .before .before in
+    let read = fault .before .before .read-header in
+    let s = fault .before .before .before .before .before .before .before in
+    let a = s .args in
+    let p = s .pre in
+    let known = fault .before .before .before .before .before .before in (
       record {
-        faultless = told-sound (a .s) (a .rec .now) (a .at / size (a .s)) (c .before .before .before .before .before .read-header .result) (c .before .before .before .before .before .read-header .ensures) (sym (c .before .before .enum-told3 .given .1) ∙ c .before .before .before .before .judge .ensures);
+        faultless = told-sound (ofWidth (a .lanes .width)) (a .rec .now) (a .at / size (ofWidth (a .lanes .width))) (read .result) (read .ensures) (sym (c .before .before .enum-told3 .given .1) ∙ (rw (fault .before .shape-of .ensures) at (fault .fault-of .ensures)));
         added = record {
           added =
-              added-none (a .s) (a .rec .now) (a .octets .now) (a .table .now) (a .table .now) (c .before .before .before .before .before .read-header .result) (a .st) (a .st)
-              (λ i. omega (arith, c .before .before .before .before .before .before .before .before .before .shared-slice-known .given i)) (p .0) (c .before .before .before .before .before .read-header .ensures) (told-fields (a .s) (a .rec .now) (a .at / size (a .s)) (c .before .before .before .before .before .read-header .result) (c .before .before .before .before .before .read-header .ensures) (sym (c .before .before .enum-told3 .given .1) ∙ c .before .before .before .before .judge .ensures)) (p .1)
-              (heldCodes (a .octets .now) (markBits (a .marks .now))) (c .if1 .taken);
-          clear = p .3;
+              added-none (a .lanes .width) (a .rec .now) (a .octets .now) (a .table .now) (read .result) (a .st) (λ i. omega (arith, known .shared-slice-known .given i)) (p .0 .1) (read .ensures) (p .0 .2)
+              (codesIn (a .octets .now) (a .marks .now)) (c .if1 .taken);
+          clear = p .1 .1;
         };
       },
       refl,
@@ -65,9 +85,12 @@ returns c =
 
 add-data-requires : tie.Need-add-data-requires
 add-data-requires c κs =
-    let a = c .before .before .before .before .before .before .before .before .before .before .before .before .before .before .args in
-    let p = c .before .before .before .before .before .before .before .before .before .before .before .before .before .before .pre in
-    ((c .before .before .before .before .before .before .before .before .before .read-header .ensures, p .0, told-fields (a .s) (a .rec .now) (a .at / size (a .s)) (c .before .before .before .before .before .before .before .before .before .read-header .result) (c .before .before .before .before .before .before .before .before .before .read-header .ensures) (sym (c .before .before .before .before .before .before .enum-told3 .given .1) ∙ c .before .before .before .before .before .before .before .before .judge .ensures), c .before .before .before .before .if1 .left, c .before .before .if2 .taken), p .1)
+    let fault = c .before .before .before .before .before .before .before .before in
+    let read = fault .before .before .read-header in
+    let s = fault .before .before .before .before .before .before .before in
+    let a = s .args in
+    let p = s .pre in
+    (p .0 .0, record { header = read .ensures; long = p .0 .1; fits = told-fits (ofWidth (a .lanes .width)) (a .rec .now) (a .at / size (ofWidth (a .lanes .width))) (read .result) (read .ensures) (sym (c .before .before .before .before .before .before .enum-told3 .given .1) ∙ (rw (fault .before .shape-of .ensures) at (fault .fault-of .ensures))); some = c .before .before .before .before .if1 .left }, c .before .before .if2 .taken, p .0 .2)
 
 same-length : tie.Need-same-length
 same-length c = search needs
@@ -77,31 +100,47 @@ same-length-2 c = search needs
 
 returns-2 : tie.Need-returns-2
 returns-2 c =
-    let a = c .before .before .before .before .before .before .before .before .before .before .before .before .before .before .before .before .before .before .before .args in
-    let p = c .before .before .before .before .before .before .before .before .before .before .before .before .before .before .before .before .before .before .before .pre in (
+    let fault = c .before .before .before .before .before .before .before .before .before .before .before .before .before in
+    let read = fault .before .before .read-header in
+    let s = fault .before .before .before .before .before .before .before in
+    let a = s .args in
+    let p = s .pre in
+    let add = c .before .before .before .before .add-data in (
       record {
-        faultless = told-sound (a .s) (a .rec .now) (a .at / size (a .s)) (c .before .before .before .before .before .before .before .before .before .before .before .before .before .before .read-header .result) (c .before .before .before .before .before .before .before .before .before .before .before .before .before .before .read-header .ensures) (sym (c .before .before .before .before .before .before .before .before .before .before .before .enum-told3 .given .1) ∙ c .before .before .before .before .before .before .before .before .before .before .before .before .before .judge .ensures);
-        added = data-marked (a .s) (a .rec .now) (a .octets .now) (markBits (a .marks .now)) (a .table .now) (a .st) (c .before .before .before .before .add-data .last .1 .1 .1 .0) (c .before .before .before .before .add-data .last .1 .1 .1 .1 .0) (c .before .before .before .before .add-data .result)
-            (length-marks (a .marks .now) ∙ p .2) (p .3) (c .before .before .before .before .add-data .ensures);
+        faultless = told-sound (ofWidth (a .lanes .width)) (a .rec .now) (a .at / size (ofWidth (a .lanes .width))) (read .result) (read .ensures) (sym (c .before .before .before .before .before .before .before .before .before .before .before .enum-told3 .given .1) ∙ (rw (fault .before .shape-of .ensures) at (fault .fault-of .ensures)));
+        added =
+            data-marked (a .lanes .width) (a .rec .now) (a .octets .now) (markBits (a .marks .now)) (a .table .now) (a .st) (add .last .1 .1 .1 .0) (add .last .1 .1 .1 .1 .0) (add .result)
+            (length-marks (a .marks .now) ∙ p .1 .0) (p .1 .1) (add .ensures);
       },
       refl,
     )
 
 add-marked-requires : tie.Need-add-marked-requires
 add-marked-requires c κs =
-    let a = c .before .before .before .before .before .before .before .before .before .before .before .before .before .before .before .args in
-    let p = c .before .before .before .before .before .before .before .before .before .before .before .before .before .before .before .pre in
-    ((c .before .before .before .before .before .before .before .before .before .before .read-header .ensures, p .0, told-fields (a .s) (a .rec .now) (a .at / size (a .s)) (c .before .before .before .before .before .before .before .before .before .before .read-header .result) (c .before .before .before .before .before .before .before .before .before .before .read-header .ensures) (sym (c .before .before .before .before .before .before .before .enum-told3 .given .1) ∙ c .before .before .before .before .before .before .before .before .before .judge .ensures), c .before .before .before .before .before .if1 .left), (p .1, p .2, p .3))
+    let fault = c .before .before .before .before .before .before .before .before .before in
+    let read = fault .before .before .read-header in
+    let s = fault .before .before .before .before .before .before .before in
+    let a = s .args in
+    let p = s .pre in
+    ((record { header = read .ensures; long = p .0 .1; fits = told-fits (ofWidth (a .lanes .width)) (a .rec .now) (a .at / size (ofWidth (a .lanes .width))) (read .result) (read .ensures) (sym (c .before .before .before .before .before .before .before .enum-told3 .given .1) ∙ (rw (fault .before .shape-of .ensures) at (fault .fault-of .ensures))); some = c .before .before .before .before .before .if1 .left }, p .0 .2), p .1)
 
 returns-3 : tie.Need-returns-3
 returns-3 c =
-    let a = c .before .before .before .before .before .before .before .before .before .args in
-    rw (c .record-size .ensures) (told-field (a .s) (a .rec .now) (a .at / size (a .s)) (c .before .before .before .before .read-header .result) (c .before .before .before .before .read-header .ensures) (sym (c .before .enum-told .given .1) ∙ c .before .before .before .judge .ensures))
+    let fault = c .before .before .before in
+    let read = fault .before .before .read-header in
+    let s = fault .before .before .before .before .before .before .before in
+    let a = s .args in
+    let p = s .pre in
+    rw (c .record-size .ensures) (told-field (ofWidth (a .lanes .width)) (a .rec .now) (a .at / size (ofWidth (a .lanes .width))) (read .result) (read .ensures) (sym (c .before .enum-told .given .1) ∙ (rw (fault .before .shape-of .ensures) at (fault .fault-of .ensures))))
 
 returns-4 : tie.Need-returns-4
 returns-4 c =
-    let a = c .before .before .before .before .before .before .before .before .before .args in
-    rw (c .record-size2 .ensures) (told-reserved (a .s) (a .rec .now) (a .at / size (a .s)) (c .before .before .before .before .read-header .result) (c .before .before .before .before .read-header .ensures) (sym (c .before .enum-told2 .given .1) ∙ c .before .before .before .judge .ensures))
+    let fault = c .before .before .before in
+    let read = fault .before .before .read-header in
+    let s = fault .before .before .before .before .before .before .before in
+    let a = s .args in
+    let p = s .pre in
+    rw (c .record-size2 .ensures) (told-reserved (ofWidth (a .lanes .width)) (a .rec .now) (a .at / size (ofWidth (a .lanes .width))) (read .result) (read .ensures) (sym (c .before .enum-told2 .given .1) ∙ (rw (fault .before .shape-of .ensures) at (fault .fault-of .ensures))))
 
 same-length-3 : tie.Need-same-length-3
 same-length-3 c = search needs
@@ -114,24 +153,26 @@ same-length-5 c = search needs
 
 returns-5 : tie.Need-returns-5
 returns-5 c =
-    let a = c .before .before .before .before .before .before .before .before .before .before .before .before .before .before .before .before .before .before .before .before .before .before .args in
-    record {
-      faultless = told-sound (a .s) (a .rec .now) (a .at / size (a .s)) (c .before .before .before .before .before .before .before .before .before .before .before .before .before .before .before .before .before .read-header .result) (c .before .before .before .before .before .before .before .before .before .before .before .before .before .before .before .before .before .read-header .ensures) (sym (c .before .before .before .before .before .before .before .before .before .before .before .before .before .before .enum-told3 .given .1) ∙ c .before .before .before .before .before .before .before .before .before .before .before .before .before .before .before .before .judge .ensures);
-      added = c .before .before .before .before .before .before .add-marked .ensures;
-    }
+    let fault = c .before .before .before .before .before .before .before .before .before .before .before .before .before .before .before .before in
+    let read = fault .before .before .read-header in
+    let s = fault .before .before .before .before .before .before .before in
+    let a = s .args in
+    let p = s .pre in
+    record { faultless = told-sound (ofWidth (a .lanes .width)) (a .rec .now) (a .at / size (ofWidth (a .lanes .width))) (read .result) (read .ensures) (sym (c .before .before .before .before .before .before .before .before .before .before .before .before .before .before .enum-told3 .given .1) ∙ (rw (fault .before .shape-of .ensures) at (fault .fault-of .ensures))); added = c .before .before .before .before .before .before .add-marked .ensures }
 
 pub unusual-spec : {M : Type 1} → statement M
 unusual-spec =
     tie.close
     (tie.spec
     read-header-requires
-    judge-requires
+    shape-of-requires
+    fault-of-requires
     enum-told
     record-size-requires
-    div-t12
+    div-t13
     enum-told-2
     record-size-requires-2
-    div-t15
+    div-t16
     enum-told-3
     add-if1
     returns

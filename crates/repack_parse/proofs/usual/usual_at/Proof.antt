@@ -20,7 +20,7 @@ is-usual-requires c κs = search needs
 returns : tie.Need-returns
 returns c =
     let a = c .before .before .before .before .args in
-    λ t. usual-told (a .input .now) (a .at) (a .pair) (a .full) (c .before .before .load4 .result) (c .before .load42 .result) (λ i. omega (arith, c .before .before .before .shared-slice-known .given i))
+    λ t. usual-told (a .transfers .now) (a .at) (a .pair) (a .full) (c .before .before .load4 .result) (c .before .load42 .result) (λ i. omega (arith, c .before .before .before .shared-slice-known .given i))
     (c .before .before .load4 .ensures) (c .before .load42 .ensures) (c .is-usual .ensures .1 t)
 
 pub usual-at-spec : {M : Type 1} → statement M

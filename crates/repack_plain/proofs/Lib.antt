@@ -1,0 +1,4 @@
+pub mod Lanes
+pub mod Memory
+pub mod Stretches
+pub mod Fulls

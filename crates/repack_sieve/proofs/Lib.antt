@@ -1,0 +1,4 @@
+pub mod Kept
+pub mod Masks
+pub mod Sifted
+pub mod Loaded
