@@ -16,7 +16,7 @@ use Rattle.repack_parse.proofs.unusual.Reads as reads
 use Rattle.repack_parse.proofs.unusual.Lts as lts
 use Rattle.repack_parse.proofs.add_data.Reads as add-data-reads
 use Rattle.repack_parse.proofs.add_marked.Reads as add-marked-reads
-use Rattle.repack_scratch.proofs.plain_shape.Reads as shape-of-reads
+use Rattle.stream_record.proofs.shape_of.Reads as shape-of-reads
 use Rattle.repack_scratch.proofs.record_size.Reads as record-size-reads
 use Rattle.stream_record.proofs.fault_of.Reads as fault-of-reads
 use Rattle.stream_record.proofs.read_header.Reads as read-header-reads

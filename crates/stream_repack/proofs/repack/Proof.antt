@@ -1,48 +1,52 @@
--- `stream_repack::repack` meets its contract: one test after the other, in the order of the checks. Assumes nothing.
-use mathlib.Core.Path.{sym, _∙_}
-use Rattle.stream_spec.proofs.Repack.{width-fits}
-use Rattle.stream_repack.proofs.Answer.{bad-width, bad-output, bad-length}
+-- `stream_repack::repack` meets its contract: a test that refuses is the answer, and else the conversion. Assumes nothing.
+use Rattle.stream_repack.specs.Tests.{inputChecks}
+use Rattle.stream_record.proofs.Tests.{refused-is, passed-is}
+use Rattle.stream_repack.proofs.Answer.{not-passed}
 use borrow.Author.Needs.{needs}
 use Rattle.stream_repack.proofs.repack.Statement.{statement}
 use Rattle.stream_repack.proofs.repack.Tie as tie
+use Rattle.stream_repack.proofs.repack.Reads as reads
+use Rattle.stream_repack.proofs.repack.Lts as lts
+use Rattle.stream_record.proofs.check_input.Reads as check-input-reads
+use Rattle.stream_repack.proofs.convert.Reads as convert-reads
 
-bad-width-requires : tie.Need-bad-width-requires
-bad-width-requires c κs = search needs
+check-input-requires : tie.Need-check-input-requires
+check-input-requires c κs = search needs
 
-returns : tie.Need-returns
-returns c = bad-width (c .before .before .before .before .args .s) (c .before .before .before .before .args .v) (c .before .before .before .before .args .input .now) (c .before .before .before .before .args .out .now) (sym (c .before .bad-width .ensures) ∙ c .if1 .taken)
+enum-known-f : tie.Need-enum-known-f
+enum-known-f c = search needs
 
-bad-width-requires-2 : tie.Need-bad-width-requires-2
-bad-width-requires-2 c κs = search needs
-
-returns-2 : tie.Need-returns-2
-returns-2 c = bad-output (c .before .before .before .before .before .before .args .s) (c .before .before .before .before .before .before .args .v) (c .before .before .before .before .before .before .args .input .now) (c .before .before .before .before .before .before .args .out .now) (sym (c .before .before .before .bad-width .ensures) ∙ c .before .before .if1 .left) (sym (c .before .bad-width2 .ensures) ∙ c .if2 .taken)
-
-bad-length-requires : tie.Need-bad-length-requires
-bad-length-requires c κs = width-fits (c .before .before .before .before .before .before .args .s .width) (sym (c .before .before .before .bad-width .ensures) ∙ c .before .before .if1 .left) .high
-
-returns-3 : tie.Need-returns-3
-returns-3 c = bad-length (c .before .before .before .before .before .before .before .before .args .s) (c .before .before .before .before .before .before .before .before .args .v) (c .before .before .before .before .before .before .before .before .args .input .now) (c .before .before .before .before .before .before .before .before .args .out .now) (sym (c .before .before .before .before .before .bad-width .ensures) ∙ c .before .before .before .before .if1 .left) (sym (c .before .before .before .bad-width2 .ensures) ∙ c .before .before .if2 .left) (sym (c .before .bad-length .ensures) ∙ c .if3 .taken)
+enum-told : tie.Need-enum-told
+enum-told c = search needs
 
 convert-requires : tie.Need-convert-requires
-convert-requires c κs = (sym (c .before .before .before .before .before .before .bad-width .ensures) ∙ c .before .before .before .before .before .if1 .left, sym (c .before .before .before .before .bad-width2 .ensures) ∙ c .before .before .before .if2 .left, sym (c .before .before .bad-length .ensures) ∙ c .before .if3 .left)
+convert-requires c κs =
+    let check = c .before .before .before .check-input in
+    let a = c .before .before .before .before .before .before .args in
+    passed-is (check .result) (inputChecks (a .s) (a .v) (a .transfers .now)) (check .ensures) (c .before .enum-told .given .1)
+
+returns : tie.Need-returns
+returns c =
+    let check = c .before .before .before .check-input in
+    let told = c .before .f .given in
+    let a = c .before .before .before .before .before .before .args in
+    not-passed (a .s) (a .v) (a .transfers .now) (a .out .now) (told .0 .0)
+    (refused-is (check .result) (inputChecks (a .s) (a .v) (a .transfers .now)) (check .ensures) (told .0 .0) (told .1))
 
 same-length : tie.Need-same-length
 same-length c = search needs
 
-returns-4 : tie.Need-returns-4
-returns-4 c = search needs
+returns-2 : tie.Need-returns-2
+returns-2 c = search needs
 
 pub repack-spec : {M : Type 1} → statement M
 repack-spec =
     tie.close
     (tie.spec
-    bad-width-requires
-    returns
-    bad-width-requires-2
-    returns-2
-    bad-length-requires
-    returns-3
+    check-input-requires
+    enum-known-f
+    enum-told
     convert-requires
+    returns
     same-length
-    returns-4)
+    returns-2)
