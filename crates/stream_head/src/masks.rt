@@ -1,4 +1,6 @@
 // Tells a field fault by two words of a header, octets 0 to 3 and octets 3 to 6, and the bits of them that must be zero.
+use crate::BOTH_MASKS;
+use crate::MASK;
 use crate::Zeros;
 use stream_record::layout::FLAGS;
 use stream_record::layout::TKEEP;
@@ -12,11 +14,6 @@ ghost use Rattle.stream_head.specs.Zeros.{zerosOf, TellsFault};
 // Octets 0 to 3 as one number: bits 4 to 7 of TDEST in octet 2 are bits 20 to 23, and with bit 8, from which the flags in use
 // are taken away, all bits of octet 0 above those flags.
 const LOW_ZEROS: u32 = 0xF0_0000 + 0x100;
-
-// Octets 3 to 6 as one number: TKEEP is bits 0 to 15, TSTRB is bits 16 to 31, and a mask times BOTH_MASKS stands in both.
-const MASK: u32 = 0x1_0000;
-
-const BOTH_MASKS: u32 = 0x1_0001;
 
 // The bits that must be zero where `used` flags of octet 0 are in use.
 pub fn must_be_zero(used: u32, s: Shape) -> Zeros

@@ -1,5 +1,10 @@
 // Tells the usual record by its header alone, read as two overlapping words: no fault, no position lane, and the pair of
 // the record before it. A record that is not told so here may still be a sound one: who reads it judges it in full.
+use crate::BOTH_MASKS;
+use crate::KEEP_LOW;
+use crate::MASK;
+use crate::OCTET;
+use crate::PAIR;
 ghost use mathlib.Core.Path.{_≡_};
 ghost use mathlib.Core.Bool.{true};
 ghost use Prim.Native.Nat.{_<_};
@@ -11,11 +16,11 @@ pub fn is_usual(lo: u32, hi: u32, pair: u32, full: u32) -> bool
     requires { ⌜ pair < 0x1000 ⌝ }
     ensures { λ r. ⌜ (r ≡ usualTest lo hi pair full) × (r ≡ true → UsualWords lo hi pair full) ⌝ }
 {
-    if lo - lo % 2 != 0x100 * pair + 0x100_0000 * (hi % 0x100) {
+    if lo - lo % 2 != PAIR * pair + KEEP_LOW * (hi % OCTET) {
         return false;
     }
-    if hi != 0x1_0001 * (hi % 0x1_0000) {
+    if hi != BOTH_MASKS * (hi % MASK) {
         return false;
     }
-    hi % 0x1_0000 <= full
+    hi % MASK <= full
 }

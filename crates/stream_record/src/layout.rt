@@ -21,12 +21,10 @@ pub const TSTRB: usize = 5;
 
 pub const TSTRB_HIGH: usize = TSTRB + 1;
 
-// The most byte lanes, and the octets of the smallest and of the largest record.
-pub const WIDEST: usize = 16;
+// The most byte lanes, and the octets of the smallest record.
+pub const WIDTH_MOST: usize = 16;
 
 pub const SIZE_LEAST: usize = HEAD_OCTETS + 1;
-
-pub const SIZE_MOST: usize = HEAD_OCTETS + WIDEST;
 
 pub const TDEST_MOST: u8 = 15;
 

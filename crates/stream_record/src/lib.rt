@@ -20,7 +20,7 @@ use layout::TDEST_MOST;
 use layout::TID;
 use layout::TKEEP;
 use layout::TSTRB;
-use layout::WIDEST;
+use layout::WIDTH_MOST;
 use refusal::Refusal;
 use stream_spec::Shape;
 use words::widen4;
@@ -74,7 +74,7 @@ pub fn bad_width(w: usize) -> bool
     if w == 0 {
         return true;
     }
-    WIDEST < w
+    WIDTH_MOST < w
 }
 
 // The octets of a record. The width has passed its test.
@@ -120,7 +120,7 @@ pub fn read_header(rec: &[u8]) -> Header
 }
 
 // Whether a bit that must be zero is set, or TDEST is above 15; `used` flags of octet 0 are in use.
-pub fn field_fault(h: Header, used: u32, s: Shape) -> bool
+fn field_fault(h: Header, used: u32, s: Shape) -> bool
     requires { ⌜ (s .width ≤ widthMost) × (used ≤ 8) ⌝ }
     ensures { λ r. ⌜ r ≡ headerFault used s h ⌝ }
 {
