@@ -7,9 +7,9 @@ use Prim.Native.Nat.{ℕ}
 use Rattle.burst_spec.specs.Answers as burst
 use Rattle.stream_spec.specs.declared.Shape.{Shape}
 use Rattle.stream_spec.specs.Answers.{Values}
-use Rattle.report_call.specs.declared.Verdict.{Verdict}
-use Rattle.report_call.specs.Report.{Whole}
-use Rattle.report_call.proofs.Once.{both}
+use Rattle.report_spec.specs.declared.Verdict.{Verdict}
+use Rattle.report_spec.specs.Report.{Whole}
+use Rattle.report_spec.proofs.Once.{both}
 use Rattle.capi.specs.declared.burst_calls.BurstAnswer.{BurstAnswer}
 use Rattle.capi.specs.declared.stream_calls.PartAnswer.{PartAnswer}
 use Rattle.capi.specs.declared.stream_calls.StreamAnswer.{StreamAnswer}

@@ -1,5 +1,5 @@
--- The report as C sees it: paper 01's numbers of a report, the verdict first. What the report is of is report_call's
--- `reportOf`, and a verdict's numbers are report_call's `verdictValues`; here is only how a number stands for a verdict's word,
+-- The report as C sees it: paper 01's numbers of a report, the verdict first. What the report is of is report_spec's
+-- `reportOf`, and a verdict's numbers are report_spec's `verdictValues`; here is only how a number stands for a verdict's word,
 -- and for whether a file was read.
 use mathlib.Core.Path.{_≡_}
 use mathlib.Core.Bool.{Bool, not}
@@ -7,8 +7,9 @@ use mathlib.Core.List.{List}
 use Prim.Native.Nat.{ℕ}
 use lib.Dec.{eqb}
 use lib.ListN.{length}
-use Rattle.report_call.specs.declared.Verdict.{Verdict}
-use Rattle.report_call.specs.Report.{Word, saysClean, saysBroken, saysRefused, verdictValues, Whole, contents, reportOf, front, fitting}
+use Rattle.stream_spec.specs.Memory.{inFront}
+use Rattle.report_spec.specs.declared.Verdict.{Verdict}
+use Rattle.report_spec.specs.Report.{Word, saysClean, saysBroken, saysRefused, verdictValues, Whole, contents, reportOf, fitting}
 use Rattle.capi.specs.declared.report_calls.ReportAnswer.{ReportAnswer}
 
 -- ---- what C hands over
@@ -44,8 +45,8 @@ pub record ShowsVerdict (a : ReportAnswer) (v : Verdict) (text octets : ℕ) : T
 -- and text' as they are left. A text that does not fit is not written, and counts no octet.
 pub record ShowsWhole (a : ReportAnswer) (w : Whole) (out out' text text' : List ℕ) : Type 0 where
   pub numbers : ShowsVerdict a (w .verdict) (length (fitting (w .text) text)) (length (w .result))
-  pub leaves : out' ≡ front (w .result) out
-  pub told : text' ≡ front (fitting (w .text) text) text
+  pub leaves : out' ≡ inFront (w .result) out
+  pub told : text' ≡ inFront (fitting (w .text) text) text
 
 -- the same of what C hands over
 abbrev pub ShowsReport : ReportAnswer → ℕ → List ℕ → ℕ → List ℕ → (out out' text text' : List ℕ) → Type 0

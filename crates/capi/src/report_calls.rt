@@ -1,7 +1,7 @@
 // The report as a C function. Reading the sheet and the take from files, and printing, is the program, crate report.
 use refusal::Refusal;
-use report_call::Verdict;
-ghost use Rattle.report_call.specs.declared.Verdict.the-variants.{Refused};
+use report_spec::Verdict;
+ghost use Rattle.report_spec.specs.declared.Verdict.the-variants.{Refused};
 ghost use Rattle.capi.specs.Reports.{ShowsVerdict, ShowsReport};
 
 // What the report answers: the verdict (0 clean, 1 broken, 2 refused); the refusal's number; the broken rule; the record of

@@ -9,16 +9,15 @@ use lib.ListN.{length, take, drop, length-append}
 use lib.Seq.{length-take-le, take-at}
 use borrow.Author.Tests.{le-ltb}
 use Rattle.io.specs.Counts.{Counts}
-use Rattle.report_call.specs.declared.Summary.{Summary}
-use Rattle.report_call.specs.Report.{textOf, Whole, reportOf, front, fitting, Reported}
-use Rattle.report_call.specs.Promises.{Fits64}
-use Rattle.report_call.proofs.Promises.{textShort}
+use Rattle.stream_spec.specs.Memory.{inFront}
+use Rattle.report_spec.specs.declared.Summary.{Summary}
+use Rattle.report_spec.specs.Report.{Whole, reportOf, fitting, textMost, Reported}
 use Rattle.report.specs.Delivery.{Tells}
 
 pub counted : (n : ℕ) (xs : List ℕ) → n ≤ length xs → Counts n xs
 counted n xs h = (h, sym (length-take-le n xs h))
 
-module _ (octets lent after : List ℕ) (n : ℕ) (long : n ≡ length octets) (leaves : after ≡ front octets lent) where
+module _ (octets lent after : List ℕ) (n : ℕ) (long : n ≡ length octets) (leaves : after ≡ inFront octets lent) where
   front-counts : Counts n after
   front-counts = counted n after (omega (arith, ap length leaves, length-append octets (drop (length octets) lent)))
 
@@ -33,17 +32,12 @@ module _ (sheet capture : Option (List ℕ)) (room : ℕ) (out out' text text' :
   abbrev w : Whole
   w = reportOf sheet capture room
 
-  text-is : w .text ≡ textOf (w .verdict)
-  unfolding reportOf
-  text-is = refl
-
-  pub tells : Reported w out out' text text' r → Fits64 (r .verdict) → 103 ≤ length text → Tells w r out' text'
-  tells h bounds space =
+  pub tells : Reported w out out' text text' r → textMost ≤ length text → Tells w r out' text'
+  tells h space =
       record {
         verdict = h .is;
-        octets = front-counts (w .result) out out' (r .octets) (h .long) (h .leaves);
-        result = front-is (w .result) out out' (r .octets) (h .long) (h .leaves);
-        letters = front-counts (fitting (w .text) text) text text' (r .text) (h .toldLong) (h .told);
-        says = front-is (fitting (w .text) text) text text' (r .text) (h .toldLong) (h .told)
-            ∙ fitting-is (w .text) text (omega (arith, textShort (r .verdict) bounds, ap length (text-is ∙ ap textOf (sym (h .is)))));
+        octets = front-counts (w .result) out out' (r .octets) (h .resultLength) (h .leaves);
+        result = front-is (w .result) out out' (r .octets) (h .resultLength) (h .leaves);
+        letters = front-counts (fitting (w .text) text) text text' (r .text) (h .textLength) (h .tells);
+        says = front-is (fitting (w .text) text) text text' (r .text) (h .textLength) (h .tells) ∙ fitting-is (w .text) text (omega (arith, h .short, space));
       }

@@ -5,9 +5,9 @@ use mathlib.Core.List.{List}
 use mathlib.Core.Option.{Option}
 use mathlib.Core.Path.{_≡_, refl, sym, ap, _∙_}
 use Prim.Native.Nat.{ℕ}
-use Rattle.report_call.specs.declared.Summary.{Summary}
-use Rattle.report_call.specs.Report.{textOf, Whole, reportOf}
-use Rattle.report_call.specs.Promises.{isClean}
+use Rattle.report_spec.specs.declared.Summary.{Summary}
+use Rattle.report_spec.specs.Report.{textOf, Whole, reportOf}
+use Rattle.report_spec.specs.Promises.{isClean}
 use Rattle.report.specs.Delivery.{room, Saves, Prints}
 
 text-is : (sheet capture : Option (List ℕ)) → reportOf sheet capture room .text ≡ textOf (reportOf sheet capture room .verdict)

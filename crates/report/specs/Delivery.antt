@@ -7,9 +7,9 @@ use mathlib.Core.Option.{Option}
 use Prim.Native.Nat.{ℕ}
 use lib.ListN.{take}
 use Rattle.io.specs.Counts.{Counts}
-use Rattle.report_call.specs.declared.Summary.{Summary}
-use Rattle.report_call.specs.Report.{contents, Whole, reportOf}
-use Rattle.report_call.specs.Promises.{isClean}
+use Rattle.report_spec.specs.declared.Summary.{Summary}
+use Rattle.report_spec.specs.Report.{contents, Whole, reportOf}
+use Rattle.report_spec.specs.Promises.{isClean}
 use Rattle.report.specs.declared.files.Input.{Input}
 
 -- the octets of a file that was read into this buffer, or none where they are not the whole file

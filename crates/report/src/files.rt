@@ -3,7 +3,7 @@
 // The kit's contracts say nothing of what a call reads or writes, so only code and tests/report show the rest: that `read_file`
 // hands over what the file holds, that `save` puts its octets into out.bin and flushes them, and that `print` puts its
 // letters on standard output. Proved of that is that nothing goes out of bounds and that every loop ends.
-use report_call::Summary;
+use report_spec::Summary;
 ghost use Rattle.io.specs.Counts.{Counts};
 ghost use Rattle.report.specs.Delivery.{Saves, Prints};
 

@@ -7,20 +7,25 @@
 mod files;
 
 use files::Input;
-use report_call::Summary;
-use report_call::Verdict;
+use report_spec::Summary;
+use report_spec::Verdict;
 ghost use Prim.Native.Nat.{_≤_};
 ghost use mathlib.Core.Path.{_≡_};
 ghost use lib.ListN.{length};
 ghost use Rattle.io.specs.Counts.{Counts};
-ghost use Rattle.report_call.specs.Report.{reportOf};
-ghost use Rattle.report_call.specs.Promises.{isClean};
+ghost use Rattle.report_spec.specs.Report.{reportOf, textMost};
+ghost use Rattle.report_spec.specs.Promises.{isClean};
 ghost use Rattle.report.specs.Delivery.{known, Tells, Delivers};
 
+// The longest sheet has 48 octets: a longer file is read as over-long, and is no sheet.
+const SHEET_MOST: usize = 64;
+
+// No text is longer: the `textMost` of report_spec.
+const TEXT_MOST: usize = 128;
+
 fn main() {
-    // the longest sheet has 48 octets, and no text has more than 103, whatever its numbers
-    let mut sheet = [0u8; 64];
-    let mut text = [0u8; 128];
+    let mut sheet = [0u8; SHEET_MOST];
+    let mut text = [0u8; TEXT_MOST];
     let mut take = [0u8; 65536];
     let mut output = [0u8; 65536];
     let setup = files::read_file(b"setup.txt", &mut sheet);
@@ -40,7 +45,7 @@ fn report_on(
 ) -> Summary
     requires { ⌜ Counts (setup .octets) (now sheet) ⌝ }
     requires { ⌜ Counts (capture .octets) (now take) ⌝ }
-    requires { ⌜ 103 ≤ length (now text) ⌝ }
+    requires { ⌜ textMost ≤ length (now text) ⌝ }
     ensures { λ r. ⌜ Tells (reportOf (known setup (now (sheet .entry))) (known capture (now (take .entry))) (length (now (output .entry)))) r (now (output .exit)) (now (text .exit)) ⌝ }
 {
     let n = setup.octets;

@@ -1,69 +1,64 @@
--- A clean take: harvesting it into an array of 65,536 octets is not refused, and leaves its transfers in front. Assumes nothing.
-use mathlib.Core.Path.{_≡_, refl, sym, ap, ap₂, _∙_, subst}
-use mathlib.Core.List.{List, _++_, map}
+-- A clean take: harvesting it into an array as long as a take leaves its transfers in front. Assumes nothing.
+use mathlib.Core.Path.{_≡_, sym, ap, ap₂, _∙_, subst}
+use mathlib.Core.List.{List}
+use mathlib.Core.Option.{Option, none}
 use Prim.Native.Nat.{ℕ, _*_, _%_, _≤_}
 use native.Mathlib.Nat.{mul-mod-left}
 use native.Mathlib.Omega.{arith}
-use lib.ListN.{length, take, drop, length-map, length-append}
+use lib.ListN.{length, take, drop, length-append}
 use lib.Seq.{take-at}
+use Rattle.refusal.specs.declared.Refusal.{Refusal}
 use Rattle.stream_spec.specs.declared.Shape.{Shape}
 use Rattle.stream_spec.specs.declared.Verdict.the-variants.{Clean}
 use Rattle.stream_spec.specs.declared.Written.{Written}
-use Rattle.stream_spec.specs.declared.Written.the-variants.{Records}
-use Rattle.stream_spec.specs.Layout.{size, records}
-use Rattle.stream_spec.specs.Handshake.{handshakes, asTransfer, transferCount, harvested}
-use Rattle.stream_spec.specs.Answers.{judgeAnswer, harvestRefusal, harvestAnswer, Harvested}
-use Rattle.stream_spec.proofs.Records.{size-pos, records-joined, records-sized}
-use Rattle.stream_harvest.proofs.Answer.{kept-sized, harvested-long, clean-width, clean-short, harvest-written}
-use Rattle.report_call.specs.Steps.{WholeRecords}
-use Rattle.report_call.proofs.Convert.{IsWritten, is-written}
+use Rattle.stream_spec.specs.Layout.{widthMost, size}
+use Rattle.stream_spec.specs.Checks.{captureMost}
+use Rattle.stream_spec.specs.Handshake.{transferCount, harvested}
+use Rattle.stream_spec.specs.Walk.{Passed}
+use Rattle.stream_spec.specs.Memory.{inFront}
+use Rattle.stream_spec.specs.Answers.{lentAfter, judgeAnswer, harvestRefusal, harvestAfter, Harvested}
+use Rattle.report_spec.proofs.Clean.{harvested-long, harvested-short, clean-count, clean-passed, clean-harvested}
 
--- ---- how long what is harvested is
+-- the code has the shape in t, and a record's size in z
+module _ (s : Shape) (xs : List ℕ) (n : ℕ) (clean : judgeAnswer s xs ≡ Clean n) (t : Shape) (same : t ≡ s) where
+  passed : Passed s xs
+  passed = clean-passed s xs n clean
 
-pub harvested-count : (s : Shape) (xs : List ℕ) → length (records s (harvested s xs)) ≡ transferCount s xs
-harvested-count s xs =
-    ap {B = ℕ} length (records-joined s (map asTransfer (handshakes (records s xs))) (kept-sized (size s) (records s xs) (size-pos s) (records-sized s xs)))
-    ∙ length-map (handshakes (records s xs)) asTransfer
+  pub width-high : t .width ≤ widthMost
+  width-high = subst (λ (k : Shape). k .width ≤ widthMost) (sym same) (passed .high)
 
--- ---- a clean take
+  few : length (harvested s xs) ≤ captureMost
+  few = omega (arith, harvested-short s xs, passed .short)
 
-module _ (s : Shape) (xs : List ℕ) (n : ℕ) (clean : judgeAnswer s xs ≡ Clean n) where
-  pub width-16 : s .width ≤ 16
-  width-16 = clean-width s xs (judgeAnswer s xs) refl n clean
+  module _ (z : ℕ) (q : z ≡ size t) where
+    long : n * z ≡ length (harvested s xs)
+    long = ap₂ (λ (a b : ℕ). a * b) (clean-count s xs n clean) (q ∙ ap size same) ∙ sym (harvested-long s xs)
 
-  module _ (z : ℕ) (q : z ≡ size s) where
-    pub short : n * z ≤ 65536
-    short = clean-short s xs (judgeAnswer s xs) refl n clean z q
+    pub short : n * z ≤ captureMost
+    short = omega (arith, long, few)
 
-    module _ (before : List ℕ) (room : length before ≡ 65536) where
-      abbrev filled : List ℕ
-      filled = harvested s xs ++ drop (length (harvested s xs)) before
+    whole : length (harvested s xs) % size s ≡ 0
+    whole = ap (λ (k : ℕ). k % size s) (harvested-long s xs) ∙ mul-mod-left (transferCount s xs) (size s)
 
-      writes : Harvested s xs before filled (Records n)
-      writes = harvest-written s xs (judgeAnswer s xs) refl n clean z q before (omega (arith, short, room)) filled refl
+    module _ (before after : List ℕ) (room : length before ≡ captureMost) (r : Written) (h : Harvested t xs before after r) where
+      accepted : harvestRefusal s xs (length before) ≡ none
+      accepted = clean-harvested s xs n clean (length before) (omega (arith, few, room))
 
-      pub accepted : IsWritten (harvestRefusal s xs (length before)) n (transferCount s xs)
-      unfolding harvestAnswer
-      accepted = is-written (harvestRefusal s xs (length before)) (transferCount s xs) n (writes .is)
+      left : after ≡ inFront (harvested s xs) before
+      unfolding harvestAfter
+      left =
+          h .leaves
+          ∙ ap (λ (k : Shape). lentAfter (harvestRefusal k xs (length before)) (harvested k xs) before) same
+          ∙ ap (λ (o : Option Refusal). lentAfter o (harvested s xs) before) accepted
 
-      pub long : n * z ≡ length (harvested s xs)
-      long = ap₂ (λ (a b : ℕ). a * b) (accepted .count) q ∙ sym (harvested-long s xs)
+      pub part-is : take (n * z) after ≡ harvested s xs
+      part-is = ap (take (n * z)) left ∙ take-at (harvested s xs) (drop (length (harvested s xs)) before) (n * z) (sym long)
 
-      pub whole : length (harvested s xs) % size s ≡ 0
-      whole = ap (λ (k : ℕ). k % size s) (harvested-long s xs) ∙ mul-mod-left (transferCount s xs) (size s)
+      pub part-fits : n * z ≤ length after
+      part-fits = omega (arith, long, ap length left, length-append (harvested s xs) (drop (length (harvested s xs)) before))
 
-      module _ (after : List ℕ) (r : Written) (h : Harvested s xs before after r) where
-        left : after ≡ filled
-        left = h .leaves ∙ sym (writes .leaves)
+      pub part-long : n * z ≡ length (take (n * z) after)
+      part-long = long ∙ sym (ap length part-is)
 
-        pub part-is : take (n * z) after ≡ harvested s xs
-        part-is = ap (take (n * z)) left ∙ take-at (harvested s xs) (drop (length (harvested s xs)) before) (n * z) (sym long)
-
-        pub part-fits : n * z ≤ length after
-        part-fits = omega (arith, long, ap length left, length-append (harvested s xs) (drop (length (harvested s xs)) before))
-
-        pub part-long : n * z ≡ length (take (n * z) after)
-        part-long = long ∙ sym (ap length part-is)
-
-        pub part-whole : WholeRecords s (take (n * z) after)
-        part-whole = subst (WholeRecords s) (sym part-is) (record { width = width-16; whole = whole })
+      pub part-passed : Passed s (take (n * z) after)
+      part-passed = subst (Passed s) (sym part-is) (record { low = passed .low; high = passed .high; whole = whole; short = few })

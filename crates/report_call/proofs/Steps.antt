@@ -13,9 +13,10 @@ use Rattle.stream_spec.specs.declared.Shape.{Shape}
 use Rattle.stream_spec.specs.declared.Verdict.{Verdict as Judgement}
 use Rattle.stream_spec.specs.declared.Verdict.the-variants.{Clean as Sound, Broken as Breaks, Refused as NotJudged}
 use Rattle.refusal.specs.Checks.{first}
+use Rattle.stream_spec.specs.Layout.{widthMost}
 use Rattle.stream_spec.specs.Checks.{widthCheck, lengthCheck}
 use Rattle.stream_spec.specs.Handshake.{harvested}
-use Rattle.stream_spec.specs.Answers.{judgeAnswer, fillAfter}
+use Rattle.stream_spec.specs.Answers.{judgeAnswer, fillAfter, Judged}
 use Rattle.report_setup_spec.specs.declared.Setup.{Setup}
 use Rattle.report_setup_spec.specs.declared.Tlast.{Tlast}
 use Rattle.report_setup_spec.specs.declared.Tlast.the-variants.{Wired, Absent}
@@ -23,39 +24,59 @@ use Rattle.report_setup_spec.specs.declared.Sheet.{Sheet}
 use Rattle.report_setup_spec.specs.declared.Sheet.the-variants.{Read, Refused as NoSheet}
 use Rattle.report_setup_spec.specs.Grammar.{sheetOf}
 use Rattle.text.specs.Text.{Put}
-use Rattle.report_call.specs.declared.Verdict.{Verdict}
-use Rattle.report_call.specs.declared.Verdict.the-variants.{Broken, Refused}
-use Rattle.report_call.specs.declared.outcome.Found.{Found}
-use Rattle.report_call.specs.declared.outcome.Checked.{Checked}
-use Rattle.report_call.specs.declared.outcome.Checked.the-variants.{Passed, Refused as NotPassed}
-use Rattle.report_call.specs.Report.{contents, Outcome, refused, shapeOf, prepared, cyclesOf, transfersOf, judged, convertedTransfers, captureOutcome, setupChecks, unless, setupOutcome, sheetOutcome, outcomeOf, verdictValues, textOf, reportOf, front, fitting, Reported}
-use Rattle.report_call.specs.Steps.{Came, checkedOf, Passes}
+use Rattle.report_spec.specs.declared.Verdict.{Verdict}
+use Rattle.report_spec.specs.declared.Verdict.the-variants.{Broken, Refused}
+use Rattle.report_call.specs.declared.outcome.Ending.{Ending}
+use Rattle.stream_record.specs.declared.Checked.{Checked}
+use Rattle.stream_record.specs.declared.Checked.the-variants.{Passed, Refused as NotPassed}
+use Rattle.report_spec.specs.Report.{contents, Outcome, refused, shapeOf, prepared, cyclesOf, transfersOf, afterJudging, convertedTransfers, captureOutcome, setupChecks, Passes, unless, setupOutcome, sheetOutcome, outcomeOf, verdictValues, textOf, reportOf, Reported}
+use Rattle.report_call.specs.Steps.{Came, OfCapture, OfCycles, OfTransfers, OfClean, Rendered}
 use Rattle.report_call.proofs.Told.{prefix-is}
-use Rattle.report_call.proofs.Passed.{passed-none, refused-some, sound-in}
+use Rattle.stream_record.specs.Checked.{checkedOf}
+use Rattle.stream_record.proofs.Tests.{refused-is, passed-is}
+use Rattle.report_spec.proofs.Passes.{sound-in, fits-in}
 
 -- a refusal leaves the output as it is
-pub came-refused : (r : Refusal) (out : List ℕ) (f : Found) → f .verdict ≡ Refused r → f .octets ≡ 0 → Came (refused r) out out f
-came-refused r out f a b = record { is = a; long = b; leaves = refl }
+pub came-refused : (r : Refusal) (out : List ℕ) (f : Ending) → f .verdict ≡ Refused r → f .octets ≡ 0 → Came (refused r) out out f
+came-refused r out f a b = record { is = a; resultLength = b; leaves = refl }
 
--- ---- of_cycles
+-- ---- of_cycles; the code has the shape of the take in t, and judged as y
 
-module _ (x : Judgement) (next : ℕ → Outcome) (out : List ℕ) (y : Judgement) (e : y ≡ x) where
-  pub judged-refused : (r : Refusal) → y ≡ NotJudged r → (f : Found) → f .verdict ≡ Refused r → f .octets ≡ 0 → Came (judged x next) out out f
-  judged-refused r g f a b =
-      subst (λ (j : Judgement). Came (judged j next) out out f) (sym g ∙ e) (came-refused r out f a b)
+module _ (u : Setup) (xs out : List ℕ) (t : Shape) (same : t ≡ shapeOf u) (y : Judgement) (judged : Judged t xs y) where
+  is : y ≡ judgeAnswer (shapeOf u) xs
+  is = judged .is ∙ ap (λ (s : Shape). judgeAnswer s xs) same
 
-  pub judged-broken : (cycle rule : ℕ) → y ≡ Breaks cycle rule → Came (judged x next) out out (record { verdict = Broken cycle rule; octets = 0 })
+  as-judged : (j : Judgement) → y ≡ j → (after : List ℕ) (f : Ending)
+      → Came (afterJudging j (convertedTransfers u (harvested (shapeOf u) xs) (length out))) out after f → OfCycles u xs out after f
+  as-judged j g after f c =
+      subst (λ (k : Judgement). Came (afterJudging k (convertedTransfers u (harvested (shapeOf u) xs) (length out))) out after f) (sym g ∙ is) c
+
+  pub judged-refused : (r : Refusal) → y ≡ NotJudged r → (f : Ending) → f .verdict ≡ Refused r → f .octets ≡ 0 → OfCycles u xs out out f
+  judged-refused r g f a b = as-judged (NotJudged r) g out f (came-refused r out f a b)
+
+  pub judged-broken : (cycle rule : ℕ) → y ≡ Breaks cycle rule → OfCycles u xs out out (record { verdict = Broken cycle rule; octets = 0 })
   judged-broken cycle rule g =
-      subst (λ (j : Judgement). Came (judged j next) out out (record { verdict = Broken cycle rule; octets = 0 })) (sym g ∙ e)
-      (record { is = refl; long = refl; leaves = refl })
+      as-judged (Breaks cycle rule) g out (record { verdict = Broken cycle rule; octets = 0 }) (record { is = refl; resultLength = refl; leaves = refl })
 
-  pub judged-sound : (n : ℕ) → y ≡ Sound n → (after : List ℕ) (f : Found) → Came (next n) out after f → Came (judged x next) out after f
-  judged-sound n g after f c = subst (λ (j : Judgement). Came (judged j next) out after f) (sym g ∙ e) c
+  pub sound-is : (n : ℕ) → y ≡ Sound n → judgeAnswer (shapeOf u) xs ≡ Sound n
+  sound-is n g = sym is ∙ g
+
+  pub judged-sound : (n : ℕ) → y ≡ Sound n → (after : List ℕ) (f : Ending) → OfClean u n xs out after f → OfCycles u xs out after f
+  judged-sound n g after f c = as-judged (Sound n) g after f c
+
+-- ---- of_clean: ts are the octets of the array in front
+
+pub clean-came : (u : Setup) (count : ℕ) (ts xs out after : List ℕ) (f : Ending) → ts ≡ harvested (shapeOf u) xs
+    → OfTransfers u count ts out after f → OfClean u count xs out after f
+clean-came u count ts xs out after f e c = subst (λ (ys : List ℕ). OfTransfers u count ys out after f) e c
 
 -- ---- of_capture: the take's copy
 
-module _ (u : Setup) (capture zeros cycles : List ℕ) (n : ℕ) (p : Put 0 capture zeros cycles n) (after : List ℕ)
-    (e : after ≡ prepared (u .tlast) (shapeOf u) (take n cycles)) (k : length after ≡ length (take n cycles)) where
+module _ (u : Setup) (capture zeros cycles : List ℕ) (n : ℕ) (p : Put 0 capture zeros cycles n) (t : Shape) (shape : t ≡ shapeOf u) (after : List ℕ)
+    (filled : after ≡ prepared (u .tlast) t (take n cycles)) (k : length after ≡ length (take n cycles)) where
+  e : after ≡ prepared (u .tlast) (shapeOf u) (take n cycles)
+  e = filled ∙ ap (λ (s : Shape). prepared (u .tlast) s (take n cycles)) shape
+
   same : take n cycles ≡ capture
   same = prefix-is capture zeros cycles n p
 
@@ -71,11 +92,8 @@ module _ (u : Setup) (capture zeros cycles : List ℕ) (n : ℕ) (p : Put 0 capt
   pub copy-long : n ≡ length (take n (after ++ drop n cycles))
   copy-long = count ∙ sym (ap length (take-at after (drop n cycles) n (sym count)))
 
-  pub copy-came : (out out' : List ℕ) (f : Found)
-      → Came (judged (judgeAnswer (shapeOf u) (take n (after ++ drop n cycles))) (convertedTransfers u (harvested (shapeOf u) (take n (after ++ drop n cycles))) (length out))) out out' f
-      → Came (captureOutcome u (some capture) (length out)) out out' f
-  copy-came out out' f c =
-      subst (λ (xs : List ℕ). Came (judged (judgeAnswer (shapeOf u) xs) (convertedTransfers u (harvested (shapeOf u) xs) (length out))) out out' f) copy-is c
+  pub copy-came : (out out' : List ℕ) (f : Ending) → OfCycles u (take n (after ++ drop n cycles)) out out' f → OfCapture u capture out out' f
+  copy-came out out' f c = subst (λ (xs : List ℕ). OfCycles u xs out out' f) copy-is c
 
 -- ---- of_setup
 
@@ -86,44 +104,51 @@ unfolding fillAfter
 ill-filled s Wired capture w h = refl
 ill-filled s Absent capture w h = rw (w, h) refl
 
-ill-judged : (s : Shape) (capture : List ℕ) → widthCheck (s .width) .found ≡ false → lengthCheck s capture .found ≡ true
+ill-afterJudging : (s : Shape) (capture : List ℕ) → widthCheck (s .width) .found ≡ false → lengthCheck s capture .found ≡ true
     → judgeAnswer s capture ≡ NotJudged Length
 unfolding judgeAnswer
-ill-judged s capture w h = rw (w, h) refl
+ill-afterJudging s capture w h = rw (w, h) refl
 
-module _ (u : Setup) (out : List ℕ) (x : Checked) (e : x ≡ checkedOf (first (setupChecks u))) where
-  pub setup-refused : (r : Refusal) → x ≡ NotPassed r → (capture : Option (List ℕ)) (f : Found) → f .verdict ≡ Refused r → f .octets ≡ 0
+module _ (u : Setup) (out : List ℕ) (x : Checked) (e : checkedOf x ≡ first (setupChecks u)) where
+  pub setup-refused : (r : Refusal) → x ≡ NotPassed r → (capture : Option (List ℕ)) (f : Ending) → f .verdict ≡ Refused r → f .octets ≡ 0
       → Came (setupOutcome u capture (length out)) out out f
   setup-refused r g capture f a b =
-      let found = refused-some (first (setupChecks u)) r (sym g ∙ e) in
+      let found = refused-is x (setupChecks u) e r g in
       subst (λ (o : Option Refusal). Came (unless o (captureOutcome u capture (length out))) out out f) (sym found) (came-refused r out f a b)
 
   module _ (g : x ≡ Passed) where
     pub passes : Passes u
-    passes = passed-none (first (setupChecks u)) (sym g ∙ e)
+    passes = passed-is x (setupChecks u) e g
 
-    pub setup-passed : (capture : Option (List ℕ)) (out' : List ℕ) (f : Found) → Came (captureOutcome u capture (length out)) out out' f
+    pub setup-passed : (capture : Option (List ℕ)) (out' : List ℕ) (f : Ending) → Came (captureOutcome u capture (length out)) out out' f
         → Came (setupOutcome u capture (length out)) out out' f
     setup-passed capture out' f c = subst (λ (o : Option Refusal). Came (unless o (captureOutcome u capture (length out))) out out' f) (sym passes) c
 
+    -- the code has the shape of the take in t
+    pub width-high : (t : Shape) → t ≡ shapeOf u → t .width ≤ widthMost
+    width-high t same = subst (λ (s : Shape). s .width ≤ widthMost) (sym same) (fits-in u passes .high)
+
+    pub length-told : (t : Shape) → t ≡ shapeOf u → (xs : List ℕ) (b c : Bool) → b ≡ lengthCheck t xs .found → b ≡ c → lengthCheck (shapeOf u) xs .found ≡ c
+    length-told t same xs b c h k = ap (λ (s : Shape). lengthCheck s xs .found) (sym same) ∙ sym h ∙ k
+
     module _ (read : Bool) (capture : List ℕ) where
-      pub setup-unread : read ≡ false → (f : Found) → f .verdict ≡ Refused Length → f .octets ≡ 0
+      pub setup-unread : read ≡ false → (f : Ending) → f .verdict ≡ Refused Length → f .octets ≡ 0
           → Came (setupOutcome u (contents read capture) (length out)) out out f
       setup-unread h f a b =
           subst (λ (b : Bool). Came (setupOutcome u (contents b capture) (length out)) out out f) (sym h)
           (setup-passed none out f (came-refused Length out f a b))
 
-      pub setup-ill : read ≡ true → lengthCheck (shapeOf u) capture .found ≡ true → (f : Found) → f .verdict ≡ Refused Length → f .octets ≡ 0
+      pub setup-ill : read ≡ true → lengthCheck (shapeOf u) capture .found ≡ true → (f : Ending) → f .verdict ≡ Refused Length → f .octets ≡ 0
           → Came (setupOutcome u (contents read capture) (length out)) out out f
       setup-ill h l f a b =
           let w = sound-in u passes in
           let no : judgeAnswer (shapeOf u) (cyclesOf u capture) ≡ NotJudged Length =
-          ap (judgeAnswer (shapeOf u)) (ill-filled (shapeOf u) (u .tlast) capture w l) ∙ ill-judged (shapeOf u) capture w l in
+          ap (judgeAnswer (shapeOf u)) (ill-filled (shapeOf u) (u .tlast) capture w l) ∙ ill-afterJudging (shapeOf u) capture w l in
           subst (λ (b : Bool). Came (setupOutcome u (contents b capture) (length out)) out out f) (sym h)
           (setup-passed (some capture) out f
-          (subst (λ (j : Judgement). Came (judged j (convertedTransfers u (transfersOf u capture) (length out))) out out f) (sym no) (came-refused Length out f a b)))
+          (subst (λ (j : Judgement). Came (afterJudging j (convertedTransfers u (transfersOf u capture) (length out))) out out f) (sym no) (came-refused Length out f a b)))
 
-      pub setup-read : read ≡ true → (out' : List ℕ) (f : Found) → Came (captureOutcome u (some capture) (length out)) out out' f
+      pub setup-read : read ≡ true → (out' : List ℕ) (f : Ending) → Came (captureOutcome u (some capture) (length out)) out out' f
           → Came (setupOutcome u (contents read capture) (length out)) out out' f
       setup-read h out' f c =
           subst (λ (b : Bool). Came (setupOutcome u (contents b capture) (length out)) out out' f) (sym h) (setup-passed (some capture) out' f c)
@@ -131,38 +156,40 @@ module _ (u : Setup) (out : List ℕ) (x : Checked) (e : x ≡ checkedOf (first 
 -- ---- of_sheet
 
 module _ (sheet : List ℕ) (read : Bool) (capture : Option (List ℕ)) (out : List ℕ) where
-  pub sheet-unread : read ≡ false → (f : Found) → f .verdict ≡ Refused BadSheet → f .octets ≡ 0
+  pub sheet-unread : read ≡ false → (f : Ending) → f .verdict ≡ Refused BadSheet → f .octets ≡ 0
       → Came (outcomeOf (contents read sheet) capture (length out)) out out f
   sheet-unread h f a b =
       subst (λ (b : Bool). Came (outcomeOf (contents b sheet) capture (length out)) out out f) (sym h) (came-refused BadSheet out f a b)
 
   module _ (h : read ≡ true) (x : Sheet) (e : x ≡ sheetOf sheet) where
-    of-read : (y : Sheet) → x ≡ y → (out' : List ℕ) (f : Found) → Came (sheetOutcome y capture (length out)) out out' f
+    of-read : (y : Sheet) → x ≡ y → (out' : List ℕ) (f : Ending) → Came (sheetOutcome y capture (length out)) out out' f
         → Came (outcomeOf (contents read sheet) capture (length out)) out out' f
     of-read y g out' f c =
         subst (λ (b : Bool). Came (outcomeOf (contents b sheet) capture (length out)) out out' f) (sym h)
         (subst (λ (z : Sheet). Came (sheetOutcome z capture (length out)) out out' f) (sym g ∙ e) c)
 
-    pub sheet-refused : x ≡ NoSheet → (f : Found) → f .verdict ≡ Refused BadSheet → f .octets ≡ 0
+    pub sheet-refused : x ≡ NoSheet → (f : Ending) → f .verdict ≡ Refused BadSheet → f .octets ≡ 0
         → Came (outcomeOf (contents read sheet) capture (length out)) out out f
     sheet-refused g f a b = of-read NoSheet g out f (came-refused BadSheet out f a b)
 
-    pub sheet-read : (u : Setup) → x ≡ Read u → (out' : List ℕ) (f : Found) → Came (setupOutcome u capture (length out)) out out' f
+    pub sheet-read : (u : Setup) → x ≡ Read u → (out' : List ℕ) (f : Ending) → Came (setupOutcome u capture (length out)) out out' f
         → Came (outcomeOf (contents read sheet) capture (length out)) out out' f
     sheet-read u g out' f c = of-read (Read u) g out' f c
 
 -- ---- report
 
-pub reported : (sheet capture : Option (List ℕ)) (out out' text text' : List ℕ) (f : Found) (told : ℕ) → Came (outcomeOf sheet capture (length out)) out out' f
-    → (text' ≡ front (fitting (textOf (f .verdict)) text) text) × (told ≡ length (fitting (textOf (f .verdict)) text))
+pub reported : (sheet capture : Option (List ℕ)) (out out' text text' : List ℕ) (f : Ending) (told : ℕ) → Came (outcomeOf sheet capture (length out)) out out' f
+    → Rendered (textOf (f .verdict)) text text' told
     → Reported (reportOf sheet capture (length out)) out out' text text' (record { verdict = f .verdict; text = told; octets = f .octets })
 unfolding reportOf
 reported sheet capture out out' text text' f told c t =
+    let r = subst (λ (v : Verdict). Rendered (textOf v) text text' told) (c .is) t in
     record {
       is = c .is;
-      says = ap verdictValues (c .is);
-      told = t .0 ∙ ap (λ (v : Verdict). front (fitting (textOf v) text) text) (c .is);
-      toldLong = t .1 ∙ ap (λ (v : Verdict). length (fitting (textOf v) text)) (c .is);
+      shows = ap verdictValues (c .is);
+      tells = r .leaves;
+      textLength = r .count;
       leaves = c .leaves;
-      long = c .long;
+      resultLength = c .resultLength;
+      short = r .short;
     }

@@ -9,39 +9,16 @@ use borrow.Author.Tests.{lt-ltb, le-ltb}
 use lib.ListN.{length, take, drop, length-append}
 use lib.Seq.{take-append-seam}
 use Rattle.report_setup_spec.specs.Grammar.{text as ascii}
-use Rattle.text.specs.Text.{decimal, line, lf, Put}
-use Rattle.text.proofs.Laws.{decimal-20, put-long, put-put}
+use Rattle.stream_spec.specs.Memory.{inFront}
+use Rattle.text.specs.Text.{line, Put}
+use Rattle.text.proofs.Laws.{put-long, put-put}
 use Rattle.refusal.specs.Code.{codeOf}
 use Rattle.refusal.specs.declared.Refusal.{Refusal}
-use Rattle.report_call.specs.declared.Verdict.{Verdict}
-use Rattle.report_call.specs.declared.Verdict.the-variants.{Refused}
-use Rattle.report_call.specs.Report.{refusedText, textOf, front, fitting}
-use Rattle.report_call.specs.Steps.{twoLines, TwoFit}
-
-line-short : (key : List ℕ) (n : ℕ) → n < 2 ^ 64 → length (line key n) ≤ length key + 21
-line-short key n h =
-    omega (arith, decimal-20 n h, length-append key (decimal n ++ (lf ∷ [])), length-append (decimal n) (lf ∷ []))
-
-pub two-short : (head k₁ k₂ : List ℕ) (n₁ n₂ : ℕ) → n₁ < 2 ^ 64 → n₂ < 2 ^ 64
-    → length (head ++ line k₁ n₁ ++ line k₂ n₂) ≤ length head + length k₁ + length k₂ + 42
-two-short head k₁ k₂ n₁ n₂ f g =
-    omega (
-      arith,
-      length-append (head ++ line k₁ n₁) (line k₂ n₂),
-      length-append head (line k₁ n₁),
-      line-short k₁ n₁ f,
-      line-short k₂ n₂ g,
-    )
-
-pub three-short : (head k₁ k₂ k₃ : List ℕ) (n₁ n₂ n₃ : ℕ) → n₁ < 2 ^ 64 → n₂ < 2 ^ 64 → n₃ < 2 ^ 64
-    → length (head ++ line k₁ n₁ ++ line k₂ n₂ ++ line k₃ n₃) ≤ length head + length k₁ + length k₂ + length k₃ + 63
-three-short head k₁ k₂ k₃ n₁ n₂ n₃ f g h =
-    omega (
-      arith,
-      length-append (head ++ line k₁ n₁ ++ line k₂ n₂) (line k₃ n₃),
-      two-short head k₁ k₂ n₁ n₂ f g,
-      line-short k₃ n₃ h,
-    )
+use Rattle.report_spec.specs.declared.Verdict.{Verdict}
+use Rattle.report_spec.specs.declared.Verdict.the-variants.{Refused}
+use Rattle.report_spec.specs.Report.{refusedText, textOf, fitting, textMost}
+use Rattle.report_spec.proofs.Short.{line-short, two-short}
+use Rattle.report_call.specs.Steps.{twoLines, TwoFit, Rendered}
 
 -- ---- lines one after the other
 
@@ -102,13 +79,13 @@ module _ (head k₁ k₂ out : List ℕ) (fit : TwoFit head k₁ k₂ out) (n₁
     three-put o' t' q =
         put-put 0 (twoLines head k₁ n₁ k₂ n₂) (line key n) out o o' t t' (omega (arith, long-3, line-short key n f, small, fit .room)) p q
 
-pub clean-fit : (out : List ℕ) → 128 ≤ length out → TwoFit (ascii "verdict=clean\n") (ascii "transfers=") (ascii "packets=") out
+pub clean-fit : (out : List ℕ) → textMost ≤ length out → TwoFit (ascii "verdict=clean\n") (ascii "transfers=") (ascii "packets=") out
 clean-fit out h = record { shortHead = omega arith; shortKey = omega arith; shortNext = omega arith; room = h }
 
 -- ---- a text of its own array, and the lent slice
 
 module _ (xs before after : List ℕ) (r : ℕ) (p : Put 0 xs before after r) where
-  put-is : after ≡ front xs before
+  put-is : after ≡ inFront xs before
   put-is = p .leaves ∙ ap (λ (k : ℕ). xs ++ drop k before) (zero-add (length xs))
 
   count-is : r ≡ length xs
@@ -123,23 +100,35 @@ module _ (xs before after : List ℕ) (r : ℕ) (p : Put 0 xs before after r) wh
   pub prefix-long : r ≡ length (take r after)
   prefix-long = count-is ∙ sym (ap length prefix-is)
 
-  module _ (text : List ℕ) where
-    pub told-nothing : length text < r → (text ≡ front (fitting xs text) text) × (0 ≡ length (fitting xs text))
+  -- `after` is an array of `textMost` octets, and so is `before`
+  module _ (array : length after ≡ textMost) (text : List ℕ) where
+    short : length xs ≤ textMost
+    short = omega (arith, count-is, prefix-fits, array)
+
+    pub told-nothing : length text < r → Rendered xs text text 0
     told-nothing h =
-        let short : length text < length xs = omega (arith, count-is, h) in
-        rw (lt-ltb (length text) (length xs) short) (refl, refl)
+        let long : length text < length xs = omega (arith, count-is, h) in
+        record {
+          leaves = rw (lt-ltb (length text) (length xs) long) refl;
+          count = rw (lt-ltb (length text) (length xs) long) refl;
+          short = short;
+        }
 
     pub told-room : r ≤ length text → 0 + length (take r after) ≤ length text
     told-room h = omega (arith, prefix-long, h)
 
-    pub told-all : r ≤ length text → (text' : List ℕ) (k : ℕ) → Put 0 (take r after) text text' k
-        → (text' ≡ front (fitting xs text) text) × (k ≡ length (fitting xs text))
+    pub told-all : r ≤ length text → (text' : List ℕ) (k : ℕ) → Put 0 (take r after) text text' k → Rendered xs text text' k
     told-all h text' k q =
         let fits : length xs ≤ length text = omega (arith, count-is, h) in
-        rw (le-ltb (length text) (length xs) fits) (
-          q .leaves ∙ ap (λ (n : ℕ). take r after ++ drop n text) (zero-add (length (take r after))) ∙ ap (λ (ys : List ℕ). ys ++ drop (length ys) text) prefix-is,
-          omega (arith, q .next, prefix-long, count-is),
-        )
+        record {
+          leaves =
+              rw (le-ltb (length text) (length xs) fits)
+              (q .leaves
+              ∙ ap (λ (n : ℕ). take r after ++ drop n text) (zero-add (length (take r after)))
+              ∙ ap (λ (ys : List ℕ). inFront ys text) prefix-is);
+          count = rw (le-ltb (length text) (length xs) fits) (omega (arith, q .next, prefix-long, count-is));
+          short = short;
+        }
 
 -- ---- the text of each verdict
 

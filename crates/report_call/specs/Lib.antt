@@ -1,5 +1,2 @@
--- The report of paper 01. Read in this order: what it is, what is proved of it, worked cases. Steps is for the code alone.
-pub mod Report
-pub mod Promises
-pub mod Cases
+-- What the steps of the code answer. The report itself is defined in report_spec.
 pub mod Steps

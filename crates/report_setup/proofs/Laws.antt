@@ -317,4 +317,4 @@ module _ {xs : List ℕ} {a second : ℕ} (p : Reads (lineOf (text "width_in=") 
 
 -- an answer that is the grammar's meets the contract
 pub parsed : {xs : List ℕ} {r : Sheet} → r ≡ sheetOf xs → Parsed xs r
-parsed e = record { is = e; says = ap sheetValues e }
+parsed e = record { is = e; shows = ap sheetValues e }

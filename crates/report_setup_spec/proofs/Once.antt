@@ -7,4 +7,4 @@ use Rattle.report_setup_spec.specs.declared.Sheet.{Sheet}
 use Rattle.report_setup_spec.specs.Answers.{sheetValues, Parsed}
 
 pub parsed-once : {sheet : List ℕ} {a b : Sheet} → Parsed sheet a → Parsed sheet b → (a ≡ b) × (sheetValues a ≡ sheetValues b)
-parsed-once p q = (p .is ∙ sym (q .is), p .says ∙ sym (q .says))
+parsed-once p q = (p .is ∙ sym (q .is), p .shows ∙ sym (q .shows))

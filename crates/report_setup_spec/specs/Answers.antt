@@ -38,4 +38,4 @@ sheetValues Refused = record { refusal = codeOf BadSheet .0; «width_in» = 0; �
 -- the contract of `parse`: the answer is the grammar's, with 01's number and values for it
 pub record Parsed (sheet : List ℕ) (r : Sheet) : Type 0 where
   pub is : r ≡ sheetOf sheet
-  pub says : sheetValues r ≡ sheetValues (sheetOf sheet)
+  pub shows : sheetValues r ≡ sheetValues (sheetOf sheet)

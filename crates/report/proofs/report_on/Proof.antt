@@ -1,5 +1,4 @@
 -- `report::report_on` meets its contract: the report on what was read, by the lengths that were read. Assumes nothing.
-use Rattle.report.proofs.Short.{fits}
 use Rattle.report.proofs.Laws.{tells}
 use borrow.Author.Needs.{needs}
 use Rattle.report.proofs.report_on.Statement.{statement}
@@ -21,7 +20,10 @@ same-length-2 : tie.Need-same-length-2
 same-length-2 c = search needs
 
 returns : tie.Need-returns
-returns c = tells _ _ _ _ _ _ _ _ (c .before .before .before .before .report .ensures) (fits (c .before .before .before .before .report .result) _ (c .before .before .before .before .report .ok)) (c .before .before .before .before .before .before .before .before .before .before .before .before .before .pre .1 .1)
+returns c =
+    let at-report = c .before .before .before .before in
+    let call = at-report .before .before .before .before .before .before .before .before .before in
+    tells _ _ _ _ _ _ _ _ (at-report .report .ensures) (call .pre .1 .1)
 
 pub report-on-spec : {M : Type 1} → statement M
 report-on-spec =

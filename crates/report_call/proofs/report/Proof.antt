@@ -1,6 +1,6 @@
 -- `report_call::report` meets its contract: the outcome, and its text. Assumes nothing.
 use borrow.Author.Needs.{needs}
-use Rattle.report_call.specs.Report.{contents}
+use Rattle.report_spec.specs.Report.{contents}
 use Rattle.report_call.proofs.Steps.{reported}
 use Rattle.report_call.proofs.report.Statement.{statement}
 use Rattle.report_call.proofs.report.Tie as tie
@@ -18,7 +18,13 @@ same-length-2 : tie.Need-same-length-2
 same-length-2 c = search needs
 
 returns : tie.Need-returns
-returns c = reported (contents (c .before .before .before .before .before .before .before .before .before .before .before .before .args .sheet-read) (c .before .before .before .before .before .before .before .before .before .before .before .before .args .sheet .now)) (contents (c .before .before .before .before .before .before .before .before .before .before .before .before .args .capture-read) (c .before .before .before .before .before .before .before .before .before .before .before .before .args .capture .now)) (c .before .before .before .before .before .before .before .before .before .before .before .before .args .out .now) (c .before .before .before .before .before .before .of-sheet .last .1 .1 .1 .1 .0) (c .before .before .before .before .before .before .before .before .before .before .before .before .args .text .now) (c .before .before .render .last .1 .0) (c .before .before .before .before .before .before .of-sheet .result) (c .before .before .render .result) (c .before .before .before .before .before .before .of-sheet .ensures) (c .before .before .render .ensures)
+returns c =
+    let at-render = c .before .before in
+    let at-of-sheet = at-render .before .before .before .before in
+    let call = at-of-sheet .before .before .before .before .before .before in
+    reported (contents (call .args .sheet-read) (call .args .sheet .now)) (contents (call .args .capture-read) (call .args .capture .now))
+    (call .args .out .now) (at-of-sheet .of-sheet .last .1 .1 .1 .1 .0) (call .args .text .now) (at-render .render .last .1 .0)
+    (at-of-sheet .of-sheet .result) (at-render .render .result) (at-of-sheet .of-sheet .ensures) (at-render .render .ensures)
 
 pub report-spec : {M : Type 1} → statement M
 report-spec =

@@ -26,7 +26,11 @@ shared-slice-read-if2-2 : tie.Need-shared-slice-read-if2-2 Inv-loop μ-loop
 shared-slice-read-if2-2 c = omega arith
 
 returns-2 : tie.Need-returns-2 Inv-loop μ-loop
-returns-2 c = left-differs (c .before .before .before .before .before .before .args .word .now) (c .before .before .before .before .before .before .args .text .now) (c .before .before .before .before .loop .i) (omega arith) (omega arith) (c .before .before .before .before .loop .inv .2) (c .if2 .taken)
+returns-2 c =
+    let at-loop = c .before .before .before .before in
+    let call = at-loop .before .before in
+    left-differs (call .args .word .now) (call .args .text .now) (at-loop .loop .i) (omega arith) (omega arith) (at-loop .loop .inv .2)
+    (c .if2 .taken)
 
 add-i : tie.Need-add-i Inv-loop μ-loop
 add-i c = omega arith
@@ -35,10 +39,15 @@ loop-less : tie.Need-loop-less Inv-loop μ-loop
 loop-less c = omega arith
 
 loop-again : tie.Need-loop-again Inv-loop μ-loop
-loop-again c = (omega arith, omega arith, left-more (c .before .before .before .before .before .before .args .word .now) (c .before .before .before .before .before .before .args .text .now) (c .before .before .before .before .loop .i) (omega arith) (omega arith) (c .before .before .before .before .loop .inv .2) (c .if2 .left))
+loop-again c =
+    let at-loop = c .before .before .before .before in
+    let call = at-loop .before .before in
+    (omega arith, omega arith, left-more (call .args .word .now) (call .args .text .now) (at-loop .loop .i) (omega arith) (omega arith) (at-loop .loop .inv .2) (c .if2 .left))
 
 returns-3 : tie.Need-returns-3 Inv-loop μ-loop
-returns-3 c = left-none (c .before .before .before .args .word .now) (c .before .before .before .args .text .now) (c .before .loop .i) (omega arith) (omega arith) (omega arith) (c .before .loop .inv .2)
+returns-3 c =
+    let call = c .before .before .before in
+    left-none (call .args .word .now) (call .args .text .now) (c .before .loop .i) (omega arith) (omega arith) (omega arith) (c .before .loop .inv .2)
 
 pub begins-spec : {M : Type 1} → statement M
 begins-spec =

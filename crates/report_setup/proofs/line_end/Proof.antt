@@ -20,7 +20,10 @@ shared-slice-read-if1 : tie.Need-shared-slice-read-if1 Inv-loop μ-loop
 shared-slice-read-if1 c = omega arith
 
 returns : tie.Need-returns Inv-loop μ-loop
-returns c = found-end (c .before .before .before .before .args .text .now) (c .before .before .before .loop .i) (omega arith) (c .before .before .before .loop .inv .1) (c .if1 .taken)
+returns c =
+    let at-loop = c .before .before .before in
+    let call = at-loop .before in
+    found-end (call .args .text .now) (at-loop .loop .i) (omega arith) (at-loop .loop .inv .1) (c .if1 .taken)
 
 add-i : tie.Need-add-i Inv-loop μ-loop
 add-i c = omega arith
@@ -29,7 +32,9 @@ loop-less : tie.Need-loop-less Inv-loop μ-loop
 loop-less c = omega arith
 
 loop-again : tie.Need-loop-again Inv-loop μ-loop
-loop-again c = (omega arith, below-more _ _ (c .before .before .before .loop .inv .1) (c .if1 .left))
+loop-again c =
+    let at-loop = c .before .before .before in
+    (omega arith, below-more _ _ (at-loop .loop .inv .1) (c .if1 .left))
 
 returns-2 : tie.Need-returns-2 Inv-loop μ-loop
 returns-2 c = unended-end (c .before .before .args .text .now) (c .before .loop .i) (omega arith) (omega arith) (c .before .loop .inv .1)

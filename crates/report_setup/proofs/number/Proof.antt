@@ -41,7 +41,9 @@ returns-2 c =
     told-of value _ (c .two-digits .result) (two-octets value (omega arith)) (c .two-digits .ensures)
 
 returns-3 : tie.Need-returns-3
-returns-3 c = other-length (c .before .before .before .args .value .now) (c .before .if1 .left) (c .if2 .left)
+returns-3 c =
+    let call = c .before .before .before in
+    other-length (call .args .value .now) (c .before .if1 .left) (c .if2 .left)
 
 pub number-spec : {M : Type 1} → statement M
 number-spec =

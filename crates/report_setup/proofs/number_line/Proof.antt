@@ -25,13 +25,19 @@ add-start : tie.Need-add-start
 add-start c = search needs
 
 sub-number : tie.Need-sub-number
-sub-number c = has-end (c .before .end .given .1) (c .before .before .before .value-end .ensures) .fits
+sub-number c =
+    let at-value-end = c .before .before .before in
+    has-end (c .before .end .given .1) (at-value-end .value-end .ensures) .fits
 
 part-number-start : tie.Need-part-number-start
-part-number-start c = omega (arith, has-end (c .before .end .given .1) (c .before .before .before .value-end .ensures))
+part-number-start c =
+    let at-value-end = c .before .before .before in
+    omega (arith, has-end (c .before .end .given .1) (at-value-end .value-end .ensures))
 
 part-number-end : tie.Need-part-number-end
-part-number-end c = omega (arith, has-end (c .before .end .given .1) (c .before .before .before .value-end .ensures))
+part-number-end c =
+    let at-value-end = c .before .before .before in
+    omega (arith, has-end (c .before .end .given .1) (at-value-end .value-end .ensures))
 
 number-requires : tie.Need-number-requires
 number-requires c κs = search needs

@@ -48,7 +48,10 @@ returns-3 c =
     rw (ne-eqb (first .before .before .args .x) 48 (first .before .if1 .left), sym (first .is-digit .ensures) ∙ c .before .before .if2 .taken, sym (c .before .is-digit2 .ensures) ∙ c .if3 .left)
 
 returns-4 : tie.Need-returns-4
-returns-4 c = rw (ne-eqb (c .before .before .before .args .x) 48 (c .before .before .if1 .left), sym (c .before .is-digit .ensures) ∙ c .if2 .left)
+returns-4 c =
+    let at-if = c .before .before in
+    let call = at-if .before in
+    rw (ne-eqb (call .args .x) 48 (at-if .if1 .left), sym (c .before .is-digit .ensures) ∙ c .if2 .left)
 
 pub two-digits-spec : {M : Type 1} → statement M
 two-digits-spec =

@@ -17,10 +17,17 @@ line-end-requires : tie.Need-line-end-requires
 line-end-requires c κs = search needs
 
 returns : tie.Need-returns
-returns c = no-line (c .before .before .before .before .before .args .key .now) (c .before .before .before .before .before .args .text .now) (c .before .before .before .before .before .args .from) (c .before .before .before .before .before .pre) (c .before .line-end .result) (c .before .line-end .ensures) (c .if1 .taken)
+returns c =
+    let call = c .before .before .before .before .before in
+    no-line (call .args .key .now) (call .args .text .now) (call .args .from) (call .pre) (c .before .line-end .result)
+    (c .before .line-end .ensures) (c .if1 .taken)
 
 slice-aggregate-begins : tie.Need-slice-aggregate-begins
-slice-aggregate-begins c = line-length (c .before .before .before .before .before .before .args .key .now) (c .before .before .before .before .before .before .args .text .now) (c .before .before .before .before .before .before .args .from) (c .before .before .before .before .before .before .pre) (c .before .before .line-end .result) (c .before .before .line-end .ensures) (c .before .if1 .left)
+slice-aggregate-begins c =
+    let at-line-end = c .before .before in
+    let call = at-line-end .before .before .before .before in
+    line-length (call .args .key .now) (call .args .text .now) (call .args .from) (call .pre) (at-line-end .line-end .result)
+    (at-line-end .line-end .ensures) (c .before .if1 .left)
 
 begins-requires : tie.Need-begins-requires
 begins-requires c κs = search needs
@@ -29,10 +36,20 @@ add-t13 : tie.Need-add-t13
 add-t13 c = search needs
 
 returns-2 : tie.Need-returns-2
-returns-2 c = line-found (c .before .before .before .before .before .before .before .before .args .key .now) (c .before .before .before .before .before .before .before .before .args .text .now) (c .before .before .before .before .before .before .before .before .args .from) (c .before .before .before .before .before .before .before .before .pre) (c .before .before .before .before .line-end .result) (c .before .before .before .before .line-end .ensures) (c .before .before .before .if1 .left) (c .if2 .taken) (c .before .begins .ensures)
+returns-2 c =
+    let at-if = c .before .before .before in
+    let at-line-end = at-if .before in
+    let call = at-line-end .before .before .before .before in
+    line-found (call .args .key .now) (call .args .text .now) (call .args .from) (call .pre) (at-line-end .line-end .result)
+    (at-line-end .line-end .ensures) (at-if .if1 .left) (c .if2 .taken) (c .before .begins .ensures)
 
 returns-3 : tie.Need-returns-3
-returns-3 c = other-key (c .before .before .before .before .before .before .before .before .args .key .now) (c .before .before .before .before .before .before .before .before .args .text .now) (c .before .before .before .before .before .before .before .before .args .from) (c .before .before .before .before .before .before .before .before .pre) (c .before .before .before .before .line-end .result) (c .before .before .before .before .line-end .ensures) (c .before .before .before .if1 .left) (c .if2 .left) (c .before .begins .ensures)
+returns-3 c =
+    let at-if = c .before .before .before in
+    let at-line-end = at-if .before in
+    let call = at-line-end .before .before .before .before in
+    other-key (call .args .key .now) (call .args .text .now) (call .args .from) (call .pre) (at-line-end .line-end .result)
+    (at-line-end .line-end .ensures) (at-if .if1 .left) (c .if2 .left) (c .before .begins .ensures)
 
 pub value-end-spec : {M : Type 1} → statement M
 value-end-spec =

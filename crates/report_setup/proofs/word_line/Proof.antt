@@ -25,13 +25,19 @@ add-start : tie.Need-add-start
 add-start c = search needs
 
 sub-word-place : tie.Need-sub-word-place
-sub-word-place c = has-end (c .before .end .given .1) (c .before .before .before .value-end .ensures) .fits
+sub-word-place c =
+    let at-value-end = c .before .before .before in
+    has-end (c .before .end .given .1) (at-value-end .value-end .ensures) .fits
 
 part-word-place-start : tie.Need-part-word-place-start
-part-word-place-start c = omega (arith, has-end (c .before .end .given .1) (c .before .before .before .value-end .ensures))
+part-word-place-start c =
+    let at-value-end = c .before .before .before in
+    omega (arith, has-end (c .before .end .given .1) (at-value-end .value-end .ensures))
 
 part-word-place-end : tie.Need-part-word-place-end
-part-word-place-end c = omega (arith, has-end (c .before .end .given .1) (c .before .before .before .value-end .ensures))
+part-word-place-end c =
+    let at-value-end = c .before .before .before in
+    omega (arith, has-end (c .before .end .given .1) (at-value-end .value-end .ensures))
 
 word-place-requires : tie.Need-word-place-requires
 word-place-requires c κs = search needs

@@ -30,7 +30,9 @@ put-decimal-put-digit-requires : (t : ℕ) → put-decimal-lts.Need-put-digit-re
   put-decimal-below t,
   put-decimal.Post,
 ) (put-decimal-at t) put-decimal.Post
-put-decimal-put-digit-requires t c κs = (digit-room (c .before .before .before .args .at) (c .before .before .before .args .n) (c .before .before .before .args .out .now) (c .before .before .before .pre .1) (c .before .if1 .taken), c .before .if1 .taken)
+put-decimal-put-digit-requires t c κs =
+    let call = c .before .before .before in
+    (digit-room (call .args .at) (call .args .n) (call .args .out .now) (call .pre .1) (c .before .if1 .taken), c .before .if1 .taken)
 
 put-decimal-same-length : (t : ℕ) → put-decimal-lts.Need-same-length (
   put-digit-reads.Asked,
@@ -46,7 +48,12 @@ put-decimal-returns : (t : ℕ) → put-decimal-lts.Need-returns (
   put-decimal-below t,
   put-decimal.Post,
 ) (put-decimal-at t) put-decimal.Post
-put-decimal-returns t c = digit-put (c .before .before .before .before .before .before .args .at) (c .before .before .before .before .before .before .args .n) (c .before .before .before .before .before .before .args .out .now) (c .before .before .before .before .before .before .pre .1) (c .before .before .before .before .if1 .taken) (c .before .before .put-digit .last .0) (c .before .before .put-digit .result) (c .before .before .put-digit .ensures)
+put-decimal-returns t c =
+    let at-put-digit = c .before .before in
+    let at-if = at-put-digit .before .before in
+    let call = at-if .before .before in
+    digit-put (call .args .at) (call .args .n) (call .args .out .now) (call .pre .1) (at-if .if1 .taken) (at-put-digit .put-digit .last .0)
+    (at-put-digit .put-digit .result) (at-put-digit .put-digit .ensures)
 
 put-decimal-put-decimal-requires : (t : ℕ) → put-decimal-lts.Need-put-decimal-requires (
   put-digit-reads.Asked,
@@ -54,7 +61,9 @@ put-decimal-put-decimal-requires : (t : ℕ) → put-decimal-lts.Need-put-decima
   put-decimal-below t,
   put-decimal.Post,
 ) (put-decimal-at t) put-decimal.Post
-put-decimal-put-decimal-requires t c κs = (subst (λ (j : ℕ). c .before .before .before .args .n / 10 < j) (c .before .before .before .pre .0) (omega (arith, c .before .if1 .left)), front-room (c .before .before .before .args .at) (c .before .before .before .args .n) (c .before .before .before .args .out .now) (c .before .before .before .pre .1) (c .before .if1 .left))
+put-decimal-put-decimal-requires t c κs =
+    let call = c .before .before .before in
+    (subst (λ (j : ℕ). call .args .n / 10 < j) (call .pre .0) (omega (arith, c .before .if1 .left)), front-room (call .args .at) (call .args .n) (call .args .out .now) (call .pre .1) (c .before .if1 .left))
 
 put-decimal-put-digit-requires-2 : (t : ℕ) → put-decimal-lts.Need-put-digit-requires-2 (
   put-digit-reads.Asked,
@@ -62,7 +71,11 @@ put-decimal-put-digit-requires-2 : (t : ℕ) → put-decimal-lts.Need-put-digit-
   put-decimal-below t,
   put-decimal.Post,
 ) (put-decimal-at t) put-decimal.Post
-put-decimal-put-digit-requires-2 t c κs = (last-room (c .before .before .before .before .before .before .before .args .at) (c .before .before .before .before .before .before .before .args .n) (c .before .before .before .before .before .before .before .args .out .now) (c .before .before .before .before .before .before .before .pre .1) (c .before .before .before .before .before .if1 .left) (c .before .before .before .put-decimal .last .0) (c .before .before .before .put-decimal .result) (c .before .before .before .put-decimal .ensures), omega arith)
+put-decimal-put-digit-requires-2 t c κs =
+    let at-put-decimal = c .before .before .before in
+    let at-if = at-put-decimal .before .before in
+    let call = at-if .before .before in
+    (last-room (call .args .at) (call .args .n) (call .args .out .now) (call .pre .1) (at-if .if1 .left) (at-put-decimal .put-decimal .last .0) (at-put-decimal .put-decimal .result) (at-put-decimal .put-decimal .ensures), omega arith)
 
 put-decimal-same-length-2 : (t : ℕ) → put-decimal-lts.Need-same-length-2 (
   put-digit-reads.Asked,
@@ -70,7 +83,10 @@ put-decimal-same-length-2 : (t : ℕ) → put-decimal-lts.Need-same-length-2 (
   put-decimal-below t,
   put-decimal.Post,
 ) (put-decimal-at t) put-decimal.Post
-put-decimal-same-length-2 t c = c .before .before .put-digit2 .kept .0 ∙ c .before .before .before .before .before .before .put-decimal .kept .0
+put-decimal-same-length-2 t c =
+    let at-put-digit = c .before .before in
+    let at-put-decimal = at-put-digit .before .before .before .before in
+    at-put-digit .put-digit2 .kept .0 ∙ at-put-decimal .put-decimal .kept .0
 
 put-decimal-returns-2 : (t : ℕ) → put-decimal-lts.Need-returns-2 (
   put-digit-reads.Asked,
@@ -78,7 +94,14 @@ put-decimal-returns-2 : (t : ℕ) → put-decimal-lts.Need-returns-2 (
   put-decimal-below t,
   put-decimal.Post,
 ) (put-decimal-at t) put-decimal.Post
-put-decimal-returns-2 t c = last-put (c .before .before .before .before .before .before .before .before .before .before .args .at) (c .before .before .before .before .before .before .before .before .before .before .args .n) (c .before .before .before .before .before .before .before .before .before .before .args .out .now) (c .before .before .before .before .before .before .before .before .before .before .pre .1) (c .before .before .before .before .before .before .before .before .if1 .left) (c .before .before .before .before .before .before .put-decimal .last .0) (c .before .before .before .before .before .before .put-decimal .result) (c .before .before .before .before .before .before .put-decimal .ensures) (c .before .before .put-digit2 .last .0) (c .before .before .put-digit2 .result) (c .before .before .put-digit2 .ensures)
+put-decimal-returns-2 t c =
+    let at-put-digit = c .before .before in
+    let at-put-decimal = at-put-digit .before .before .before .before in
+    let at-if = at-put-decimal .before .before in
+    let call = at-if .before .before in
+    last-put (call .args .at) (call .args .n) (call .args .out .now) (call .pre .1) (at-if .if1 .left) (at-put-decimal .put-decimal .last .0)
+    (at-put-decimal .put-decimal .result) (at-put-decimal .put-decimal .ensures) (at-put-digit .put-digit2 .last .0)
+    (at-put-digit .put-digit2 .result) (at-put-digit .put-digit2 .ensures)
 
 pub +put-decimal-spec : {M : Type 1} → statement M
 +put-decimal-spec = close μ-put-decimal λ t. put-decimal-lts.spec (

@@ -19,10 +19,17 @@ shared-slice-read-out : tie.Need-shared-slice-read-out Inv-loop μ-loop
 shared-slice-read-out c = c .before .loop-test .taken
 
 add-out : tie.Need-add-out Inv-loop μ-loop
-add-out c = omega (arith, c .before .loop-test .taken, c .before .before .loop .inv .room, c .before .before .before .good)
+add-out c =
+    let at-loop = c .before .before in
+    let call = at-loop .before in
+    omega (arith, c .before .loop-test .taken, at-loop .loop .inv .room, call .good)
 
 slice-write-out : tie.Need-slice-write-out Inv-loop μ-loop
-slice-write-out c = omega (arith, c .before .loop-test .taken, c .before .before .loop .inv .room, copied-long (c .before .before .before .args .at) (c .before .before .before .args .octets .now) (c .before .before .before .args .out .now) (c .before .before .loop .out) (c .before .before .loop .i) (c .before .before .loop .inv))
+slice-write-out c =
+    let at-loop = c .before .before in
+    let call = at-loop .before in
+    omega
+    (arith, c .before .loop-test .taken, at-loop .loop .inv .room, copied-long (call .args .at) (call .args .octets .now) (call .args .out .now) (at-loop .loop .out) (at-loop .loop .i) (at-loop .loop .inv))
 
 add-i : tie.Need-add-i Inv-loop μ-loop
 add-i c = omega (arith, c .before .loop-test .taken)
@@ -31,16 +38,24 @@ loop-less : tie.Need-loop-less Inv-loop μ-loop
 loop-less c = omega (arith, c .before .loop-test .taken)
 
 loop-again : tie.Need-loop-again Inv-loop μ-loop
-loop-again c = copied-more (c .before .before .before .args .at) (c .before .before .before .args .octets .now) (c .before .before .before .args .out .now) (c .before .before .loop .out) (c .before .before .loop .i) (c .before .before .loop .inv) (c .before .loop-test .taken)
+loop-again c =
+    let at-loop = c .before .before in
+    let call = at-loop .before in
+    copied-more (call .args .at) (call .args .octets .now) (call .args .out .now) (at-loop .loop .out) (at-loop .loop .i) (at-loop .loop .inv)
+    (c .before .loop-test .taken)
 
 add-result : tie.Need-add-result Inv-loop μ-loop
 add-result c = omega (arith, c .before .before .pre)
 
 same-length : tie.Need-same-length Inv-loop μ-loop
-same-length c = copied-long (c .before .before .args .at) (c .before .before .args .octets .now) (c .before .before .args .out .now) (c .before .loop .out) (c .before .loop .i) (c .before .loop .inv)
+same-length c =
+    copied-long (c .before .before .args .at) (c .before .before .args .octets .now) (c .before .before .args .out .now) (c .before .loop .out)
+    (c .before .loop .i) (c .before .loop .inv)
 
 returns : tie.Need-returns Inv-loop μ-loop
-returns c = copied-all (c .before .before .args .at) (c .before .before .args .octets .now) (c .before .before .args .out .now) (c .before .loop .out) (c .before .loop .i) (c .before .loop .inv) (c .loop-test .left)
+returns c =
+    copied-all (c .before .before .args .at) (c .before .before .args .octets .now) (c .before .before .args .out .now) (c .before .loop .out)
+    (c .before .loop .i) (c .before .loop .inv) (c .loop-test .left)
 
 pub put-octets-spec : {M : Type 1} → statement M
 put-octets-spec =

@@ -22,13 +22,27 @@ slice-aggregate-put-line : tie.Need-slice-aggregate-put-line
 slice-aggregate-put-line c = search needs
 
 put-line-requires : tie.Need-put-line-requires
-put-line-requires c κs = room-3 (ascii "verdict=clean\n") (ascii "transfers=") (ascii "packets=") (c .before .before .before .before .before .before .before .before .before .before .args .out .now) (clean-fit (c .before .before .before .before .before .before .before .before .before .before .args .out .now) (c .before .before .before .before .before .before .before .before .before .before .pre)) (c .before .before .before .before .before .before .before .before .before .before .args .transfers) (c .before .before .before .before .before .before .before .before .before .before .args .packets) (c .before .before .before .before .before .before .before .before .before .before .fits .transfers .fits) (c .before .before .before .before .before .before .before .before .before .before .fits .packets .fits) (c .before .before .before .before .put-two .last .1 .1 .1 .1 .1 .0) (c .before .before .before .before .put-two .result) (c .before .before .before .before .put-two .ensures) (ascii "records=") (c .before .before .before .before .before .before .before .before .before .before .args .records) (omega arith) (c .before .before .before .before .before .before .before .before .before .before .fits .records .fits)
+put-line-requires c κs =
+    let at-put-two = c .before .before .before .before in
+    let call = at-put-two .before .before .before .before .before .before in
+    room-3 (ascii "verdict=clean\n") (ascii "transfers=") (ascii "packets=") (call .args .out .now) (clean-fit (call .args .out .now) (call .pre))
+    (call .args .transfers) (call .args .packets) (call .fits .transfers .fits) (call .fits .packets .fits)
+    (at-put-two .put-two .last .1 .1 .1 .1 .1 .0) (at-put-two .put-two .result) (at-put-two .put-two .ensures) (ascii "records=")
+    (call .args .records) (omega arith) (call .fits .records .fits)
 
 same-length : tie.Need-same-length
 same-length c = search needs
 
 returns : tie.Need-returns
-returns c = three-put (ascii "verdict=clean\n") (ascii "transfers=") (ascii "packets=") (c .before .before .before .before .before .before .before .before .before .before .before .before .before .args .out .now) (clean-fit (c .before .before .before .before .before .before .before .before .before .before .before .before .before .args .out .now) (c .before .before .before .before .before .before .before .before .before .before .before .before .before .pre)) (c .before .before .before .before .before .before .before .before .before .before .before .before .before .args .transfers) (c .before .before .before .before .before .before .before .before .before .before .before .before .before .args .packets) (c .before .before .before .before .before .before .before .before .before .before .before .before .before .fits .transfers .fits) (c .before .before .before .before .before .before .before .before .before .before .before .before .before .fits .packets .fits) (c .before .before .before .before .before .before .before .put-two .last .1 .1 .1 .1 .1 .0) (c .before .before .before .before .before .before .before .put-two .result) (c .before .before .before .before .before .before .before .put-two .ensures) (ascii "records=") (c .before .before .before .before .before .before .before .before .before .before .before .before .before .args .records) (omega arith) (c .before .before .before .before .before .before .before .before .before .before .before .before .before .fits .records .fits) (c .before .before .put-line .last .0) (c .before .before .put-line .result) (c .before .before .put-line .ensures)
+returns c =
+    let at-put-line = c .before .before in
+    let at-put-two = at-put-line .before .before .before .before .before in
+    let call = at-put-two .before .before .before .before .before .before in
+    three-put (ascii "verdict=clean\n") (ascii "transfers=") (ascii "packets=") (call .args .out .now) (clean-fit (call .args .out .now) (call .pre))
+    (call .args .transfers) (call .args .packets) (call .fits .transfers .fits) (call .fits .packets .fits)
+    (at-put-two .put-two .last .1 .1 .1 .1 .1 .0) (at-put-two .put-two .result) (at-put-two .put-two .ensures) (ascii "records=")
+    (call .args .records) (omega arith) (call .fits .records .fits) (at-put-line .put-line .last .0) (at-put-line .put-line .result)
+    (at-put-line .put-line .ensures)
 
 pub put-clean-spec : {M : Type 1} → statement M
 put-clean-spec =

@@ -53,19 +53,36 @@ same-length : tie.Need-same-length
 same-length c = search needs
 
 returns : tie.Need-returns
-returns c = text-of (c .before .before .before .before .before .before .before .before .args .v) (c .before .before .before .before .before .v .given .1) (c .before .before .before .before .before .before .before .before .args .out .now) (c .before .before .put-clean .last .1 .1 .1 .0) (c .before .before .put-clean .result) (c .before .before .put-clean .ensures)
+returns c =
+    let at-put-clean = c .before .before in
+    let at-v = at-put-clean .before .before .before in
+    let call = at-v .before .before .before in
+    text-of (call .args .v) (at-v .v .given .1) (call .args .out .now) (at-put-clean .put-clean .last .1 .1 .1 .0) (at-put-clean .put-clean .result)
+    (at-put-clean .put-clean .ensures)
 
 same-length-2 : tie.Need-same-length-2
 same-length-2 c = search needs
 
 returns-2 : tie.Need-returns-2
-returns-2 c = text-of (c .before .before .before .before .before .before .before .before .before .before .before .args .v) (c .before .before .before .before .before .before .before .before .v2 .given .1) (c .before .before .before .before .before .before .before .before .before .before .before .args .out .now) (c .before .before .put-two .last .1 .1 .1 .1 .1 .0) (c .before .before .put-two .result) (c .before .before .put-two .ensures)
+returns-2 c =
+    let at-put-two = c .before .before in
+    let at-v = at-put-two .before .before .before .before .before .before in
+    let call = at-v .before .before .before in
+    text-of (call .args .v) (at-v .v2 .given .1) (call .args .out .now) (at-put-two .put-two .last .1 .1 .1 .1 .1 .0) (at-put-two .put-two .result)
+    (at-put-two .put-two .ensures)
 
 same-length-3 : tie.Need-same-length-3
 same-length-3 c = search needs
 
 returns-3 : tie.Need-returns-3
-returns-3 c = text-of-refused (c .before .before .before .before .before .before .before .before .before .before .before .before .before .args .v) (c .before .before .before .before .before .before .before .before .before .before .v3 .given .0 .0) (c .before .before .before .before .before .before .before .before .before .before .v3 .given .1) (c .before .before .before .before .before .before .before .before .code-of .result .0) (c .before .before .before .before .before .before .before .before .code-of .result .1) (c .before .before .before .before .before .before .before .before .code-of .ensures .0) (c .before .before .before .before .before .before .before .before .code-of .ensures .1) (c .before .before .before .before .before .before .before .before .before .before .before .before .before .args .out .now) (c .before .before .put-two2 .last .1 .1 .1 .1 .1 .0) (c .before .before .put-two2 .result) (c .before .before .put-two2 .ensures)
+returns-3 c =
+    let at-put-two = c .before .before in
+    let at-code-of = at-put-two .before .before .before .before .before .before in
+    let at-v = at-code-of .before .before in
+    let call = at-v .before .before .before in
+    text-of-refused (call .args .v) (at-v .v3 .given .0 .0) (at-v .v3 .given .1) (at-code-of .code-of .result .0) (at-code-of .code-of .result .1)
+    (at-code-of .code-of .ensures .0) (at-code-of .code-of .ensures .1) (call .args .out .now) (at-put-two .put-two2 .last .1 .1 .1 .1 .1 .0)
+    (at-put-two .put-two2 .result) (at-put-two .put-two2 .ensures)
 
 pub put-text-spec : {M : Type 1} → statement M
 put-text-spec =

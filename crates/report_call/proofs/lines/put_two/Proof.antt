@@ -5,19 +5,41 @@ use Rattle.report_call.proofs.lines.put_two.Statement.{statement}
 use Rattle.report_call.proofs.lines.put_two.Tie as tie
 
 put-octets-requires : tie.Need-put-octets-requires
-put-octets-requires c κs = head-room (c .before .before .before .before .before .args .head .now) (c .before .before .before .before .before .args .key .now) (c .before .before .before .before .before .args .next .now) (c .before .before .before .before .before .args .out .now) (c .before .before .before .before .before .pre) (c .before .before .before .before .before .args .n) (c .before .before .before .before .before .args .m) (c .before .before .before .before .before .fits .n .fits) (c .before .before .before .before .before .fits .m .fits)
+put-octets-requires c κs =
+    let call = c .before .before .before .before .before in
+    head-room (call .args .head .now) (call .args .key .now) (call .args .next .now) (call .args .out .now) (call .pre) (call .args .n)
+    (call .args .m) (call .fits .n .fits) (call .fits .m .fits)
 
 put-line-requires : tie.Need-put-line-requires
-put-line-requires c κs = room-1 (c .before .before .before .before .before .before .before .before .before .args .head .now) (c .before .before .before .before .before .before .before .before .before .args .key .now) (c .before .before .before .before .before .before .before .before .before .args .next .now) (c .before .before .before .before .before .before .before .before .before .args .out .now) (c .before .before .before .before .before .before .before .before .before .pre) (c .before .before .before .before .before .before .before .before .before .args .n) (c .before .before .before .before .before .before .before .before .before .args .m) (c .before .before .before .before .before .before .before .before .before .fits .n .fits) (c .before .before .before .before .before .before .before .before .before .fits .m .fits) (c .before .before .before .put-octets .last .0) (c .before .before .before .put-octets .result) (c .before .before .before .put-octets .ensures)
+put-line-requires c κs =
+    let at-put-octets = c .before .before .before in
+    let call = at-put-octets .before .before .before .before .before .before in
+    room-1 (call .args .head .now) (call .args .key .now) (call .args .next .now) (call .args .out .now) (call .pre) (call .args .n) (call .args .m)
+    (call .fits .n .fits) (call .fits .m .fits) (at-put-octets .put-octets .last .0) (at-put-octets .put-octets .result)
+    (at-put-octets .put-octets .ensures)
 
 put-line-requires-2 : tie.Need-put-line-requires-2
-put-line-requires-2 c κs = room-2 (c .before .before .before .before .before .before .before .before .before .before .before .before .before .args .head .now) (c .before .before .before .before .before .before .before .before .before .before .before .before .before .args .key .now) (c .before .before .before .before .before .before .before .before .before .before .before .before .before .args .next .now) (c .before .before .before .before .before .before .before .before .before .before .before .before .before .args .out .now) (c .before .before .before .before .before .before .before .before .before .before .before .before .before .pre) (c .before .before .before .before .before .before .before .before .before .before .before .before .before .args .n) (c .before .before .before .before .before .before .before .before .before .before .before .before .before .args .m) (c .before .before .before .before .before .before .before .before .before .before .before .before .before .fits .n .fits) (c .before .before .before .before .before .before .before .before .before .before .before .before .before .fits .m .fits) (c .before .before .before .before .before .before .before .put-octets .last .0) (c .before .before .before .before .before .before .before .put-octets .result) (c .before .before .before .before .before .before .before .put-octets .ensures) (c .before .before .before .put-line .last .0) (c .before .before .before .put-line .result) (c .before .before .before .put-line .ensures)
+put-line-requires-2 c κs =
+    let at-put-line = c .before .before .before in
+    let at-put-octets = at-put-line .before .before .before .before in
+    let call = at-put-octets .before .before .before .before .before .before in
+    room-2 (call .args .head .now) (call .args .key .now) (call .args .next .now) (call .args .out .now) (call .pre) (call .args .n) (call .args .m)
+    (call .fits .n .fits) (call .fits .m .fits) (at-put-octets .put-octets .last .0) (at-put-octets .put-octets .result)
+    (at-put-octets .put-octets .ensures) (at-put-line .put-line .last .0) (at-put-line .put-line .result) (at-put-line .put-line .ensures)
 
 same-length : tie.Need-same-length
 same-length c = search needs
 
 returns : tie.Need-returns
-returns c = two-put (c .before .before .before .before .before .before .before .before .before .before .before .before .before .before .before .before .args .head .now) (c .before .before .before .before .before .before .before .before .before .before .before .before .before .before .before .before .args .key .now) (c .before .before .before .before .before .before .before .before .before .before .before .before .before .before .before .before .args .next .now) (c .before .before .before .before .before .before .before .before .before .before .before .before .before .before .before .before .args .out .now) (c .before .before .before .before .before .before .before .before .before .before .before .before .before .before .before .before .pre) (c .before .before .before .before .before .before .before .before .before .before .before .before .before .before .before .before .args .n) (c .before .before .before .before .before .before .before .before .before .before .before .before .before .before .before .before .args .m) (c .before .before .before .before .before .before .before .before .before .before .before .before .before .before .before .before .fits .n .fits) (c .before .before .before .before .before .before .before .before .before .before .before .before .before .before .before .before .fits .m .fits) (c .before .before .before .before .before .before .before .before .before .before .put-octets .last .0) (c .before .before .before .before .before .before .before .before .before .before .put-octets .result) (c .before .before .before .before .before .before .before .before .before .before .put-octets .ensures) (c .before .before .before .before .before .before .put-line .last .0) (c .before .before .before .before .before .before .put-line .result) (c .before .before .before .before .before .before .put-line .ensures) (c .before .before .put-line2 .last .0) (c .before .before .put-line2 .result) (c .before .before .put-line2 .ensures)
+returns c =
+    let at-put-line = c .before .before in
+    let at-put-line-first = at-put-line .before .before .before .before in
+    let at-put-octets = at-put-line-first .before .before .before .before in
+    let call = at-put-octets .before .before .before .before .before .before in
+    two-put (call .args .head .now) (call .args .key .now) (call .args .next .now) (call .args .out .now) (call .pre) (call .args .n) (call .args .m)
+    (call .fits .n .fits) (call .fits .m .fits) (at-put-octets .put-octets .last .0) (at-put-octets .put-octets .result)
+    (at-put-octets .put-octets .ensures) (at-put-line-first .put-line .last .0) (at-put-line-first .put-line .result)
+    (at-put-line-first .put-line .ensures) (at-put-line .put-line2 .last .0) (at-put-line .put-line2 .result) (at-put-line .put-line2 .ensures)
 
 pub put-two-spec : {M : Type 1} → statement M
 put-two-spec =

@@ -1,9 +1,9 @@
 -- `report_call::lines::render` meets its contract: the text goes from its own array to the lent slice, or nowhere. Assumes nothing.
-use Prim.Native.Nat.{ℕ}
 use mathlib.Core.List.{List}
-use borrow.Author.Needs.{needs}
+use Prim.Native.Nat.{ℕ}
 use lib.ListN.{replicate}
-use Rattle.report_call.specs.Report.{textOf}
+use borrow.Author.Needs.{needs}
+use Rattle.report_spec.specs.Report.{textOf}
 use Rattle.report_call.proofs.Told.{prefix-fits, prefix-long, told-nothing, told-room, told-all}
 use Rattle.report_call.proofs.lines.render.Statement.{statement}
 use Rattle.report_call.proofs.lines.render.Tie as tie
@@ -19,22 +19,44 @@ put-text-requires : tie.Need-put-text-requires
 put-text-requires c κs = search needs
 
 returns : tie.Need-returns
-returns c = told-nothing (textOf (c .before .before .before .before .before .args .v)) zeros (c .before .before .put-text .last .1 .0) (c .before .before .put-text .result) (c .before .before .put-text .ensures) (c .before .before .before .before .before .args .text .now) (c .if1 .taken)
+returns c =
+    let at-put-text = c .before .before in
+    let call = at-put-text .before .before .before in
+    told-nothing (textOf (call .args .v)) zeros (at-put-text .put-text .last .1 .0) (at-put-text .put-text .result) (at-put-text .put-text .ensures)
+    (at-put-text .put-text .kept .1 .0) (call .args .text .now) (c .if1 .taken)
 
 array-share-prefix-buffer : tie.Need-array-share-prefix-buffer
-array-share-prefix-buffer c = prefix-fits (textOf (c .before .before .before .before .before .before .args .v)) zeros (c .before .before .before .put-text .last .1 .0) (c .before .before .before .put-text .result) (c .before .before .before .put-text .ensures)
+array-share-prefix-buffer c =
+    let at-put-text = c .before .before .before in
+    let call = at-put-text .before .before .before in
+    prefix-fits (textOf (call .args .v)) zeros (at-put-text .put-text .last .1 .0) (at-put-text .put-text .result) (at-put-text .put-text .ensures)
 
 slice-aggregate-put-octets : tie.Need-slice-aggregate-put-octets
-slice-aggregate-put-octets c = prefix-long (textOf (c .before .before .before .before .before .before .before .args .v)) zeros (c .before .before .before .before .put-text .last .1 .0) (c .before .before .before .before .put-text .result) (c .before .before .before .before .put-text .ensures)
+slice-aggregate-put-octets c =
+    let at-put-text = c .before .before .before .before in
+    let call = at-put-text .before .before .before in
+    prefix-long (textOf (call .args .v)) zeros (at-put-text .put-text .last .1 .0) (at-put-text .put-text .result) (at-put-text .put-text .ensures)
 
 put-octets-requires : tie.Need-put-octets-requires
-put-octets-requires c κs = told-room (textOf (c .before .before .before .before .before .before .before .args .v)) zeros (c .before .before .before .before .put-text .last .1 .0) (c .before .before .before .before .put-text .result) (c .before .before .before .before .put-text .ensures) (c .before .before .before .before .before .before .before .args .text .now) (c .before .before .if1 .left)
+put-octets-requires c κs =
+    let at-if = c .before .before in
+    let at-put-text = at-if .before .before in
+    let call = at-put-text .before .before .before in
+    told-room (textOf (call .args .v)) zeros (at-put-text .put-text .last .1 .0) (at-put-text .put-text .result) (at-put-text .put-text .ensures)
+    (at-put-text .put-text .kept .1 .0) (call .args .text .now) (at-if .if1 .left)
 
 same-length : tie.Need-same-length
 same-length c = search needs
 
 returns-2 : tie.Need-returns-2
-returns-2 c = told-all (textOf (c .before .before .before .before .before .before .before .before .before .before .args .v)) zeros (c .before .before .before .before .before .before .before .put-text .last .1 .0) (c .before .before .before .before .before .before .before .put-text .result) (c .before .before .before .before .before .before .before .put-text .ensures) (c .before .before .before .before .before .before .before .before .before .before .args .text .now) (c .before .before .before .before .before .if1 .left) (c .before .before .put-octets .last .0) (c .before .before .put-octets .result) (c .before .before .put-octets .ensures)
+returns-2 c =
+    let at-put-octets = c .before .before in
+    let at-if = at-put-octets .before .before .before in
+    let at-put-text = at-if .before .before in
+    let call = at-put-text .before .before .before in
+    told-all (textOf (call .args .v)) zeros (at-put-text .put-text .last .1 .0) (at-put-text .put-text .result) (at-put-text .put-text .ensures)
+    (at-put-text .put-text .kept .1 .0) (call .args .text .now) (at-if .if1 .left) (at-put-octets .put-octets .last .0)
+    (at-put-octets .put-octets .result) (at-put-octets .put-octets .ensures)
 
 pub render-spec : {M : Type 1} → statement M
 render-spec =

@@ -1,51 +1,53 @@
--- `report_call::outcome::check_setup` meets its contract: one test after the other. Assumes nothing.
-use mathlib.Core.Path.{sym, _∙_}
+-- `report_call::outcome::check_setup` meets its contract: the shapes, then the ratio. Assumes nothing.
 use borrow.Author.Needs.{needs}
-use Rattle.report_call.proofs.Passed.{bad-in, bad-out, pack-passes, out-some, bad-ratio, lanes-pass}
+use Rattle.report_call.proofs.Passed.{bad-shape, out-some, then-ratio}
 use Rattle.report_call.proofs.outcome.check_setup.Statement.{statement}
 use Rattle.report_call.proofs.outcome.check_setup.Tie as tie
 
-bad-width-requires : tie.Need-bad-width-requires
-bad-width-requires c κs = search needs
+shape-of-requires : tie.Need-shape-of-requires
+shape-of-requires c κs = search needs
 
-returns : tie.Need-returns
-returns c = bad-in (c .before .before .args .u) (sym (c .before .bad-width .ensures) ∙ c .if1 .taken)
+check-shapes-requires : tie.Need-check-shapes-requires
+check-shapes-requires c κs = search needs
 
-bad-width-requires-2 : tie.Need-bad-width-requires-2
-bad-width-requires-2 c κs = search needs
-
-returns-2 : tie.Need-returns-2
-returns-2 c = bad-out (c .before .before .before .before .args .u) (sym (c .before .before .before .bad-width .ensures) ∙ c .before .before .if1 .left) (sym (c .before .bad-width2 .ensures) ∙ c .if2 .taken)
+enum-known-shapes : tie.Need-enum-known-shapes
+enum-known-shapes c = search needs
 
 enum-told : tie.Need-enum-told
 enum-told c = search needs
 
-enum-told-2 : tie.Need-enum-told-2
-enum-told-2 c = search needs
+check-ratio-requires : tie.Need-check-ratio-requires
+check-ratio-requires c κs =
+    let at-check-shapes = c .before .before in
+    let at-shape-of = at-check-shapes .before in
+    let call = at-shape-of .before in
+    out-some (call .args .u) (at-shape-of .shape-of .result) (at-shape-of .shape-of .ensures) (at-check-shapes .check-shapes .result)
+    (at-check-shapes .check-shapes .ensures) (c .enum-told .given .1)
 
-rem-if3 : tie.Need-rem-if3
-rem-if3 c = out-some (c .before .before .before .before .before .before .before .args .u) (sym (c .before .before .before .before .before .before .bad-width .ensures) ∙ c .before .before .before .before .before .if1 .left) (sym (c .before .before .before .before .bad-width2 .ensures) ∙ c .before .before .before .if2 .left)
+returns : tie.Need-returns
+returns c =
+    let at-check-shapes = c .before .before .before in
+    let at-shape-of = at-check-shapes .before in
+    let call = at-shape-of .before in
+    bad-shape (call .args .u) (at-shape-of .shape-of .result) (at-shape-of .shape-of .ensures) (at-check-shapes .check-shapes .result)
+    (at-check-shapes .check-shapes .ensures) (c .before .shapes .given .0 .0) (c .before .shapes .given .1)
 
-returns-3 : tie.Need-returns-3
-returns-3 c = bad-ratio (c .before .before .before .before .before .before .before .before .args .u) (sym (c .before .before .before .before .before .before .before .bad-width .ensures) ∙ c .before .before .before .before .before .before .if1 .left) (sym (c .before .before .before .before .before .bad-width2 .ensures) ∙ c .before .before .before .before .if2 .left) (c .before .before .enum-told2 .given .1) (c .if3 .taken)
-
-returns-4 : tie.Need-returns-4
-returns-4 c = pack-passes (c .before .before .before .before .before .before .args .u) (sym (c .before .before .before .before .before .bad-width .ensures) ∙ c .before .before .before .before .if1 .left) (sym (c .before .before .before .bad-width2 .ensures) ∙ c .before .before .if2 .left) (c .enum-told .given .1)
-
-returns-5 : tie.Need-returns-5
-returns-5 c = lanes-pass (c .before .before .before .before .before .before .before .before .args .u) (sym (c .before .before .before .before .before .before .before .bad-width .ensures) ∙ c .before .before .before .before .before .before .if1 .left) (sym (c .before .before .before .before .before .bad-width2 .ensures) ∙ c .before .before .before .before .if2 .left) (c .before .before .enum-told2 .given .1) (c .if3 .left)
+returns-2 : tie.Need-returns-2
+returns-2 c =
+    let at-check-shapes = c .before .before .before in
+    let at-shape-of = at-check-shapes .before in
+    let call = at-shape-of .before in
+    then-ratio (call .args .u) (at-shape-of .shape-of .result) (at-shape-of .shape-of .ensures) (at-check-shapes .check-shapes .result)
+    (at-check-shapes .check-shapes .ensures) (c .before .enum-told .given .1) (c .check-ratio .result) (c .check-ratio .ensures)
 
 pub check-setup-spec : {M : Type 1} → statement M
 check-setup-spec =
     tie.close
     (tie.spec
-    bad-width-requires
-    returns
-    bad-width-requires-2
-    returns-2
+    shape-of-requires
+    check-shapes-requires
+    enum-known-shapes
     enum-told
-    enum-told-2
-    rem-if3
-    returns-3
-    returns-4
-    returns-5)
+    check-ratio-requires
+    returns
+    returns-2)

@@ -20,13 +20,23 @@ same-length : tie.Need-same-length
 same-length c = search needs
 
 returns : tie.Need-returns
-returns c = packs (c .before .before .before .before .before .before .before .before .args .mode) (c .before .before .before .before .enum-told .given .1) (c .before .before .before .before .before .before .before .before .args .s) (c .before .before .before .before .before .before .before .before .args .v) (c .before .before .before .before .before .before .before .before .args .transfers .now) (c .before .before .before .before .before .before .before .before .args .out .now) (c .before .before .repack .last .1 .1 .1 .0) (c .before .before .repack .result) (c .before .before .repack .ensures)
+returns c =
+    let at-repack = c .before .before in
+    let at-enum-told = at-repack .before .before in
+    let call = at-enum-told .before .before .before .before in
+    packs (call .args .mode) (at-enum-told .enum-told .given .1) (call .args .s) (call .args .v) (call .args .transfers .now) (call .args .out .now)
+    (at-repack .repack .last .1 .1 .1 .0) (at-repack .repack .result) (at-repack .repack .ensures)
 
 same-length-2 : tie.Need-same-length-2
 same-length-2 c = search needs
 
 returns-2 : tie.Need-returns-2
-returns-2 c = slices (c .before .before .before .before .before .before .before .before .args .mode) (c .before .before .before .before .enum-told2 .given .1) (c .before .before .before .before .before .before .before .before .args .s) (c .before .before .before .before .before .before .before .before .args .v) (c .before .before .before .before .before .before .before .before .args .transfers .now) (c .before .before .before .before .before .before .before .before .args .out .now) (c .before .before .downsize .last .1 .1 .1 .0) (c .before .before .downsize .result) (c .before .before .downsize .ensures)
+returns-2 c =
+    let at-downsize = c .before .before in
+    let at-enum-told = at-downsize .before .before in
+    let call = at-enum-told .before .before .before .before in
+    slices (call .args .mode) (at-enum-told .enum-told2 .given .1) (call .args .s) (call .args .v) (call .args .transfers .now)
+    (call .args .out .now) (at-downsize .downsize .last .1 .1 .1 .0) (at-downsize .downsize .result) (at-downsize .downsize .ensures)
 
 pub convert-spec : {M : Type 1} → statement M
 convert-spec =

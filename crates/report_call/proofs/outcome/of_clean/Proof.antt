@@ -1,19 +1,21 @@
 -- `report_call::outcome::of_clean` meets its contract: the transfers stand in front of the array, and nothing else is read. Assumes nothing.
-use mathlib.Core.Path.{subst}
 use mathlib.Core.List.{List}
-use Prim.Native.Nat.{ℕ}
+use Prim.Native.Nat.{ℕ, _*_}
 use native.Mathlib.Omega.{arith}
+use lib.ListN.{replicate, length-replicate, take}
 use borrow.Author.Needs.{needs}
-use lib.ListN.{length, replicate, length-replicate}
-use Rattle.report_call.specs.Report.{shapeOf, convertedTransfers}
-use Rattle.report_call.specs.Steps.{Came}
-use Rattle.report_call.proofs.Sound.{width-16, short, part-is, part-fits, part-long, part-whole}
+use Rattle.report_spec.specs.Report.{shapeOf}
+use Rattle.report_call.proofs.Sound.{width-high, short, part-is, part-fits, part-long, part-passed}
+use Rattle.report_call.proofs.Steps.{clean-came}
 use Rattle.report_call.proofs.outcome.of_clean.Statement.{statement}
 use Rattle.report_call.proofs.outcome.of_clean.Tie as tie
 
 -- the array before the transfers are put there
 abbrev zeros : List ℕ
 zeros = replicate {A = ℕ} 65536 0
+
+shape-of-requires : tie.Need-shape-of-requires
+shape-of-requires c κs = search needs
 
 slice-aggregate-harvest : tie.Need-slice-aggregate-harvest
 slice-aggregate-harvest c = search needs
@@ -22,30 +24,66 @@ harvest-requires : tie.Need-harvest-requires
 harvest-requires c κs = search needs
 
 record-size-requires : tie.Need-record-size-requires
-record-size-requires c κs = width-16 (shapeOf (c .before .before .before .before .before .args .u)) (c .before .before .before .before .before .args .capture .now) (c .before .before .before .before .before .args .count) (c .before .before .before .before .before .pre .1)
+record-size-requires c κs =
+    let at-shape-of = c .before .before .before in
+    let call = at-shape-of .before .before .before in
+    width-high (shapeOf (call .args .u)) (call .args .cycles .now) (call .args .count) (call .pre .1) (at-shape-of .shape-of .result)
+    (at-shape-of .shape-of .ensures)
 
 mul-n : tie.Need-mul-n
-mul-n c = omega (arith, short (shapeOf (c .before .before .before .before .before .before .args .u)) (c .before .before .before .before .before .before .args .capture .now) (c .before .before .before .before .before .before .args .count) (c .before .before .before .before .before .before .pre .1) (c .record-size .result) (c .record-size .ensures))
+mul-n c =
+    let at-shape-of = c .before .before .before .before in
+    let call = at-shape-of .before .before .before in
+    omega
+    (arith, short (shapeOf (call .args .u)) (call .args .cycles .now) (call .args .count) (call .pre .1) (at-shape-of .shape-of .result) (at-shape-of .shape-of .ensures) (c .record-size .result) (c .record-size .ensures))
 
 array-share-prefix-transfers : tie.Need-array-share-prefix-transfers
-array-share-prefix-transfers c = part-fits (shapeOf (c .before .before .before .before .before .before .args .u)) (c .before .before .before .before .before .before .args .capture .now) (c .before .before .before .before .before .before .args .count) (c .before .before .before .before .before .before .pre .1) (c .record-size .result) (c .record-size .ensures) zeros (length-replicate {A = ℕ} 65536 0) (c .before .before .harvest .last .1 .1 .0) (c .before .before .harvest .result) (c .before .before .harvest .ensures)
+array-share-prefix-transfers c =
+    let at-harvest = c .before .before in
+    let at-shape-of = at-harvest .before .before in
+    let call = at-shape-of .before .before .before in
+    part-fits (shapeOf (call .args .u)) (call .args .cycles .now) (call .args .count) (call .pre .1) (at-shape-of .shape-of .result)
+    (at-shape-of .shape-of .ensures) (c .record-size .result) (c .record-size .ensures) zeros (at-harvest .harvest .last .1 .1 .0)
+    (length-replicate {A = ℕ} 65536 0) (at-harvest .harvest .result) (at-harvest .harvest .ensures)
 
 slice-aggregate-of-transfers : tie.Need-slice-aggregate-of-transfers
-slice-aggregate-of-transfers c = part-long (shapeOf (c .before .before .before .before .before .before .before .args .u)) (c .before .before .before .before .before .before .before .args .capture .now) (c .before .before .before .before .before .before .before .args .count) (c .before .before .before .before .before .before .before .pre .1) (c .before .record-size .result) (c .before .record-size .ensures) zeros (length-replicate {A = ℕ} 65536 0) (c .before .before .before .harvest .last .1 .1 .0) (c .before .before .before .harvest .result) (c .before .before .before .harvest .ensures)
+slice-aggregate-of-transfers c =
+    let at-harvest = c .before .before .before in
+    let at-shape-of = at-harvest .before .before in
+    let call = at-shape-of .before .before .before in
+    part-long (shapeOf (call .args .u)) (call .args .cycles .now) (call .args .count) (call .pre .1) (at-shape-of .shape-of .result)
+    (at-shape-of .shape-of .ensures) (c .before .record-size .result) (c .before .record-size .ensures) zeros (at-harvest .harvest .last .1 .1 .0)
+    (length-replicate {A = ℕ} 65536 0) (at-harvest .harvest .result) (at-harvest .harvest .ensures)
 
 of-transfers-requires : tie.Need-of-transfers-requires
-of-transfers-requires c κs = (c .before .before .before .before .before .before .before .before .pre .0, part-whole (shapeOf (c .before .before .before .before .before .before .before .before .args .u)) (c .before .before .before .before .before .before .before .before .args .capture .now) (c .before .before .before .before .before .before .before .before .args .count) (c .before .before .before .before .before .before .before .before .pre .1) (c .before .before .record-size .result) (c .before .before .record-size .ensures) zeros (length-replicate {A = ℕ} 65536 0) (c .before .before .before .before .harvest .last .1 .1 .0) (c .before .before .before .before .harvest .result) (c .before .before .before .before .harvest .ensures))
+of-transfers-requires c κs =
+    let at-record-size = c .before .before in
+    let at-harvest = at-record-size .before .before in
+    let at-shape-of = at-harvest .before .before in
+    let call = at-shape-of .before .before .before in
+    (call .pre .0, part-passed (shapeOf (call .args .u)) (call .args .cycles .now) (call .args .count) (call .pre .1) (at-shape-of .shape-of .result) (at-shape-of .shape-of .ensures) (at-record-size .record-size .result) (at-record-size .record-size .ensures) zeros (at-harvest .harvest .last .1 .1 .0) (length-replicate {A = ℕ} 65536 0) (at-harvest .harvest .result) (at-harvest .harvest .ensures))
 
 same-length : tie.Need-same-length
 same-length c = search needs
 
 returns : tie.Need-returns
-returns c = subst (λ (ts : List ℕ). Came (convertedTransfers (c .before .before .before .before .before .before .before .before .before .before .before .args .u) ts (length (c .before .before .before .before .before .before .before .before .before .before .before .args .out .now)) (c .before .before .before .before .before .before .before .before .before .before .before .args .count)) (c .before .before .before .before .before .before .before .before .before .before .before .args .out .now) (c .before .before .of-transfers .last .1 .1 .1 .0) (c .before .before .of-transfers .result)) (part-is (shapeOf (c .before .before .before .before .before .before .before .before .before .before .before .args .u)) (c .before .before .before .before .before .before .before .before .before .before .before .args .capture .now) (c .before .before .before .before .before .before .before .before .before .before .before .args .count) (c .before .before .before .before .before .before .before .before .before .before .before .pre .1) (c .before .before .before .before .before .record-size .result) (c .before .before .before .before .before .record-size .ensures) zeros (length-replicate {A = ℕ} 65536 0) (c .before .before .before .before .before .before .before .harvest .last .1 .1 .0) (c .before .before .before .before .before .before .before .harvest .result) (c .before .before .before .before .before .before .before .harvest .ensures)) (c .before .before .of-transfers .ensures)
+returns c =
+    let at-of-transfers = c .before .before in
+    let at-record-size = at-of-transfers .before .before .before in
+    let at-harvest = at-record-size .before .before in
+    let at-shape-of = at-harvest .before .before in
+    let call = at-shape-of .before .before .before in
+    clean-came (call .args .u) (call .args .count)
+    (take (call .args .count * at-record-size .record-size .result) (at-harvest .harvest .last .1 .1 .0)) (call .args .cycles .now)
+    (call .args .out .now) (at-of-transfers .of-transfers .last .1 .1 .1 .0) (at-of-transfers .of-transfers .result)
+    (part-is (shapeOf (call .args .u)) (call .args .cycles .now) (call .args .count) (call .pre .1) (at-shape-of .shape-of .result) (at-shape-of .shape-of .ensures) (at-record-size .record-size .result) (at-record-size .record-size .ensures) zeros (at-harvest .harvest .last .1 .1 .0) (length-replicate {A = ℕ} 65536 0) (at-harvest .harvest .result) (at-harvest .harvest .ensures))
+    (at-of-transfers .of-transfers .ensures)
 
 pub of-clean-spec : {M : Type 1} → statement M
 of-clean-spec =
     tie.close
     (tie.spec
+    shape-of-requires
     slice-aggregate-harvest
     harvest-requires
     record-size-requires

@@ -1,10 +1,9 @@
 -- `report_call::outcome::of_setup` meets its contract: the sheet's numbers, then LENGTH, then the take. Assumes nothing.
-use mathlib.Core.Path.{sym, _∙_}
-use borrow.Author.Needs.{needs}
+use mathlib.Core.Bool.{true, false}
 use borrow.Author.Tests.{not-true, not-false}
-use Rattle.report_call.specs.Report.{contents}
-use Rattle.report_call.proofs.Passed.{fits-in}
-use Rattle.report_call.proofs.Steps.{passes, setup-refused, setup-unread, setup-ill, setup-read}
+use borrow.Author.Needs.{needs}
+use Rattle.report_spec.specs.Report.{contents}
+use Rattle.report_call.proofs.Steps.{setup-refused, passes, width-high, length-told, setup-unread, setup-ill, setup-read}
 use Rattle.report_call.proofs.outcome.of_setup.Statement.{statement}
 use Rattle.report_call.proofs.outcome.of_setup.Tie as tie
 
@@ -24,28 +23,74 @@ refuse-requires-2 : tie.Need-refuse-requires-2
 refuse-requires-2 c κs = search needs
 
 returns : tie.Need-returns
-returns c = setup-unread (c .before .before .before .before .before .before .before .args .u) (c .before .before .before .before .before .before .before .args .out .now) (c .before .before .before .before .check-setup .result) (c .before .before .before .before .check-setup .ensures) (c .before .before .enum-told .given .1) (c .before .before .before .before .before .before .before .args .capture-read) (c .before .before .before .before .before .before .before .args .capture .now) (not-true (c .before .before .before .before .before .before .before .args .capture-read) (c .before .if1 .taken)) (c .refuse2 .result) (c .refuse2 .ensures .0) (c .refuse2 .ensures .1)
+returns c =
+    let at-enum-told = c .before .before in
+    let at-check-setup = at-enum-told .before .before in
+    let call = at-check-setup .before .before .before in
+    setup-unread (call .args .u) (call .args .out .now) (at-check-setup .check-setup .result) (at-check-setup .check-setup .ensures)
+    (at-enum-told .enum-told .given .1) (call .args .capture-read) (call .args .capture .now)
+    (not-true (call .args .capture-read) (c .before .if1 .taken)) (c .refuse2 .result) (c .refuse2 .ensures .0) (c .refuse2 .ensures .1)
+
+shape-of-requires : tie.Need-shape-of-requires
+shape-of-requires c κs = search needs
 
 bad-length-requires : tie.Need-bad-length-requires
-bad-length-requires c κs = fits-in (c .before .before .before .before .before .before .args .u) (passes (c .before .before .before .before .before .before .args .u) (c .before .before .before .before .before .before .args .out .now) (c .before .before .before .check-setup .result) (c .before .before .before .check-setup .ensures) (c .before .enum-told .given .1)) .high
+bad-length-requires c κs =
+    let at-enum-told = c .before .before in
+    let at-check-setup = at-enum-told .before .before in
+    let call = at-check-setup .before .before .before in
+    width-high (call .args .u) (call .args .out .now) (at-check-setup .check-setup .result) (at-check-setup .check-setup .ensures)
+    (at-enum-told .enum-told .given .1) (c .shape-of .result) (c .shape-of .ensures)
 
 refuse-requires-3 : tie.Need-refuse-requires-3
 refuse-requires-3 c κs = search needs
 
 returns-2 : tie.Need-returns-2
-returns-2 c = setup-ill (c .before .before .before .before .before .before .before .before .before .args .u) (c .before .before .before .before .before .before .before .before .before .args .out .now) (c .before .before .before .before .before .before .check-setup .result) (c .before .before .before .before .before .before .check-setup .ensures) (c .before .before .before .before .enum-told .given .1) (c .before .before .before .before .before .before .before .before .before .args .capture-read) (c .before .before .before .before .before .before .before .before .before .args .capture .now) (not-false (c .before .before .before .before .before .before .before .before .before .args .capture-read) (c .before .before .before .if1 .left)) (sym (c .before .before .bad-length .ensures) ∙ c .before .if2 .taken) (c .refuse3 .result) (c .refuse3 .ensures .0) (c .refuse3 .ensures .1)
+returns-2 c =
+    let at-bad-length = c .before .before in
+    let at-shape-of = at-bad-length .before in
+    let at-if = at-shape-of .before in
+    let at-enum-told = at-if .before in
+    let at-check-setup = at-enum-told .before .before in
+    let call = at-check-setup .before .before .before in
+    setup-ill (call .args .u) (call .args .out .now) (at-check-setup .check-setup .result) (at-check-setup .check-setup .ensures)
+    (at-enum-told .enum-told .given .1) (call .args .capture-read) (call .args .capture .now)
+    (not-false (call .args .capture-read) (at-if .if1 .left))
+    (length-told (call .args .u) (call .args .out .now) (at-check-setup .check-setup .result) (at-check-setup .check-setup .ensures) (at-enum-told .enum-told .given .1) (at-shape-of .shape-of .result) (at-shape-of .shape-of .ensures) (call .args .capture .now) (at-bad-length .bad-length .result) true (at-bad-length .bad-length .ensures) (c .before .if2 .taken))
+    (c .refuse3 .result) (c .refuse3 .ensures .0) (c .refuse3 .ensures .1)
 
 of-capture-requires : tie.Need-of-capture-requires
-of-capture-requires c κs = (passes (c .before .before .before .before .before .before .before .before .before .args .u) (c .before .before .before .before .before .before .before .before .before .args .out .now) (c .before .before .before .before .before .before .check-setup .result) (c .before .before .before .before .before .before .check-setup .ensures) (c .before .before .before .before .enum-told .given .1), sym (c .before .before .bad-length .ensures) ∙ c .before .if2 .left)
+of-capture-requires c κs =
+    let at-bad-length = c .before .before in
+    let at-shape-of = at-bad-length .before in
+    let at-enum-told = at-shape-of .before .before in
+    let at-check-setup = at-enum-told .before .before in
+    let call = at-check-setup .before .before .before in
+    (passes (call .args .u) (call .args .out .now) (at-check-setup .check-setup .result) (at-check-setup .check-setup .ensures) (at-enum-told .enum-told .given .1), (length-told (call .args .u) (call .args .out .now) (at-check-setup .check-setup .result) (at-check-setup .check-setup .ensures) (at-enum-told .enum-told .given .1) (at-shape-of .shape-of .result) (at-shape-of .shape-of .ensures) (call .args .capture .now) (at-bad-length .bad-length .result) false (at-bad-length .bad-length .ensures) (c .before .if2 .left)))
 
 returns-3 : tie.Need-returns-3
-returns-3 c = setup-refused (c .before .before .before .before .before .before .before .args .u) (c .before .before .before .before .before .before .before .args .out .now) (c .before .before .before .before .check-setup .result) (c .before .before .before .before .check-setup .ensures) (c .before .before .checked .given .0 .0) (c .before .before .checked .given .1) (contents (c .before .before .before .before .before .before .before .args .capture-read) (c .before .before .before .before .before .before .before .args .capture .now)) (c .refuse .result) (c .refuse .ensures .0) (c .refuse .ensures .1)
+returns-3 c =
+    let at-checked = c .before .before in
+    let at-check-setup = at-checked .before .before in
+    let call = at-check-setup .before .before .before in
+    setup-refused (call .args .u) (call .args .out .now) (at-check-setup .check-setup .result) (at-check-setup .check-setup .ensures)
+    (at-checked .checked .given .0 .0) (at-checked .checked .given .1) (contents (call .args .capture-read) (call .args .capture .now))
+    (c .refuse .result) (c .refuse .ensures .0) (c .refuse .ensures .1)
 
 same-length : tie.Need-same-length
 same-length c = search needs
 
 returns-4 : tie.Need-returns-4
-returns-4 c = setup-read (c .before .before .before .before .before .before .before .before .before .before .before .before .args .u) (c .before .before .before .before .before .before .before .before .before .before .before .before .args .out .now) (c .before .before .before .before .before .before .before .before .before .check-setup .result) (c .before .before .before .before .before .before .before .before .before .check-setup .ensures) (c .before .before .before .before .before .before .before .enum-told .given .1) (c .before .before .before .before .before .before .before .before .before .before .before .before .args .capture-read) (c .before .before .before .before .before .before .before .before .before .before .before .before .args .capture .now) (not-false (c .before .before .before .before .before .before .before .before .before .before .before .before .args .capture-read) (c .before .before .before .before .before .before .if1 .left)) (c .before .before .of-capture .last .1 .1 .0) (c .before .before .of-capture .result) (c .before .before .of-capture .ensures)
+returns-4 c =
+    let at-of-capture = c .before .before in
+    let at-if = at-of-capture .before .before .before .before .before in
+    let at-enum-told = at-if .before in
+    let at-check-setup = at-enum-told .before .before in
+    let call = at-check-setup .before .before .before in
+    setup-read (call .args .u) (call .args .out .now) (at-check-setup .check-setup .result) (at-check-setup .check-setup .ensures)
+    (at-enum-told .enum-told .given .1) (call .args .capture-read) (call .args .capture .now)
+    (not-false (call .args .capture-read) (at-if .if1 .left)) (at-of-capture .of-capture .last .1 .1 .0) (at-of-capture .of-capture .result)
+    (at-of-capture .of-capture .ensures)
 
 pub of-setup-spec : {M : Type 1} → statement M
 of-setup-spec =
@@ -57,6 +102,7 @@ of-setup-spec =
     enum-told
     refuse-requires-2
     returns
+    shape-of-requires
     bad-length-requires
     refuse-requires-3
     returns-2

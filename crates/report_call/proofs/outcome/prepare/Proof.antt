@@ -2,7 +2,7 @@
 use mathlib.Core.Path.{sym, ap, _∙_}
 use borrow.Author.Needs.{needs}
 use Rattle.report_setup_spec.specs.declared.Tlast.{Tlast}
-use Rattle.report_call.specs.Report.{prepared}
+use Rattle.report_spec.specs.Report.{prepared}
 use Rattle.report_call.proofs.outcome.prepare.Statement.{statement}
 use Rattle.report_call.proofs.outcome.prepare.Tie as tie
 
@@ -22,7 +22,12 @@ same-length : tie.Need-same-length
 same-length c = search needs
 
 returns-2 : tie.Need-returns-2
-returns-2 c = c .before .before .fill-in .ensures .leaves ∙ sym (ap (λ (t : Tlast). prepared t (c .before .before .before .before .before .before .before .args .s) (c .before .before .before .before .before .before .before .args .capture .now)) (c .before .before .before .before .enum-told2 .given .1))
+returns-2 c =
+    let at-fill-in = c .before .before in
+    let at-enum-told = at-fill-in .before .before in
+    let call = at-enum-told .before .before .before in
+    at-fill-in .fill-in .ensures .leaves ∙ sym
+    (ap (λ (t : Tlast). prepared t (call .args .s) (call .args .capture .now)) (at-enum-told .enum-told2 .given .1))
 
 pub prepare-spec : {M : Type 1} → statement M
 prepare-spec =

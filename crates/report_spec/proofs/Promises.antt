@@ -12,7 +12,7 @@ use lib.Dec.{eqb, ltb}
 use lib.ListN.{length, replicate, length-replicate}
 use Rattle.refusal.specs.Code.{codeOf}
 use Rattle.refusal.specs.declared.Refusal.{Refusal}
-use Rattle.refusal.specs.declared.Refusal.the-variants.{Width, Length, Field, Reserved, Room, Ratio, Bus, Size, Kind, Count, Align, Boundary, Index, Unclean, Setup as BadSheet}
+use Rattle.refusal.specs.declared.Refusal.the-variants.{Length, Room, Setup as BadSheet}
 use Rattle.stream_spec.specs.declared.Shape.{Shape}
 use Rattle.stream_spec.specs.declared.Verdict.{Verdict as Judgement}
 use Rattle.stream_spec.specs.declared.Verdict.the-variants.{Clean as Sound, Broken as Breaks, Refused as NotJudged}
@@ -23,9 +23,11 @@ use Rattle.refusal.specs.Checks.{Check, first}
 use Rattle.stream_spec.specs.Checks.{ratioCheck, lengthCheck, cycleChecks, transferChecks, roomCheck}
 use Rattle.stream_spec.specs.Handshake.{Finding, firstFinding, transferCount, withLast, filledIn, baseLevel}
 use Rattle.stream_spec.specs.Answers.{verdict, written, lentAfter, judgeChecks, judgeAnswer, harvestRefusal, fillRefusal, fillAfter}
+use Rattle.stream_spec.specs.Memory.{inFront}
 use Rattle.stream_spec.specs.Legal.{Octets, Legal}
 use Rattle.refusal.proofs.First.{first-none, append-found, append-passed}
 use Rattle.stream_spec.proofs.Legal.{octets-append, octets-drop, EachOctets, pieces-octets}
+use Rattle.stream_spec.proofs.Passed.{fits-length}
 use Rattle.stream_spec.proofs.Records.{length-pieces, size-pos}
 use Rattle.stream_spec.proofs.Promises.{repackingKeeps, laneKeeping, harvestLegal, harvestRepacks, packedLegal}
 use Rattle.report_setup_spec.specs.declared.Setup.{Setup}
@@ -36,16 +38,15 @@ use Rattle.report_setup_spec.specs.declared.Tlast.the-variants.{Wired, Absent}
 use Rattle.report_setup_spec.specs.declared.Sheet.{Sheet}
 use Rattle.report_setup_spec.specs.declared.Sheet.the-variants.{Read, Refused as NoSheet}
 use Rattle.report_setup_spec.specs.Grammar.{sheetOf, text as ascii}
-use Rattle.report_call.specs.declared.Tally.{Tally}
-use Rattle.report_call.specs.declared.Verdict.the-variants.{Clean, Broken, Refused}
-use Rattle.report_call.specs.Report.{Outcome, shapeOf, prepared, cyclesOf, transfersOf, packetCount, convertAnswer, convertResult, tally, converted, convertedTransfers, judged, captureOutcome, ratioChecks, setupChecks, unless, setupOutcome, sheetOutcome, outcomeOf, Whole, whole, reportOf, front}
-use Rattle.report_call.specs.Promises.{OctetsOf, outShape, ReportsSetup, isClean, OnlyWhenClean, CleanTally, CleanTallies, shows, RefusalsShown, NeverReservedNorUnclean, PackNeverRatio, orderedChecks, resultOf, tallyOf, inOrder, ReportInOrder, TextShort}
-use Rattle.report_call.specs.Steps.{Passes}
-use Rattle.report_call.proofs.Passed.{sound-in, sound-out, sound-ratio, fits-out}
-use Rattle.report_call.proofs.Convert.{convertRefusal, convertCount, answer-is, result-long, result-fits, not-written, IsWritten, is-written}
-use Rattle.report_call.proofs.Sound.{harvested-count, short, accepted, long as sound-long}
-use Rattle.report_call.proofs.Ends.{same-ends}
-use Rattle.report_call.proofs.Told.{two-short, three-short}
+use Rattle.report_spec.specs.declared.Tally.{Tally}
+use Rattle.report_spec.specs.declared.Verdict.the-variants.{Clean, Broken, Refused}
+use Rattle.report_spec.specs.Report.{Outcome, shapeOf, outShape, prepared, cyclesOf, transfersOf, packetCount, convertAnswer, convertResult, tally, converted, convertedTransfers, afterJudging, captureOutcome, ratioChecks, setupChecks, Passes, unless, setupOutcome, sheetOutcome, outcomeOf, Whole, whole, reportOf}
+use Rattle.report_spec.specs.Promises.{OctetsOf, ReportsSetup, isClean, OnlyWhenClean, CleanTally, CleanTallies, mayShow, RefusalsShown, NeverReservedNorUnclean, PackNeverRatio, orderedChecks, convertedOf, tallyOf, inOrder, ReportInOrder, TextShort}
+use Rattle.report_spec.proofs.Passes.{sound-in, sound-out, sound-ratio, fits-out}
+use Rattle.report_spec.proofs.Convert.{convertRefusal, convertCount, answer-is, result-long, result-fits, not-written, IsWritten, is-written}
+use Rattle.report_spec.proofs.Clean.{harvested-count, clean-count, clean-passed, clean-harvested}
+use Rattle.report_spec.proofs.Ends.{same-ends}
+use Rattle.report_spec.proofs.Short.{two-short, three-short}
 
 pub reportsSetup : ReportsSetup
 unfolding reportOf
@@ -60,7 +61,7 @@ quiet-converted : (w : Written) (n p : ℕ) (result : List ℕ) → Quiet (conve
 quiet-converted (NotWritten r) n p result e = refl
 quiet-converted (Records m) n p result e = let z : _≡_ {A = ℕ} 0 1 = cc in absurd (omega arith)
 
-quiet-judged : (j : Judgement) (next : ℕ → Outcome) → ((n : ℕ) → Quiet (next n)) → Quiet (judged j next)
+quiet-judged : (j : Judgement) (next : ℕ → Outcome) → ((n : ℕ) → Quiet (next n)) → Quiet (afterJudging j next)
 quiet-judged (NotJudged r) next h e = refl
 quiet-judged (Breaks cycle rule) next h e = refl
 quiet-judged (Sound n) next h e = h n e
@@ -89,7 +90,7 @@ pub onlyWhenClean : OnlyWhenClean
 unfolding reportOf
 onlyWhenClean sheet capture room e =
     let no = quiet sheet capture room e in
-    record { nothing = no; kept = λ out. ap (λ (xs : List ℕ). front xs out) no }
+    record { nothing = no; kept = λ out. ap (λ (xs : List ℕ). inFront xs out) no }
 
 -- ---- octets stay octets when TLAST is filled in
 
@@ -116,13 +117,6 @@ prepared-octets Absent s xs h =
 
 -- ---- a clean take's transfers: converting them is refused for want of room, and for nothing else
 
-zeros : List ℕ
-zeros = replicate {A = ℕ} 65536 0
-
-zeros-long : length zeros ≡ 65536
-unfolding zeros
-zeros-long = length-replicate {A = ℕ} 65536 0
-
 module _ (u : Setup) (p : Passes u) (capture : List ℕ) (o : Octets capture) (n : ℕ) (clean : judgeAnswer (shapeOf u) (cyclesOf u capture) ≡ Sound n) where
   abbrev s : Shape
   s = shapeOf u
@@ -136,19 +130,22 @@ module _ (u : Setup) (p : Passes u) (capture : List ℕ) (o : Octets capture) (n
   octets-in : Octets (cyclesOf u capture)
   octets-in = prepared-octets (u .tlast) s capture o
 
-  taken : IsWritten (harvestRefusal s (cyclesOf u capture) (length zeros)) n (transferCount s (cyclesOf u capture))
-  taken = accepted s (cyclesOf u capture) n clean (size s) refl zeros zeros-long
+  -- in a room that is just long enough
+  taken : harvestRefusal s (cyclesOf u capture) (length ts) ≡ none
+  taken = clean-harvested s (cyclesOf u capture) n clean (length ts) (omega arith)
+
+  harvest : Legal s ts × (length ts ≤ length (cyclesOf u capture))
+  harvest = harvestLegal s (cyclesOf u capture) (length ts) octets-in taken
 
   legal : Legal s ts
-  legal = harvestLegal s (cyclesOf u capture) (length zeros) octets-in (taken .accepted) .0
+  legal = harvest .0
 
   transfers-are : n ≡ length (records s ts)
-  transfers-are = taken .count ∙ sym (harvested-count s (cyclesOf u capture))
+  transfers-are = clean-count s (cyclesOf u capture) n clean ∙ sym (harvested-count s (cyclesOf u capture))
 
   fits-take : lengthCheck s ts .found ≡ false
   fits-take =
-      let small : length ts ≤ 65536 = omega (arith, sound-long s (cyclesOf u capture) n clean (size s) refl zeros zeros-long, short s (cyclesOf u capture) n clean (size s) refl) in
-      rw (le-ltb 65536 (length ts) small, eq-eqb (length ts % size s) 0 (legal .whole)) refl
+      fits-length s ts (omega (arith, harvest .1, clean-passed s (cyclesOf u capture) n clean .short)) (legal .whole)
 
   width-out : (1 ≤ v) × (v ≤ 16)
   width-out = (fits-out u p .low, fits-out u p .high)
@@ -156,7 +153,7 @@ module _ (u : Setup) (p : Passes u) (capture : List ℕ) (o : Octets capture) (n
   -- in either mode
   only-room : (m : Mode) → first (ratioChecks m s v) ≡ none → (room : ℕ)
       → convertRefusal m s v ts room ≡ cond (ltb room (length (convertResult m s v ts))) (some Room) none
-  only-room Pack h room = harvestRepacks s (cyclesOf u capture) (length zeros) v room octets-in (taken .accepted) width-out
+  only-room Pack h room = harvestRepacks s (cyclesOf u capture) (length ts) v room octets-in taken width-out
   only-room Lanes h room =
       let ratio = first-none (ratioCheck s v) [] h .0 in
       rw (sound-in u p, sound-out u p, ratio, fits-take)
@@ -178,20 +175,20 @@ module _ (u : Setup) (p : Passes u) (capture : List ℕ) (o : Octets capture) (n
 
 abbrev AllShow : Mode → List (Check Refusal) → Type 0
 AllShow m [] = Unit {0}
-AllShow m (c ∷ cs) = (shows m (c .gives) ≡ true) × AllShow m cs
+AllShow m (c ∷ cs) = (mayShow m (codeOf (c .gives) .0) ≡ true) × AllShow m cs
 
-same-refusal : (m : Mode) (q r : Refusal) → Refused q ≡ Refused r → shows m q ≡ true → shows m r ≡ true
-same-refusal m q r e h = let same : q ≡ r = cc in subst (λ (x : Refusal). shows m x ≡ true) same h
+same-refusal : (m : Mode) (q r : Refusal) → Refused q ≡ Refused r → mayShow m (codeOf q .0) ≡ true → mayShow m (codeOf r .0) ≡ true
+same-refusal m q r e h = let same : q ≡ r = cc in subst (λ (x : Refusal). mayShow m (codeOf x .0) ≡ true) same h
 
-first-shows : (m : Mode) (cs : List (Check Refusal)) → AllShow m cs → (r : Refusal) → first cs ≡ some r → shows m r ≡ true
+first-shows : (m : Mode) (cs : List (Check Refusal)) → AllShow m cs → (r : Refusal) → first cs ≡ some r → mayShow m (codeOf r .0) ≡ true
 first-shows m [] h r e = let z : _≡_ {A = ℕ} 0 1 = cc in absurd (omega arith)
 first-shows m (c ∷ cs) h r e = go (c .found) refl (first-shows m cs (h .1) r)
   where
-    go : (b : Bool) → c .found ≡ b → (first cs ≡ some r → shows m r ≡ true) → shows m r ≡ true
+    go : (b : Bool) → c .found ≡ b → (first cs ≡ some r → mayShow m (codeOf r .0) ≡ true) → mayShow m (codeOf r .0) ≡ true
     go true k later =
         let found : some (c .gives) ≡ some r = rw k at e in
         let same : c .gives ≡ r = cc in
-        subst (λ (x : Refusal). shows m x ≡ true) same (h .0)
+        subst (λ (x : Refusal). mayShow m (codeOf x .0) ≡ true) same (h .0)
     go false k later = later (rw k at e)
 
 setup-shows : (u : Setup) → AllShow (u .mode) (setupChecks u)
@@ -210,21 +207,21 @@ not-judged (some q) f n r e = cc
 not-judged none (some f) n r e = let z : _≡_ {A = ℕ} 0 1 = cc in absurd (omega arith)
 not-judged none none n r e = let z : _≡_ {A = ℕ} 0 1 = cc in absurd (omega arith)
 
-judge-shows : (m : Mode) (s : Shape) (xs : List ℕ) (r : Refusal) → judgeAnswer s xs ≡ NotJudged r → shows m r ≡ true
+judge-shows : (m : Mode) (s : Shape) (xs : List ℕ) (r : Refusal) → judgeAnswer s xs ≡ NotJudged r → mayShow m (codeOf r .0) ≡ true
 unfolding judgeAnswer
 judge-shows m s xs r e =
     first-shows m (judgeChecks s xs) (refl, (refl, cycles-show m s 0 (records s xs))) r
     (not-judged (first (judgeChecks s xs)) (firstFinding s xs) (transferCount s xs) r e)
 
-room-shows : (m : Mode) (b : Bool) (r : Refusal) → cond b (some Room) none ≡ some r → shows m r ≡ true
-room-shows m true r e = let same : Room ≡ r = cc in subst (λ (x : Refusal). shows m x ≡ true) same refl
+room-shows : (m : Mode) (b : Bool) (r : Refusal) → cond b (some Room) none ≡ some r → mayShow m (codeOf r .0) ≡ true
+room-shows m true r e = let same : Room ≡ r = cc in subst (λ (x : Refusal). mayShow m (codeOf x .0) ≡ true) same refl
 room-shows m false r e = let z : _≡_ {A = ℕ} 0 1 = cc in absurd (omega arith)
 
 module _ (u : Setup) (p : Passes u) (capture : List ℕ) (o : Octets capture) (room : ℕ) (r : Refusal) where
   shown-converted : (n : ℕ) → judgeAnswer (shapeOf u) (cyclesOf u capture) ≡ Sound n
       → (w : Written) → convertAnswer (u .mode) (shapeOf u) (u .«width_out») (transfersOf u capture) room ≡ w
       → converted w n (packetCount (shapeOf u) (transfersOf u capture)) (convertResult (u .mode) (shapeOf u) (u .«width_out») (transfersOf u capture)) .verdict ≡ Refused r
-      → shows (u .mode) r ≡ true
+      → mayShow (u .mode) (codeOf r .0) ≡ true
   shown-converted n clean (Records m) e h = let z : _≡_ {A = ℕ} 0 1 = cc in absurd (omega arith)
   shown-converted n clean (NotWritten q) e h =
       let m = u .mode in
@@ -237,14 +234,14 @@ module _ (u : Setup) (p : Passes u) (capture : List ℕ) (o : Octets capture) (r
       (sym (only-room u p capture o n clean m (sound-ratio u p) room) ∙ found))
 
   shown-judged : (j : Judgement) → judgeAnswer (shapeOf u) (cyclesOf u capture) ≡ j
-      → judged j (convertedTransfers u (transfersOf u capture) room) .verdict ≡ Refused r → shows (u .mode) r ≡ true
+      → afterJudging j (convertedTransfers u (transfersOf u capture) room) .verdict ≡ Refused r → mayShow (u .mode) (codeOf r .0) ≡ true
   shown-judged (NotJudged q) e h = same-refusal (u .mode) q r h (judge-shows (u .mode) (shapeOf u) (cyclesOf u capture) q e)
   shown-judged (Breaks cycle rule) e h = let z : _≡_ {A = ℕ} 0 1 = cc in absurd (omega arith)
   shown-judged (Sound n) e h =
       shown-converted n e (convertAnswer (u .mode) (shapeOf u) (u .«width_out») (transfersOf u capture) room) refl h
 
 shown-capture : (u : Setup) → Passes u → (capture : Option (List ℕ)) (room : ℕ) (r : Refusal) → OctetsOf capture
-    → captureOutcome u capture room .verdict ≡ Refused r → shows (u .mode) r ≡ true
+    → captureOutcome u capture room .verdict ≡ Refused r → mayShow (u .mode) (codeOf r .0) ≡ true
 shown-capture u p none room r o e = same-refusal (u .mode) Length r e refl
 shown-capture u p (some capture) room r o e =
     shown-judged u p capture o room r (judgeAnswer (shapeOf u) (cyclesOf u capture)) refl e
@@ -252,7 +249,7 @@ shown-capture u p (some capture) room r o e =
 pub refusalsShown : RefusalsShown
 refusalsShown u capture room r o e = go (first (setupChecks u)) refl e
   where
-    go : (f : Option Refusal) → first (setupChecks u) ≡ f → unless f (captureOutcome u capture room) .verdict ≡ Refused r → shows (u .mode) r ≡ true
+    go : (f : Option Refusal) → first (setupChecks u) ≡ f → unless f (captureOutcome u capture room) .verdict ≡ Refused r → mayShow (u .mode) (codeOf r .0) ≡ true
     go none k h = shown-capture u k capture room r o h
     go (some q) k h = same-refusal (u .mode) q r h (first-shows (u .mode) (setupChecks u) (setup-shows u) q k)
 
@@ -261,23 +258,17 @@ refusalsShown u capture room r o e = go (first (setupChecks u)) refl e
 pub no : false ≡ true → ⊥
 no e = let z : _≡_ {A = ℕ} 0 1 = cc in absurd (omega arith)
 
-codes : (m : Mode) (r : Refusal) → shows m r ≡ true → (codeOf r .0 ≢ 4) × (codeOf r .0 ≢ 14) × (m ≡ Pack → codeOf r .0 ≢ 6)
-codes m Width h = (eqb-false 1 4 refl, eqb-false 1 14 refl, λ e. eqb-false 1 6 refl)
-codes m Length h = (eqb-false 2 4 refl, eqb-false 2 14 refl, λ e. eqb-false 2 6 refl)
-codes m (Field k) h = (eqb-false 3 4 refl, eqb-false 3 14 refl, λ e. eqb-false 3 6 refl)
-codes m (Reserved k) h = absurd (no h)
-codes m Room h = (eqb-false 5 4 refl, eqb-false 5 14 refl, λ e. eqb-false 5 6 refl)
-codes Pack Ratio h = absurd (no h)
-codes Lanes Ratio h = (eqb-false 6 4 refl, eqb-false 6 14 refl, λ e. let z : _≡_ {A = ℕ} 0 1 = cc in absurd (omega arith))
-codes m Bus h = absurd (no h)
-codes m Size h = absurd (no h)
-codes m Kind h = absurd (no h)
-codes m Count h = absurd (no h)
-codes m Align h = absurd (no h)
-codes m Boundary h = absurd (no h)
-codes m Index h = absurd (no h)
-codes m (Unclean k n) h = absurd (no h)
-codes m BadSheet h = absurd (no h)
+-- a number that may show is none of those that may not
+hidden : (m : Mode) (n k : ℕ) → mayShow m k ≡ false → mayShow m n ≡ true → n ≢ k
+hidden m n k h e same = no (sym h ∙ ap (mayShow m) (sym same) ∙ e)
+
+never-4 : (m : Mode) → mayShow m 4 ≡ false
+never-4 Pack = refl
+never-4 Lanes = refl
+
+never-14 : (m : Mode) → mayShow m 14 ≡ false
+never-14 Pack = refl
+never-14 Lanes = refl
 
 bad-sheet : (r : Refusal) → Refused BadSheet ≡ Refused r → (codeOf r .0 ≢ 4) × (codeOf r .0 ≢ 14)
 bad-sheet r e =
@@ -287,7 +278,9 @@ bad-sheet r e =
 never : (s : Sheet) (capture : Option (List ℕ)) (room : ℕ) (r : Refusal) → OctetsOf capture → sheetOutcome s capture room .verdict ≡ Refused r
     → (codeOf r .0 ≢ 4) × (codeOf r .0 ≢ 14)
 never NoSheet capture room r o e = bad-sheet r e
-never (Read u) capture room r o e = let c = codes (u .mode) r (refusalsShown u capture room r o e) in (c .0, c .1)
+never (Read u) capture room r o e =
+    let shown = refusalsShown u capture room r o e in
+    (hidden (u .mode) (codeOf r .0) 4 (never-4 (u .mode)) shown, hidden (u .mode) (codeOf r .0) 14 (never-14 (u .mode)) shown)
 
 pub neverReservedNorUnclean : NeverReservedNorUnclean
 unfolding reportOf
@@ -297,7 +290,7 @@ neverReservedNorUnclean (some sheet) capture room r o e = never (sheetOf sheet) 
 pub packNeverRatio : PackNeverRatio
 packNeverRatio sheet u e m capture room r o h =
     let shown = refusalsShown u capture room r o (sym (ap (λ (w : Whole). w .verdict) (reportsSetup sheet u e capture room)) ∙ h) in
-    codes (u .mode) r shown .2 m
+    hidden (u .mode) (codeOf r .0) 6 (ap (λ (k : Mode). mayShow k 6) m) shown
 
 -- ---- a clean verdict
 
@@ -320,7 +313,7 @@ module _ (u : Setup) (capture : List ℕ) (room : ℕ) (t : Tally) (p : Passes u
       record { passes = p; count = n; clean = clean; number = m; wrote = e; is = cc }
 
   reached-judged : (j : Judgement) → judgeAnswer (shapeOf u) (cyclesOf u capture) ≡ j
-      → judged j (convertedTransfers u (transfersOf u capture) room) .verdict ≡ Clean t → Reached u capture room t
+      → afterJudging j (convertedTransfers u (transfersOf u capture) room) .verdict ≡ Clean t → Reached u capture room t
   reached-judged (NotJudged q) e h = let z : _≡_ {A = ℕ} 0 1 = cc in absurd (omega arith)
   reached-judged (Breaks cycle rule) e h = let z : _≡_ {A = ℕ} 0 1 = cc in absurd (omega arith)
   reached-judged (Sound n) e h =
@@ -340,7 +333,7 @@ module _ (u : Setup) (capture : List ℕ) (room : ℕ) (t : Tally) (r : Reached 
   result-is : setupOutcome u (some capture) room .result ≡ result
   result-is =
       ap (λ (f : Option Refusal). unless f (captureOutcome u (some capture) room) .result) (r .passes)
-      ∙ ap (λ (j : Judgement). judged j (convertedTransfers u (transfersOf u capture) room) .result) (r .clean)
+      ∙ ap (λ (j : Judgement). afterJudging j (convertedTransfers u (transfersOf u capture) room) .result) (r .clean)
       ∙ ap (λ (w : Written). converted w (r .count) (packetCount (shapeOf u) (transfersOf u capture)) result .result) (r .wrote)
 
   wrote-is : IsWritten (convertRefusal (u .mode) (shapeOf u) (u .«width_out») (transfersOf u capture) room) (r .number)
@@ -388,7 +381,7 @@ cleanTallies u capture room t o e =
 
 -- what judging leaves to be seen
 settles : (l : Option Refusal) (f : Option Finding) (n : ℕ) (next : ℕ → Outcome) (o : Option Refusal) (t : Tally)
-    → (l ≡ none → f ≡ none → next n .verdict ≡ inOrder none none o t) → judged (verdict l f n) next .verdict ≡ inOrder l f o t
+    → (l ≡ none → f ≡ none → next n .verdict ≡ inOrder none none o t) → afterJudging (verdict l f n) next .verdict ≡ inOrder l f o t
 settles (some r) f n next o t h = refl
 settles none (some f) n next o t h = refl
 settles none none n next o t h = h refl refl
@@ -410,7 +403,7 @@ module _ (u : Setup) (capture : List ℕ) (o : Octets capture) (room : ℕ) wher
   cycles = cyclesOf u capture
 
   abbrev roomy : Option Refusal
-  roomy = first (roomCheck (resultOf u capture) room ∷ [])
+  roomy = first (roomCheck (convertedOf u capture) room ∷ [])
 
   abbrev left : List (Check Refusal)
   left = lengthCheck (shapeOf u) cycles ∷ cycleChecks (shapeOf u) 0 (records (shapeOf u) cycles)
@@ -420,20 +413,20 @@ module _ (u : Setup) (capture : List ℕ) (o : Octets capture) (room : ℕ) wher
   judge-is p = rw (sound-in u p) refl
 
   room-last : Passes u → (n : ℕ) → judgeAnswer (shapeOf u) cycles ≡ Sound n
-      → convertedTransfers u (transfersOf u capture) room n .verdict ≡ inOrder none none roomy (tally n (packetCount (shapeOf u) (transfersOf u capture)) (length (records (outShape u) (resultOf u capture))))
+      → convertedTransfers u (transfersOf u capture) room n .verdict ≡ inOrder none none roomy (tally n (packetCount (shapeOf u) (transfersOf u capture)) (length (records (outShape u) (convertedOf u capture))))
   room-last p n clean =
       let ts = transfersOf u capture in
-      ap (λ (w : Written). converted w n (packetCount (shapeOf u) ts) (resultOf u capture) .verdict)
+      ap (λ (w : Written). converted w n (packetCount (shapeOf u) ts) (convertedOf u capture) .verdict)
       (answer-is (u .mode) (shapeOf u) (u .«width_out») ts room
       ∙ ap (λ (x : Option Refusal). written x (convertCount (u .mode) (shapeOf u) (u .«width_out») ts)) (only-room u p capture o n clean (u .mode) (sound-ratio u p) room))
-      ∙ ends-in roomy n (packetCount (shapeOf u) ts) (convertCount (u .mode) (shapeOf u) (u .«width_out») ts) (length (records (outShape u) (resultOf u capture)))
-      (resultOf u capture) (result-count (u .mode) (shapeOf u) (u .«width_out») ts)
+      ∙ ends-in roomy n (packetCount (shapeOf u) ts) (convertCount (u .mode) (shapeOf u) (u .«width_out») ts) (length (records (outShape u) (convertedOf u capture)))
+      (convertedOf u capture) (result-count (u .mode) (shapeOf u) (u .«width_out») ts)
 
   in-order : (f : Option Refusal) → first (setupChecks u) ≡ f
       → unless f (captureOutcome u (some capture) room) .verdict ≡ inOrder (first (orderedChecks u cycles)) (firstFinding (shapeOf u) cycles) roomy (tallyOf u capture)
   in-order (some r) k = ap (λ (x : Option Refusal). inOrder x (firstFinding (shapeOf u) cycles) roomy (tallyOf u capture)) (sym (append-found (setupChecks u) left r k))
   in-order none k =
-      ap (λ (j : Judgement). judged j (convertedTransfers u (transfersOf u capture) room) .verdict) (judge-is k)
+      ap (λ (j : Judgement). afterJudging j (convertedTransfers u (transfersOf u capture) room) .verdict) (judge-is k)
       ∙ settles (first left) (firstFinding (shapeOf u) cycles) (transferCount (shapeOf u) cycles) (convertedTransfers u (transfersOf u capture) room) roomy (tallyOf u capture)
       (λ a b. room-last k (transferCount (shapeOf u) cycles)
       (judge-is k ∙ ap (λ (x : Option Refusal). verdict x (firstFinding (shapeOf u) cycles) (transferCount (shapeOf u) cycles)) a

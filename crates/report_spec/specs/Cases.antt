@@ -6,7 +6,7 @@ use mathlib.Core.Option.{Option, none, some}
 use Prim.Native.Nat.{ℕ}
 use Prim.Native.String.{String}
 use Rattle.report_setup_spec.specs.Grammar.{text as ascii}
-use Rattle.report_call.specs.Report.{Word, saysClean, saysBroken, saysRefused, Values, verdictValues, Whole, reportOf}
+use Rattle.report_spec.specs.Report.{Word, saysClean, saysBroken, saysRefused, Values, verdictValues, Whole, reportOf}
 
 -- what a technician sees: the text that is printed, and the octets of `out.bin`; and the verdict's numbers
 pub record Seen : Type 0 where
@@ -38,7 +38,7 @@ tells sheet capture room numbers text result =
 -- the word, and the numbers in this order
 abbrev shows : Word → ℕ → ℕ → ℕ → ℕ → ℕ → ℕ → Values
 shows word refusal place rule transfers packets written =
-    record { word = word; refusal = refusal; place = place; rule = rule; transfers = transfers; packets = packets; records = written }
+    record { refusal = refusal; place = place; rule = rule; word = word; transfers = transfers; packets = packets; records = written }
 
 abbrev pub says : String → Option (List ℕ)
 says sheet = some (ascii sheet)

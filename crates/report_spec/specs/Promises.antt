@@ -1,38 +1,34 @@
 -- What is proved of the report, a statement each. Words in quotes are paper 01's. The proofs are in proofs/Promises.
 use mathlib.Core.Path.{_≡_}
-use mathlib.Core.Bool.{Bool, true, false}
+use mathlib.Core.Bool.{Bool, true, false, _||_}
 use mathlib.Core.List.{List, [], _∷_, _++_}
 use mathlib.Core.Logic.{_≢_}
 use mathlib.Core.Option.{Option, none, some}
 use Prim.Native.Nat.{ℕ, _*_, _^_, _≤_, _<_}
+use lib.Dec.{eqb}
 use lib.ListN.{length}
 use Rattle.refusal.specs.Code.{codeOf}
 use Rattle.refusal.specs.declared.Refusal.{Refusal}
-use Rattle.refusal.specs.declared.Refusal.the-variants.{Width, Length, Field, Reserved, Room, Ratio, Bus, Size, Kind, Count, Align, Boundary, Index, Unclean, Setup as BadSheet}
-use Rattle.stream_spec.specs.declared.Shape.{Shape}
 use Rattle.stream_spec.specs.Layout.{size, records, streamItems}
 use Rattle.refusal.specs.Checks.{Check, first}
 use Rattle.stream_spec.specs.Checks.{lengthCheck, cycleChecks, roomCheck}
 use Rattle.stream_spec.specs.Handshake.{Finding, firstFinding, transferCount}
+use Rattle.stream_spec.specs.Memory.{inFront}
 use Rattle.stream_spec.specs.Legal.{Octets, Legal}
 use Rattle.report_setup_spec.specs.declared.Setup.{Setup}
 use Rattle.report_setup_spec.specs.declared.Mode.{Mode}
 use Rattle.report_setup_spec.specs.declared.Mode.the-variants.{Pack, Lanes}
 use Rattle.report_setup_spec.specs.declared.Sheet.the-variants.{Read}
 use Rattle.report_setup_spec.specs.Grammar.{sheetOf}
-use Rattle.report_call.specs.declared.Tally.{Tally}
-use Rattle.report_call.specs.declared.Verdict.{Verdict}
-use Rattle.report_call.specs.declared.Verdict.the-variants.{Clean, Broken, Refused}
-use Rattle.report_call.specs.Report.{Word, saysClean, saysBroken, saysRefused, verdictValues, shapeOf, cyclesOf, transfersOf, packetCount, convertResult, tally, setupChecks, setupOutcome, textOf, whole, reportOf, front}
+use Rattle.report_spec.specs.declared.Tally.{Tally}
+use Rattle.report_spec.specs.declared.Verdict.{Verdict}
+use Rattle.report_spec.specs.declared.Verdict.the-variants.{Clean, Broken, Refused}
+use Rattle.report_spec.specs.Report.{Word, saysClean, saysBroken, saysRefused, verdictValues, shapeOf, outShape, cyclesOf, transfersOf, packetCount, convertResult, tally, setupChecks, setupOutcome, textOf, whole, reportOf}
 
 -- every number of a take that could be read is an octet
 abbrev pub OctetsOf : Option (List ℕ) → Type 0
 OctetsOf none = Unit {0}
 OctetsOf (some octets) = Octets octets
-
--- the records of the result
-abbrev pub outShape : Setup → Shape
-outShape u = record { width = u .«width_out» }
 
 -- what is reported of a sheet that was read
 abbrev pub ReportsSetup : Type 0
@@ -53,7 +49,7 @@ isClean v = cleanWord (verdictValues v .word)
 -- unless the verdict is clean there is no result, and lent memory keeps its content
 pub record WritesNothing (result : List ℕ) : Type 0 where
   pub nothing : result ≡ []
-  pub kept : (out : List ℕ) → front result out ≡ out
+  pub kept : (out : List ℕ) → inFront result out ≡ out
 
 abbrev pub OnlyWhenClean : Type 0
 OnlyWhenClean =
@@ -79,31 +75,27 @@ CleanTallies =
     (u : Setup) (capture : List ℕ) (room : ℕ) (t : Tally) → Octets capture → setupOutcome u (some capture) room .verdict ≡ Clean t
     → CleanTally u capture room (setupOutcome u (some capture) room .result) t
 
--- ---- which refusals show once the sheet is read: 1, 2, 3, 5, and 6 in lanes mode. So 4 and 14 never do: a reserved lane is
--- R4, and a broken take is a verdict of its own.
+-- ---- which refusals show once the sheet is read, by their numbers: 1, 2, 3, 5, and 6 in lanes mode. So 4 and 14 never do: a
+-- reserved lane is R4, and a broken take is a verdict of its own.
 
-abbrev pub shows : Mode → Refusal → Bool
-shows m Width = true
-shows m Length = true
-shows m (Field k) = true
-shows m (Reserved k) = false
-shows m Room = true
-shows Pack Ratio = false
-shows Lanes Ratio = true
-shows m Bus = false
-shows m Size = false
-shows m Kind = false
-shows m Count = false
-shows m Align = false
-shows m Boundary = false
-shows m Index = false
-shows m (Unclean cycle rule) = false
-shows m BadSheet = false
+abbrev pub ratioNumber : Mode → List ℕ
+ratioNumber Pack = []
+ratioNumber Lanes = 6 ∷ []
+
+abbrev pub shown : Mode → List ℕ
+shown m = 1 ∷ 2 ∷ 3 ∷ 5 ∷ ratioNumber m
+
+abbrev pub listed : ℕ → List ℕ → Bool
+listed n [] = false
+listed n (k ∷ ks) = eqb n k || listed n ks
+
+abbrev pub mayShow : Mode → ℕ → Bool
+mayShow m number = listed number (shown m)
 
 abbrev pub RefusalsShown : Type 0
 RefusalsShown =
     (u : Setup) (capture : Option (List ℕ)) (room : ℕ) (r : Refusal) → OctetsOf capture
-    → setupOutcome u capture room .verdict ≡ Refused r → shows (u .mode) r ≡ true
+    → setupOutcome u capture room .verdict ≡ Refused r → mayShow (u .mode) (codeOf r .0) ≡ true
 
 abbrev pub NeverReservedNorUnclean : Type 0
 NeverReservedNorUnclean =
@@ -121,14 +113,14 @@ PackNeverRatio =
 abbrev pub orderedChecks : Setup → List ℕ → List (Check Refusal)
 orderedChecks u cycles = setupChecks u ++ lengthCheck (shapeOf u) cycles ∷ cycleChecks (shapeOf u) 0 (records (shapeOf u) cycles)
 
-abbrev pub resultOf : Setup → List ℕ → List ℕ
-resultOf u capture = convertResult (u .mode) (shapeOf u) (u .«width_out») (transfersOf u capture)
+abbrev pub convertedOf : Setup → List ℕ → List ℕ
+convertedOf u capture = convertResult (u .mode) (shapeOf u) (u .«width_out») (transfersOf u capture)
 
 -- the numbers of a clean verdict
 abbrev pub tallyOf : Setup → List ℕ → Tally
 tallyOf u capture =
     tally (transferCount (shapeOf u) (cyclesOf u capture)) (packetCount (shapeOf u) (transfersOf u capture))
-    (length (records (outShape u) (resultOf u capture)))
+    (length (records (outShape u) (convertedOf u capture)))
 
 abbrev pub inOrder : Option Refusal → Option Finding → Option Refusal → Tally → Verdict
 inOrder (some r) finding room t = Refused r
@@ -141,7 +133,7 @@ ReportInOrder =
     (u : Setup) (capture : List ℕ) (room : ℕ) → Octets capture
     → setupOutcome u (some capture) room .verdict
     ≡ inOrder (first (orderedChecks u (cyclesOf u capture))) (firstFinding (shapeOf u) (cyclesOf u capture))
-    (first (roomCheck (resultOf u capture) room ∷ [])) (tallyOf u capture)
+    (first (roomCheck (convertedOf u capture) room ∷ [])) (tallyOf u capture)
 
 -- ---- a text with numbers of 64 bits has at most 103 octets
 

@@ -1,13 +1,13 @@
 -- The report (paper 01, 'The report program'): from a setup sheet and a take of cycle records to a verdict, the text that is
--- printed and the octets of the result. Words in quotes are 01's. What a sheet says is setup's `sheetOf`; what judging,
--- harvesting, fill-in, repacking and downsizing answer is stream's.
+-- printed and the octets of the result. Words in quotes are 01's. What a sheet says is report_setup_spec's `sheetOf`; what
+-- judging, harvesting, fill-in, repacking and downsizing answer is stream_spec's.
 use mathlib.Core.Path.{_≡_}
 use mathlib.Core.Bool.{Bool, true, false, cond}
 use mathlib.Core.List.{List, [], _∷_, _++_}
 use mathlib.Core.Option.{Option, none, some}
-use Prim.Native.Nat.{ℕ, _+_}
+use Prim.Native.Nat.{ℕ, _+_, _≤_}
 use lib.Dec.{ltb}
-use lib.ListN.{length, drop}
+use lib.ListN.{length}
 use Rattle.refusal.specs.Code.{codeOf}
 use Rattle.refusal.specs.declared.Refusal.{Refusal}
 use Rattle.refusal.specs.declared.Refusal.the-variants.{Length, Setup as BadSheet}
@@ -16,9 +16,10 @@ use Rattle.stream_spec.specs.declared.Verdict.{Verdict as Judgement}
 use Rattle.stream_spec.specs.declared.Verdict.the-variants.{Clean as Sound, Broken as Breaks, Refused as NotJudged}
 use Rattle.stream_spec.specs.declared.Written.{Written}
 use Rattle.stream_spec.specs.declared.Written.the-variants.{Records, Refused as NotWritten}
-use Rattle.stream_spec.specs.Layout.{bitOf, tlast, records, packed, sliced}
+use Rattle.stream_spec.specs.Layout.{ofWidth, atWidth, bitOf, tlast, records, packed, sliced}
 use Rattle.refusal.specs.Checks.{Check, first}
 use Rattle.stream_spec.specs.Checks.{shapeChecks, ratioCheck}
+use Rattle.stream_spec.specs.Memory.{inFront}
 use Rattle.stream_spec.specs.Handshake.{harvested}
 use Rattle.stream_spec.specs.Answers.{judgeAnswer, fillInAfter, repackAnswer, downsizeAnswer}
 use Rattle.report_setup_spec.specs.declared.Setup.{Setup}
@@ -30,10 +31,10 @@ use Rattle.report_setup_spec.specs.declared.Sheet.{Sheet}
 use Rattle.report_setup_spec.specs.declared.Sheet.the-variants.{Read, Refused as NoSheet}
 use Rattle.report_setup_spec.specs.Grammar.{sheetOf, text as ascii}
 use Rattle.text.specs.Text.{line}
-use Rattle.report_call.specs.declared.Tally.{Tally}
-use Rattle.report_call.specs.declared.Verdict.{Verdict}
-use Rattle.report_call.specs.declared.Verdict.the-variants.{Clean, Broken, Refused}
-use Rattle.report_call.specs.declared.Summary.{Summary}
+use Rattle.report_spec.specs.declared.Tally.{Tally}
+use Rattle.report_spec.specs.declared.Verdict.{Verdict}
+use Rattle.report_spec.specs.declared.Verdict.the-variants.{Clean, Broken, Refused}
+use Rattle.report_spec.specs.declared.Summary.{Summary}
 
 -- What is known of a file: its octets, or nothing where it could not be read whole.
 abbrev pub contents : Bool → List ℕ → Option (List ℕ)
@@ -50,8 +51,12 @@ pub record Outcome : Type 0 where
 abbrev pub refused : Refusal → Outcome
 refused r = record { verdict = Refused r; result = [] }
 
+-- the records of the take, and those of the result
 abbrev pub shapeOf : Setup → Shape
-shapeOf u = record { width = u .«width_in» }
+shapeOf u = ofWidth (u .«width_in»)
+
+abbrev pub outShape : Setup → Shape
+outShape u = atWidth (shapeOf u) (u .«width_out»)
 
 -- "`tlast=wired` or `tlast=none` (fill-in first)"
 abbrev pub prepared : Tlast → Shape → List ℕ → List ℕ
@@ -96,16 +101,16 @@ convertedTransfers u transfers room count =
     (convertResult (u .mode) (shapeOf u) (u .«width_out») transfers)
 
 -- ".. LENGTH, FIELD, a broken verdict ..": what judging answers, and for a clean take what follows
-abbrev pub judged : Judgement → (ℕ → Outcome) → Outcome
-judged (NotJudged r) next = refused r
-judged (Breaks cycle rule) next = record { verdict = Broken cycle rule; result = [] }
-judged (Sound count) next = next count
+abbrev pub afterJudging : Judgement → (ℕ → Outcome) → Outcome
+afterJudging (NotJudged r) next = refused r
+afterJudging (Breaks cycle rule) next = record { verdict = Broken cycle rule; result = [] }
+afterJudging (Sound count) next = next count
 
 -- "A `take.bin` that can't be read counts as over-long."
 abbrev pub captureOutcome : Setup → Option (List ℕ) → ℕ → Outcome
 captureOutcome u none room = refused Length
 captureOutcome u (some capture) room =
-    judged (judgeAnswer (shapeOf u) (cyclesOf u capture)) (convertedTransfers u (transfersOf u capture) room)
+    afterJudging (judgeAnswer (shapeOf u) (cyclesOf u capture)) (convertedTransfers u (transfersOf u capture) room)
 
 -- ".. then WIDTH of either width, RATIO in lanes mode .."
 abbrev pub ratioChecks : Mode → Shape → ℕ → List (Check Refusal)
@@ -114,6 +119,10 @@ ratioChecks Lanes s v = ratioCheck s v ∷ []
 
 abbrev pub setupChecks : Setup → List (Check Refusal)
 setupChecks u = shapeChecks (shapeOf u) (u .«width_out» ∷ []) ++ ratioChecks (u .mode) (shapeOf u) (u .«width_out»)
+
+-- the sheet's widths and its ratio pass their tests
+abbrev pub Passes : Setup → Type 0
+Passes u = first (setupChecks u) ≡ none
 
 abbrev pub unless : Option Refusal → Outcome → Outcome
 unless (some r) next = refused r
@@ -143,21 +152,21 @@ pub data Word : Type 0 where
 -- 01's numbers for each verdict, the one list that its text, its contract and C's answer are read from: the refusal's
 -- number, its place (or the broken cycle), the rule, and the counts of a clean take. What a verdict does not have is 0.
 pub record Values : Type 0 where
-  pub word : Word
   pub refusal : ℕ
   pub place : ℕ
   pub rule : ℕ
+  pub word : Word
   pub transfers : ℕ
   pub packets : ℕ
   pub records : ℕ
 
 abbrev pub verdictValues : Verdict → Values
 verdictValues (Clean t) =
-    record { word = saysClean; refusal = 0; place = 0; rule = 0; transfers = t .transfers; packets = t .packets; records = t .records }
+    record { refusal = 0; place = 0; rule = 0; word = saysClean; transfers = t .transfers; packets = t .packets; records = t .records }
 verdictValues (Broken cycle rule) =
-    record { word = saysBroken; refusal = 0; place = cycle; rule = rule; transfers = 0; packets = 0; records = 0 }
+    record { refusal = 0; place = cycle; rule = rule; word = saysBroken; transfers = 0; packets = 0; records = 0 }
 verdictValues (Refused r) =
-    record { word = saysRefused; refusal = codeOf r .0; place = codeOf r .1; rule = 0; transfers = 0; packets = 0; records = 0 }
+    record { refusal = codeOf r .0; place = codeOf r .1; rule = 0; word = saysRefused; transfers = 0; packets = 0; records = 0 }
 
 -- "It prints key=value lines: for clean the four below; for broken `verdict`, `cycle`, `rule`; for refused `verdict`,
 -- `refusal`, `at`."
@@ -195,20 +204,26 @@ reportOf sheet capture room = whole (outcomeOf sheet capture room)
 
 -- ---- lent memory
 
--- octets at the front of lent memory, and the rest as before
-abbrev pub front : List ℕ → List ℕ → List ℕ
-front octets lent = octets ++ drop (length octets) lent
-
 -- a text that does not fit is not written, and no octet of it is counted
 abbrev pub fitting : List ℕ → List ℕ → List ℕ
 fitting told lent = cond (ltb (length lent) (length told)) [] told
 
--- ---- the contract of the report: its answer, with 01's numbers for it, the text and the result at the front of lent
--- memory, and how long they are
+-- no text is longer, whatever its numbers: the program's buffer for it has this length
+abbrev pub textMost : ℕ
+textMost = 128
+
+-- ---- the contract of the report: its answer, with 01's numbers for it; the text and the result at the front of lent memory,
+-- how long they are, and that a buffer of `textMost` octets holds the text
 pub record Reported (w : Whole) (out out' text text' : List ℕ) (r : Summary) : Type 0 where
   pub is : r .verdict ≡ w .verdict
-  pub says : verdictValues (r .verdict) ≡ verdictValues (w .verdict)
-  pub told : text' ≡ front (fitting (w .text) text) text
-  pub toldLong : r .text ≡ length (fitting (w .text) text)
-  pub leaves : out' ≡ front (w .result) out
-  pub long : r .octets ≡ length (w .result)
+  pub shows : verdictValues (r .verdict) ≡ verdictValues (w .verdict)
+  pub tells : text' ≡ inFront (fitting (w .text) text) text
+  pub textLength : r .text ≡ length (fitting (w .text) text)
+  pub leaves : out' ≡ inFront (w .result) out
+  pub resultLength : r .octets ≡ length (w .result)
+  pub short : length (w .text) ≤ textMost
+
+-- the same, on what the call is handed: octets, and whether they are the whole file
+abbrev pub ReportedOn : Bool → List ℕ → Bool → List ℕ → List ℕ → List ℕ → List ℕ → List ℕ → Summary → Type 0
+ReportedOn sheetRead sheet captureRead capture out out' text text' r =
+    Reported (reportOf (contents sheetRead sheet) (contents captureRead capture) (length out)) out out' text text' r

@@ -9,13 +9,15 @@ use mathlib.Core.Option.{Option, none, some}
 use Prim.Native.Nat.{ℕ, _≤_}
 use native.Mathlib.Omega.{arith}
 use lib.ListN.{length}
+use Rattle.refusal.specs.Code.{codeOf}
 use Rattle.refusal.specs.declared.Refusal.{Refusal}
-use Rattle.refusal.specs.declared.Refusal.the-variants.{Width, Length, Field, Reserved, Room, Ratio, Bus, Size, Kind, Count, Align, Boundary, Index, Unclean, Setup as BadSheet}
+use Rattle.refusal.specs.declared.Refusal.the-variants.{Field, Reserved, Room, Ratio, Unclean}
 use Rattle.stream_spec.specs.Layout.{size}
 use Rattle.refusal.specs.Checks.{first}
 use Rattle.stream_spec.specs.Checks.{roomCheck}
 use Rattle.stream_spec.specs.Handshake.{Finding, firstFinding}
 use Rattle.stream_spec.specs.Answers.{judgeAnswer, repackAnswer}
+use Rattle.stream_spec.specs.Memory.{inFront}
 use Rattle.stream_spec.specs.Legal.{Octets}
 use Rattle.stream_spec.proofs.Tables.{octets-tested}
 use Rattle.report_setup_spec.specs.declared.Setup.{Setup}
@@ -24,12 +26,12 @@ use Rattle.report_setup_spec.specs.declared.Tlast.the-variants.{Wired}
 use Rattle.report_setup_spec.specs.declared.Sheet.the-variants.{Read, Refused as NoSheet}
 use Rattle.report_setup_spec.specs.Grammar.{sheetOf}
 use Rattle.report_setup_spec.specs.Answers.{sheetValues}
-use Rattle.report_call.specs.declared.Tally.{Tally}
-use Rattle.report_call.specs.declared.Verdict.the-variants.{Clean, Broken, Refused}
-use Rattle.report_call.specs.Report.{shapeOf, cyclesOf, tally, setupOutcome, sheetOutcome, verdictValues, textOf, whole, reportOf, front}
-use Rattle.report_call.specs.Promises.{OctetsOf, isClean, CleanTally, shows, orderedChecks, resultOf, tallyOf, inOrder}
-use Rattle.report_call.specs.Cases.{says, p1Sheet, p1Take, p1Result, cycle}
-use Rattle.report_call.proofs.Promises.{reportsSetup, onlyWhenClean, cleanTallies, refusalsShown, neverReservedNorUnclean, packNeverRatio, reportInOrder, textShort, no}
+use Rattle.report_spec.specs.declared.Tally.{Tally}
+use Rattle.report_spec.specs.declared.Verdict.the-variants.{Clean, Broken, Refused}
+use Rattle.report_spec.specs.Report.{shapeOf, cyclesOf, tally, setupOutcome, sheetOutcome, verdictValues, textOf, whole, reportOf}
+use Rattle.report_spec.specs.Promises.{OctetsOf, isClean, CleanTally, mayShow, orderedChecks, convertedOf, tallyOf, inOrder}
+use Rattle.report_spec.specs.Cases.{says, p1Sheet, p1Take, p1Result, cycle}
+use Rattle.report_spec.proofs.Promises.{reportsSetup, onlyWhenClean, cleanTallies, refusalsShown, neverReservedNorUnclean, packNeverRatio, reportInOrder, textShort, no}
 
 -- ---- what the promises ask
 
@@ -37,21 +39,19 @@ pub clean-table : (t : Tally) (cycle rule : ℕ) (r : Refusal)
     → map isClean (Clean t ∷ Broken cycle rule ∷ Refused r ∷ []) ≡ true ∷ false ∷ false ∷ []
 clean-table t cycle rule r = refl
 
--- 1 to 15
-abbrev refusals : ℕ → ℕ → List Refusal
-refusals k rule =
-    Width ∷ Length ∷ Field k ∷ Reserved k ∷ Room ∷ Ratio ∷ Bus ∷ Size ∷ Kind ∷ Count ∷ Align ∷ Boundary ∷ Index ∷ Unclean k rule ∷ BadSheet ∷ []
+-- 1 to 19, as far as paper 01 and the requests count; 6 is the one that the mode decides
+abbrev numbers : List ℕ
+numbers = 1 ∷ 2 ∷ 3 ∷ 4 ∷ 5 ∷ 6 ∷ 7 ∷ 8 ∷ 9 ∷ 10 ∷ 11 ∷ 12 ∷ 13 ∷ 14 ∷ 15 ∷ 16 ∷ 17 ∷ 18 ∷ 19 ∷ []
 
--- 6 is the one that the mode decides
-abbrev shown : Bool → List Bool
-shown six =
-    true ∷ true ∷ true ∷ false ∷ true ∷ six ∷ false ∷ false ∷ false ∷ false ∷ false ∷ false ∷ false ∷ false ∷ false ∷ []
+abbrev shownTable : Bool → List Bool
+shownTable six =
+    true ∷ true ∷ true ∷ false ∷ true ∷ six ∷ false ∷ false ∷ false ∷ false ∷ false ∷ false ∷ false ∷ false ∷ false ∷ false ∷ false ∷ false ∷ false ∷ []
 
-pub pack-table : (k rule : ℕ) → map (shows Pack) (refusals k rule) ≡ shown false
-pack-table k rule = refl
+pub pack-table : map (mayShow Pack) numbers ≡ shownTable false
+pack-table = refl
 
-pub lanes-table : (k rule : ℕ) → map (shows Lanes) (refusals k rule) ≡ shown true
-lanes-table k rule = refl
+pub lanes-table : map (mayShow Lanes) numbers ≡ shownTable true
+lanes-table = refl
 
 pub unread-octets : OctetsOf none
 unread-octets = tt
@@ -68,7 +68,7 @@ sheet-number capture room = refl
 
 module _ (sheet capture : Option (List ℕ)) (room : ℕ) where
   pub broken-keeps : (cycle rule : ℕ) → reportOf sheet capture room .verdict ≡ Broken cycle rule
-      → (out : List ℕ) → front (reportOf sheet capture room .result) out ≡ out
+      → (out : List ℕ) → inFront (reportOf sheet capture room .result) out ≡ out
   broken-keeps cycle rule e = onlyWhenClean sheet capture room (ap isClean e) .kept
 
   pub refused-nothing : (r : Refusal) → reportOf sheet capture room .verdict ≡ Refused r → reportOf sheet capture room .result ≡ []
@@ -81,7 +81,7 @@ module _ (sheet capture : Option (List ℕ)) (room : ℕ) where
     pub never-unclean : (k rule : ℕ) → reportOf sheet capture room .verdict ≡ Refused (Unclean k rule) → ⊥
     never-unclean k rule e = neverReservedNorUnclean sheet capture room (Unclean k rule) o e .1 refl
 
-pub never-hidden : (u : Setup) (capture : Option (List ℕ)) (room : ℕ) (r : Refusal) → OctetsOf capture → shows (u .mode) r ≡ false
+pub never-hidden : (u : Setup) (capture : Option (List ℕ)) (room : ℕ) (r : Refusal) → OctetsOf capture → mayShow (u .mode) (codeOf r .0) ≡ false
     → setupOutcome u capture room .verdict ≡ Refused r → ⊥
 never-hidden u capture room r o h e = no (sym h ∙ refusalsShown u capture room r o e)
 
@@ -101,7 +101,7 @@ module _ (u : Setup) (capture : List ℕ) (room : ℕ) (o : Octets capture) wher
   finding = firstFinding (shapeOf u) (cyclesOf u capture)
 
   abbrev roomy : Option Refusal
-  roomy = first (roomCheck (resultOf u capture) room ∷ [])
+  roomy = first (roomCheck (convertedOf u capture) room ∷ [])
 
   pub tests-first : (r : Refusal) → tests ≡ some r → setupOutcome u (some capture) room .verdict ≡ Refused r
   tests-first r e = reportInOrder u capture room o ∙ ap (λ (x : Option Refusal). inOrder x finding roomy (tallyOf u capture)) e
@@ -133,7 +133,7 @@ unfolding size judgeAnswer repackAnswer
 p1-tallied = cleanTallies p1 p1Take 18 (tally 1 1 2) (octets-tested p1Take .1 refl) refl
 
 -- one octet short
-pub p1-unwritten : (out : List ℕ) → front (reportOf p1Sheet (some p1Take) 17 .result) out ≡ out
+pub p1-unwritten : (out : List ℕ) → inFront (reportOf p1Sheet (some p1Take) 17 .result) out ≡ out
 unfolding reportOf sheetOf size judgeAnswer repackAnswer
 p1-unwritten = onlyWhenClean p1Sheet (some p1Take) 17 refl .kept
 
@@ -145,7 +145,7 @@ p1-room = neverReservedNorUnclean p1Sheet (some p1Take) 17 Room (octets-tested p
 abbrev narrow : Option (List ℕ)
 narrow = says "width_in=1\nwidth_out=1\nmode=pack\ntlast=wired\n"
 
-pub broken-unwritten : (out : List ℕ) → front (reportOf narrow (some (cycle 0x0E 0 0 1)) 65536 .result) out ≡ out
+pub broken-unwritten : (out : List ℕ) → inFront (reportOf narrow (some (cycle 0x0E 0 0 1)) 65536 .result) out ≡ out
 unfolding reportOf sheetOf size judgeAnswer
 broken-unwritten = onlyWhenClean narrow (some (cycle 0x0E 0 0 1)) 65536 refl .kept
 

@@ -8,7 +8,7 @@ use native.Mathlib.Omega.{arith}
 use Rattle.stream_spec.specs.declared.Shape.{Shape}
 use Rattle.stream_spec.specs.Items.{Pair, Transfer, Item, byte, end, kept, transferItems, items}
 use Rattle.stream_spec.specs.Layout.{bitOf, Kept, records, transferOf, streamItems}
-use Rattle.report_call.specs.Report.{lasts, packetCount}
+use Rattle.report_spec.specs.Report.{lasts, packetCount}
 
 abbrev ends : List (Item Kept) → ℕ
 ends [] = 0
