@@ -204,7 +204,7 @@ fn check_ratio(u: Setup) -> Checked
 fn shape_of(u: Setup) -> Shape
     ensures { λ r. ⌜ r ≡ shapeOf u ⌝ }
 {
-    Shape { width: u.width_in }
+    stream_record::shape_of(u.width_in)
 }
 
 fn out_shape(u: Setup) -> Shape
