@@ -9,6 +9,7 @@ use Rattle.words.specs.Splice.{splice}
 use Rattle.words.specs.Words.{padded}
 use Rattle.words.proofs.Words.{length-padded}
 use Rattle.stream_spec.specs.Layout.{size, odd, bitOf, maskOf, octetsOf, ofWidth}
+use Rattle.stream_spec.proofs.Size.{size-is}
 use Rattle.stream_write.specs.Write.{headerOctets}
 use Rattle.repack_scratch.specs.Codes.{dataCode, pairFrom}
 use Rattle.repack_plain.specs.Write.{itemOctet, itemStrobe, recordOf}
@@ -74,18 +75,19 @@ pub record-written : (v : ℕ) (out out1 out2 out3 items : List ℕ) (n pair las
     → out2 ≡ take (7 + n) out1 ++ (replicate {A = ℕ} (v - n) 0 ++ drop (7 + v) out1)
     → out3 ≡ headerOctets (last % 256) (pair % 256) (pair / 256 % 256) keep strb ++ drop 7 out2
     → out3 ≡ octetsOf (recordOf v (pairFrom pair) (take n items) (odd last)) ++ drop (size (ofWidth v)) out
-unfolding size
 record-written v out out1 out2 out3 items n pair last keep strb k i h p l ke se e f g =
     let long : length (take n items) ≡ n = length-take-le n items i in
-    three-writes out (map itemOctet (take n items)) (replicate {A = ℕ} (v - n) 0) (headerOctets (last % 256) (pair % 256) (pair / 256 % 256) keep strb)
-    n v k (length-map (take n items) itemOctet ∙ long) h out1 out2 out3 e f g
+    let room : 7 + v ≤ length out = omega (arith, size-is (ofWidth v)) in
+    rw (size-is (ofWidth v))
+    (three-writes out (map itemOctet (take n items)) (replicate {A = ℕ} (v - n) 0) (headerOctets (last % 256) (pair % 256) (pair / 256 % 256) keep strb)
+    n v k (length-map (take n items) itemOctet ∙ long) room out1 out2 out3 e f g
     ∙ rw (ke, se)
     (subst
     (λ (m : ℕ).
     headerOctets (last % 256) (pair % 256) (pair / 256 % 256) (2 ^ m - 1) (maskOf (map itemStrobe (take n items)))
     ++ (map itemOctet (take n items) ++ (replicate {A = ℕ} (v - m) 0 ++ drop (7 + v) out))
     ≡ octetsOf (recordOf v (pairFrom pair) (take n items) (odd last)) ++ drop (7 + v) out)
-    long (record-octets v pair last (take n items) (drop (7 + v) out) (omega arith) p l))
+    long (record-octets v pair last (take n items) (drop (7 + v) out) (omega arith) p l)))
 
 -- what the two writes of a record with data alone come to
 pub plain-written : (v : ℕ) (out out1 out2 ds : List ℕ) (n pair last : ℕ) → n ≤ v → 1 ≤ v → v ≤ length ds
@@ -93,7 +95,6 @@ pub plain-written : (v : ℕ) (out out1 out2 ds : List ℕ) (n pair last : ℕ) 
     → out1 ≡ headerOctets last (pair % 256) (pair / 256) (2 ^ n - 1) (2 ^ n - 1) ++ (0 ∷ drop 8 out)
     → out2 ≡ splice 7 (padded v n ds) out1
     → out2 ≡ octetsOf (recordOf v (pairFrom pair) (take n (map dataCode ds)) (odd last)) ++ drop (size (ofWidth v)) out
-unfolding size
 plain-written v out out1 out2 ds n pair last k w d p l b e f =
     let long : length (take n (map dataCode ds)) ≡ n = length-take-le n (map dataCode ds) (omega (arith, length-map ds dataCode)) in
     let low : last % 256 ≡ last = omega arith in
@@ -105,7 +106,7 @@ plain-written v out out1 out2 ds n pair last k w d p l b e f =
     let rest : drop v (0 ∷ drop 8 out) ≡ drop (7 + v) out =
     ap (λ (m : ℕ). drop m (0 ∷ drop 8 out)) one ∙ drop-drop (v - 1) 8 out ∙ rw there refl in
     let back : drop (7 + v) (hdr ++ (0 ∷ drop 8 out)) ≡ drop (7 + v) out = drop-append-add hdr (0 ∷ drop 8 out) v ∙ rest in
-    f ∙ rw (e, length-padded v n ds, back, data-octets v n ds b k (omega arith))
+    f ∙ rw (size-is (ofWidth v), e, length-padded v n ds, back, data-octets v n ds b k (omega arith))
     (ap (λ (xs : List ℕ). hdr ++ xs) (append-assoc octs (replicate {A = ℕ} (v - n) 0) (drop (7 + v) out))
     ∙ (rw (low, high, data-strb n ds b (omega arith), long) at
     (record-octets v pair last (take n (map dataCode ds)) (drop (7 + v) out) (omega (arith, long)) p l)))

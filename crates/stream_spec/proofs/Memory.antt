@@ -31,16 +31,6 @@ writing-end before out whole to w =
 
 -- ---- pieces
 
--- no octet is a piece, and two pieces are one
-pub writes-none : (out : List ℕ) (to : ℕ) → Writes [] out to out to
-writes-none out to before whole rest w = w
-
-pub writes-both : (xs ys out mid after : List ℕ) (to next last : ℕ) → Writes xs out to mid next → Writes ys mid next after last
-    → Writes (xs ++ ys) out to after last
-writes-both xs ys out mid after to next last f g before whole rest w =
-    g before whole rest
-    (f before whole (ys ++ rest) (writing-as before out whole ((xs ++ ys) ++ rest) (xs ++ (ys ++ rest)) to (append-assoc xs ys rest) w))
-
 -- there is room for the piece that comes next
 pub piece-room : (before out whole piece rest : List ℕ) (to : ℕ) → Writing before out to whole (piece ++ rest) → to + length piece ≤ length out
 piece-room before out whole piece rest to w = omega (arith, w .room, length-append piece rest)
