@@ -26,7 +26,8 @@ use Rattle.burst_spec.specs.declared.StepAnswer.the-variants as step
 use Rattle.burst_spec.specs.Address.{beats, beatOf, beatStep}
 use Rattle.burst_spec.specs.Checks.{crosses, checks, indexedChecks, checksOfBeat, checksOfStep}
 use Rattle.burst_spec.specs.Legal.{Legal, Accepted}
-use Rattle.burst_spec.specs.Answers.{kindOf, judgementFor, beatFor, stepFor, judgement, beatAnswer, stepAnswer, Judged, BeatGiven, StepGiven, valuesFor, judgementValues, beatValues, stepValues}
+use Rattle.burst_spec.specs.Answers.{kindOf, judgementFor, beatFor, stepFor, judgement, beatAnswer, stepAnswer}
+use Rattle.burst_spec.specs.Answers.{Judged, BeatGiven, StepGiven, valuesFor, judgementValues, beatValues, stepValues}
 use Rattle.burst_spec.proofs.Known.{clash}
 
 -- ---- an answer, and the first refusal that it is made of

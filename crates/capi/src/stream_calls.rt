@@ -8,7 +8,8 @@ ghost use mathlib.Core.Path.{_≡_};
 ghost use lib.ListN.{length};
 ghost use Rattle.stream_spec.specs.Handshake.{baseLevel};
 ghost use Rattle.stream_spec.specs.Layout.{ofWidth};
-ghost use Rattle.stream_spec.specs.Answers.{refusalValues, verdictValues, writtenValues, lookupValues, judgeAnswer, harvestAnswer, harvestAfter, fillAnswer, fillAfter, repackAnswer, repackAfter, downsizeAnswer, downsizeAfter};
+ghost use Rattle.stream_spec.specs.Answers.{refusalValues, verdictValues, writtenValues, lookupValues};
+ghost use Rattle.stream_spec.specs.Answers.{judgeAnswer, harvestAnswer, harvestAfter, fillAnswer, fillAfter, repackAnswer, repackAfter, downsizeAnswer, downsizeAfter};
 ghost use Rattle.capi.specs.Shows.{ShowsStream, ShowsPart};
 
 // What a stream call answers: the refusal's number, or 0; its place, or the broken cycle; the rule; the count of transfers

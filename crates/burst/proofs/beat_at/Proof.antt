@@ -49,23 +49,32 @@ lane-requires c κs = lt-by (lower-is c) (lane-small (c .before .before .before 
 low-part-requires-2 : tie.Need-low-part-requires-2
 low-part-requires-2 c κs = bus (c .before .before)
 
+-- where the rounded address is known, and from there the arguments
+abbrev rounded : tie.After-low-part2 → tie.After-round-down
+rounded c = c .before .before .before
+
+abbrev start : tie.After-round-down → tie.Start
+start d = d .before .before .before
+
 upper-is : (c : tie.After-low-part2)
-    → c .low-part2 .result ≡ highestByte (c .before .before .before .before .before .before .args .address) (bytes (c .before .before .before .before .before .before .args .b)) % c .before .before .before .before .before .before .args .b .bus
+    → c .low-part2 .result
+    ≡ highestByte (start (rounded c) .args .address) (bytes (start (rounded c) .args .b)) % start (rounded c) .args .b .bus
 upper-is c =
-    let s = c .before .before .before .before .before .before in
+    let d = rounded c in
+    let s = start d in
     c .low-part2 .ensures
-    ∙ ap (λ h. h % c .before .before .before .before .wide .result) (highest-is (c .before .before .before))
-    ∙ ap (λ m. highestByte (s .args .address) (bytes (s .args .b)) % m) (c .before .before .before .before .wide .ensures)
+    ∙ ap (λ h. h % d .before .wide .result) (highest-is d)
+    ∙ ap (λ m. highestByte (s .args .address) (bytes (s .args .b)) % m) (d .before .wide .ensures)
 
 lane-requires-2 : tie.Need-lane-requires-2
 lane-requires-2 c κs =
-    let s = c .before .before .before .before .before .before in
+    let s = start (rounded c) in
     lt-by (upper-is c) (lane-small (s .args .b) (s .pre) (highestByte (s .args .address) (bytes (s .args .b))))
 
 returns : tie.Need-returns
 returns c =
     λ i. record {
-      address = c .before .before .before .before .before .before .before .args .address;
+      address = start (rounded (c .before)) .args .address;
       lower = (c .before .before .lane .ensures ∙ lower-is (c .before .before .before)) i;
       upper = (c .lane2 .ensures ∙ upper-is (c .before)) i;
     }

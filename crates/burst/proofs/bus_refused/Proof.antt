@@ -1,9 +1,10 @@
 -- `burst::bus_refused` meets its contract: the arms are the list of allowed widths. 1 | 2 is tested as a range. Assumes nothing.
-use mathlib.Core.Bool.{not}
+use mathlib.Core.Bool.{true, false, not}
 use mathlib.Core.List.{List, [], _∷_}
-use mathlib.Core.Path.{refl, sym, ap}
+use mathlib.Core.Path.{_≡_, refl, sym, ap}
 use Prim.Native.Nat.{ℕ}
 use native.Mathlib.Omega.{arith}
+use types.Run.{OneOf}
 use Rattle.burst_spec.specs.Checks.{busAllowed, between}
 use Rattle.burst.proofs.Tests.{among-yes, none-among, one-or-two, between-below, between-above}
 use Rattle.burst.proofs.bus_refused.Statement.{statement}
@@ -16,13 +17,21 @@ widths = 1 ∷ 2 ∷ 4 ∷ 8 ∷ 16 ∷ 32 ∷ 64 ∷ 128 ∷ []
 abbrev keys : List ℕ
 keys = 4 ∷ 8 ∷ 16 ∷ 32 ∷ 64 ∷ 128 ∷ []
 
-returns : tie.Need-returns
+-- a bus that is no key, and neither 1 nor 2
+refused : (bus : ℕ) → (OneOf keys bus → ⊥) → between 1 2 bus ≡ false → true ≡ not (busAllowed bus)
 unfolding busAllowed
-returns c = sym (ap not (none-among keys widths (between 1 2) (c .before .before .args .bus) (tt, (tt, (tt, (tt, (tt, (tt, (tt, (tt, tt)))))))) (c .before .match .rest .1) (between-below 1 2 (c .before .before .args .bus) (c .if1 .taken))))
+refused bus none small =
+    sym (ap not (none-among keys widths (between 1 2) bus (tt, (tt, (tt, (tt, (tt, (tt, (tt, (tt, tt)))))))) none small))
+
+returns : tie.Need-returns
+returns c =
+    let bus = c .before .before .args .bus in
+    refused bus (c .before .match .rest .1) (between-below 1 2 bus (c .if1 .taken))
 
 returns-2 : tie.Need-returns-2
-unfolding busAllowed
-returns-2 c = sym (ap not (none-among keys widths (between 1 2) (c .before .before .before .args .bus) (tt, (tt, (tt, (tt, (tt, (tt, (tt, (tt, tt)))))))) (c .before .before .match .rest .1) (between-above 1 2 (c .before .before .before .args .bus) (omega arith) (omega arith))))
+returns-2 c =
+    let bus = c .before .before .before .args .bus in
+    refused bus (c .before .before .match .rest .1) (between-above 1 2 bus (omega arith) (omega arith))
 
 returns-3 : tie.Need-returns-3
 unfolding busAllowed

@@ -1,13 +1,18 @@
 -- `burst::count_allowed` meets its contract: each arm is the line of its kind. Assumes nothing.
 use borrow.Author.Needs.{needs}
 use mathlib.Core.Bool.{false}
-use mathlib.Core.List.{[], _∷_}
+use mathlib.Core.List.{List, [], _∷_}
 use mathlib.Core.Path.{refl, sym}
+use Prim.Native.Nat.{ℕ}
 use native.Mathlib.Omega.{arith}
 use Rattle.burst_spec.specs.Checks.{countAllowed}
 use Rattle.burst.proofs.Tests.{among-yes, none-among, between-yes, between-below, between-above}
 use Rattle.burst.proofs.count_allowed.Statement.{statement}
 use Rattle.burst.proofs.count_allowed.Tie as tie
+
+-- how many beats WRAP may have
+abbrev counts : List ℕ
+counts = 2 ∷ 4 ∷ 8 ∷ 16 ∷ []
 
 enum-told : tie.Need-enum-told
 enum-told c = search needs
@@ -47,11 +52,15 @@ returns-6 c = rw (c .before .before .enum-told2 .given .1) (sym (between-above 1
 
 returns-7 : tie.Need-returns-7
 unfolding countAllowed
-returns-7 c = rw (c .before .enum-told3 .given .1) (sym (among-yes (2 ∷ 4 ∷ 8 ∷ 16 ∷ []) (2 ∷ 4 ∷ 8 ∷ 16 ∷ []) (c .before .before .before .args .beats) (refl, (refl, (refl, (refl, tt)))) (c .match2 .keys1)))
+returns-7 c =
+    rw (c .before .enum-told3 .given .1)
+    (sym (among-yes counts counts (c .before .before .before .args .beats) (refl, (refl, (refl, (refl, tt)))) (c .match2 .keys1)))
 
 returns-8 : tie.Need-returns-8
 unfolding countAllowed
-returns-8 c = rw (c .before .enum-told3 .given .1) (sym (none-among (2 ∷ 4 ∷ 8 ∷ 16 ∷ []) (2 ∷ 4 ∷ 8 ∷ 16 ∷ []) (λ y. false) (c .before .before .before .args .beats) (tt, (tt, (tt, (tt, tt)))) (c .match2 .rest .1) refl))
+returns-8 c =
+    rw (c .before .enum-told3 .given .1)
+    (sym (none-among counts counts (λ y. false) (c .before .before .before .args .beats) (tt, (tt, (tt, (tt, tt)))) (c .match2 .rest .1) refl))
 
 returns-9 : tie.Need-returns-9
 unfolding countAllowed

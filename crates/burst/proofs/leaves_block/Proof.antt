@@ -33,15 +33,19 @@ add-wide c =
 wide-requires : tie.Need-wide-requires
 wide-requires c κs = search needs
 
+-- the arguments, seen from where the number of beats is known
+abbrev start : tie.After-wide → tie.Start
+start c = c .before .before .before .before .before .before .before
+
 mul-result : tie.Need-mul-result
 mul-result c =
-    let s = c .before .before .before .before .before .before .before in
+    let s = start c in
     rw (c .wide .ensures, c .before .before .before .before .bytes-of .ensures)
     (omega (arith, span-small (s .args .b) (s .pre) (s .args .b .len + 1) (omega arith)))
 
 add-result : tie.Need-add-result
 add-result c =
-    let s = c .before .before .before .before .before .before .before in
+    let s = start c in
     rw (c .before .before .low-part .ensures, c .wide .ensures, c .before .before .before .before .bytes-of .ensures)
     (omega (arith, span-small (s .args .b) (s .pre) (s .args .b .len + 1) (omega arith)))
 
@@ -58,7 +62,7 @@ returns c =
 
 returns-2 : tie.Need-returns-2
 returns-2 c =
-    let s = c .before .before .before .before .before .before .before in
+    let s = start c in
     rw (c .before .before .low-part .ensures, c .wide .ensures)
     (incr-test (s .args .b) (s .pre) (c .before .before .before .before .before .enum-told2 .given .1)
     (c .before .before .before .round-down .result) (c .before .before .before .before .bytes-of .result)

@@ -56,10 +56,19 @@ round-down-requires c κs = container (c .before .before)
 low-part-requires-2 : tie.Need-low-part-requires-2
 low-part-requires-2 c κs = container (c .before .before .before)
 
-sum-is : (c : tie.After-low-part2) → c .before .round-down .result + c .low-part2 .result ≡ beatAddress (c .before .before .before .before .before .before .before .args .b) (c .before .before .before .before .before .before .before .args .k)
+sum-is : (c : tie.After-low-part2)
+    → let s = c .before .before .before .before .before .before .before .args in
+    c .before .round-down .result + c .low-part2 .result ≡ beatAddress (s .b) (s .k)
 sum-is c =
     let s = c .before .before .before .before .before .before .before in
-    rw (c .before .round-down .ensures, c .low-part2 .ensures, c .before .before .before .low-part .ensures, c .before .before .wide2 .ensures, c .before .before .before .before .wide .ensures, c .before .before .before .before .before .before .bytes-of .ensures)
+    rw (
+      c .before .round-down .ensures,
+      c .low-part2 .ensures,
+      c .before .before .before .low-part .ensures,
+      c .before .before .wide2 .ensures,
+      c .before .before .before .before .wide .ensures,
+      c .before .before .before .before .before .before .bytes-of .ensures,
+    )
     (wrap-formula (s .args .b) (s .args .k) (s .pre .0 .legal) (s .pre .1))
 
 add-result : tie.Need-add-result

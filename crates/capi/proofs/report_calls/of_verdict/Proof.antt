@@ -18,13 +18,21 @@ refused-requires : tie.Need-refused-requires
 refused-requires c κs = search needs
 
 returns : tie.Need-returns
-returns c = shown _ (c .before .before .before .args .text) (c .before .before .before .args .octets) (c .before .v .given .1) (record { verdict = refl; refusal = refl; rule = refl; place = refl; transfers = refl; packets = refl; records = refl; told = refl; long = refl })
+returns c =
+    let s = c .before .before .before .args in
+    shown _ (s .text) (s .octets) (c .before .v .given .1)
+    (record { verdict = refl; refusal = refl; rule = refl; place = refl; transfers = refl; packets = refl; records = refl; told = refl; long = refl })
 
 returns-2 : tie.Need-returns-2
-returns-2 c = shown _ (c .before .before .before .args .text) (c .before .before .before .args .octets) (c .before .v2 .given .1) (record { verdict = refl; refusal = refl; rule = refl; place = refl; transfers = refl; packets = refl; records = refl; told = refl; long = refl })
+returns-2 c =
+    let s = c .before .before .before .args in
+    shown _ (s .text) (s .octets) (c .before .v2 .given .1)
+    (record { verdict = refl; refusal = refl; rule = refl; place = refl; transfers = refl; packets = refl; records = refl; told = refl; long = refl })
 
 returns-3 : tie.Need-returns-3
-returns-3 c = shown (c .refused .result) (c .before .before .before .before .args .text) (c .before .before .before .before .args .octets) (c .before .before .v3 .given .1) (c .refused .ensures)
+returns-3 c =
+    let s = c .before .before .before .before .args in
+    shown (c .refused .result) (s .text) (s .octets) (c .before .before .v3 .given .1) (c .refused .ensures)
 
 pub of-verdict-spec : {M : Type 1} → statement M
 of-verdict-spec =
