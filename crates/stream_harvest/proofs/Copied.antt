@@ -1,29 +1,17 @@
 -- One record copied as a transfer record: octet 0 is TLAST alone, and each other octet is the record's. Assumes nothing.
 use mathlib.Core.Path.{_≡_, refl, sym, ap, ap₂, _∙_}
-use mathlib.Core.Bool.{Bool, true, false}
 use mathlib.Core.List.{List, [], _∷_, _++_}
 use Prim.Native.Nat.{ℕ, zero, suc, _+_, _-_, _%_, _≤_, _<_}
-use native.Mathlib.Nat.{div-one}
 use native.Mathlib.Omega.{arith}
-use borrow.Author.Tests.{eqb-true, eqb-false}
-use lib.Dec.{eqb}
 use lib.ListN.{length, getD, take, drop, set, length-set, length-drop}
 use lib.Seq.{take-all, take-add, length-take-le, drop-drop}
-use Rattle.stream_spec.specs.Layout.{bit, bitOf}
 use Rattle.stream_spec.specs.Handshake.{asTransfer}
 use Rattle.stream_spec.specs.Memory.{inFront}
+use Rattle.stream_spec.proofs.Bits.{low-number}
 use Rattle.stream_spec.proofs.Harvest.{length-kept}
 use Rattle.words.specs.Splice.{splice}
 use Rattle.words.specs.Words.{padded}
 use Rattle.words.proofs.Splice.{splice-long, splice-splice}
-
--- TLAST as a number is the lowest bit of octet 0
-pub low-bit : (n : ℕ) → bitOf (bit 0 n) ≡ n % 2
-low-bit n = rw (div-one n) (go (eqb (n % 2) 1) refl)
-  where
-    go : (b : Bool) → eqb (n % 2) 1 ≡ b → bitOf (eqb (n % 2) 1) ≡ n % 2
-    go true e = rw e (sym (eqb-true (n % 2) 1 e))
-    go false e = let odd = eqb-false (n % 2) 1 e in rw e (omega arith)
 
 pub same-length : (rec : List ℕ) → 0 < length rec → length (asTransfer rec) ≡ length rec
 same-length rec h = length-kept (length rec) rec h refl
@@ -83,4 +71,4 @@ module _ (rec out : List ℕ) (room : length rec ≤ length out) where
       go (x ∷ rec) [] h l = absurd (omega arith)
       go (x ∷ rec) (y ∷ out) h l =
           let far : 1 + length rec ≡ suc (length rec) = omega arith in
-          rw (far, low-bit x) refl
+          rw (far, low-number x) refl

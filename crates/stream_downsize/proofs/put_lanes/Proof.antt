@@ -16,6 +16,13 @@ Inv-loop out₀ lanes h v j₀ out j = (j ≤ v) × (length out ≡ length out�
 abbrev μ-loop : tie.MeasureT-loop
 μ-loop out₀ lanes h v j₀ out j = j
 
+abbrev entry : tie.At-loop Inv-loop μ-loop → tie.Start Inv-loop μ-loop
+entry t = t .before .before .before
+
+-- the turn, from its end
+abbrev turns : tie.After-octet-if Inv-loop μ-loop → tie.At-loop Inv-loop μ-loop
+turns c = c .before .before .before .before
+
 loop-holds : tie.Need-loop-holds Inv-loop μ-loop
 loop-holds c =
     let a = c .before .before .args in
@@ -47,14 +54,15 @@ loop-less c = search needs
 
 loop-again : tie.Need-loop-again Inv-loop μ-loop
 loop-again c =
-    let a = c .before .before .before .before .before .before .before .args in
-    let l = c .before .before .before .before .loop in
+    let t = turns c in
+    let a = entry t .args in
+    let l = t .loop in
     let y = c .octet-if .result in (
       omega arith,
       length-set (l .out) (7 + (l .j - 1)) y ∙ l .inv .1,
       fill-down (a .out .now) (drop (l .j) (dataIn (a .v) (a .h) (a .lanes .now)) ++ drop (7 + a .v) (a .out .now)) (l .out) (7 + (l .j - 1)) (7 + l .j) y (omega arith) (omega arith) (l .inv .2)
           ∙ ap (λ (zs : List ℕ). take (7 + (l .j - 1)) (a .out .now) ++ (zs ++ drop (7 + a .v) (a .out .now)))
-          (data-down (a .v) (a .h) (a .lanes .now) (l .j - 1) (l .j) y (omega arith) (omega arith) (c .before .before .before .before .before .before .before .pre .3) (c .octet-if .ensures)),
+          (data-down (a .v) (a .h) (a .lanes .now) (l .j - 1) (l .j) y (omega arith) (omega arith) (entry t .pre .3) (c .octet-if .ensures)),
     )
 
 same-length : tie.Need-same-length Inv-loop μ-loop

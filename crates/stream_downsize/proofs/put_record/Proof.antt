@@ -12,8 +12,11 @@ use Rattle.stream_downsize.proofs.put_record.Statement.{statement}
 use Rattle.stream_downsize.proofs.put_record.Tie as tie
 
 -- the call, from where the masks are cut
+abbrev put : tie.After-struct-known2 → tie.After-put-lanes
+put c = c .before .before .before .before .before
+
 abbrev entry : tie.After-struct-known2 → tie.Start
-entry c = c .before .before .before .before .before .before .before .before .before
+entry c = put c .before .before .before .before
 
 -- the number of masks of so many lanes
 masks : (e : tie.Start) → 1 * 2 ^ e .args .t .width % 4294967296 ≡ 2 ^ e .args .t .width
@@ -40,9 +43,8 @@ write-header-requires : tie.Need-write-header-requires
 write-header-requires c κs =
     let e = entry (c .before) in
     let a = e .args in
-    let put = c .before .before .before .before .before .before in
     rw (masks e) (
-      omega (arith, size-holds (a .t), e .pre .2, put .put-lanes .kept .0),
+      omega (arith, size-holds (a .t), e .pre .2, put (c .before) .put-lanes .kept .0),
       omega (arith, mod-lt (a .h .keep) (pow-pos (a .t .width)), pow-mono (e .pre .0)),
       omega (arith, mod-lt (a .h .strb) (pow-pos (a .t .width)), pow-mono (e .pre .0)),
     )
@@ -55,7 +57,7 @@ returns c =
     let header = c .before .before in
     let e = entry (header .before .before) in
     let a = e .args in
-    let lanes = header .before .before .before .before .before .before .before in
+    let lanes = put (header .before .before) in
     let m = 1 * 2 ^ a .t .width % 4294967296 in
     slice-written (a .t) (a .h) (a .lanes .now) (a .out .now) (lanes .put-lanes .last .0) (header .write-header .last .0) (a .last) (a .h .keep % m) (a .h .strb % m)
     (e .pre .2) (e .pre .3) (e .pre .4) (rw (masks e) refl) (rw (masks e) refl) (lanes .put-lanes .ensures) (header .write-header .ensures)

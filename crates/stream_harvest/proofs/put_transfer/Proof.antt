@@ -59,9 +59,12 @@ two-of-three c =
 abbrev longest : tie.After-copy-arg4 → tie.After-copy3
 longest c = c .before .before .before
 
-three : (c : tie.After-copy4) → c .copy4 .last .1 .0 ≡ copied (rec (three-entry (longest (c .before)))) (out (three-entry (longest (c .before)))) (23 + (length (rec (three-entry (longest (c .before)))) - 24))
+abbrev longest-entry : tie.After-copy4 → tie.Start
+longest-entry c = three-entry (longest (c .before))
+
+three : (c : tie.After-copy4) → c .copy4 .last .1 .0 ≡ copied (rec (longest-entry c)) (out (longest-entry c)) (23 + (length (rec (longest-entry c)) - 24))
 three c =
-    let e = three-entry (longest (c .before)) in
+    let e = longest-entry c in
     let n = length (rec e) - 24 in
     let long = longest (c .before) .before .before .if2 .left in
     c .copy4 .ensures
@@ -145,14 +148,14 @@ copy-requires-4 c κs =
 same-length-3 : tie.Need-same-length-3
 same-length-3 c =
     let d = c .before .before in
-    let e = three-entry (longest (d .before)) in
+    let e = longest-entry d in
     let over = longest (d .before) .before .before .if2 .left in
     ap length (three d) ∙ copied-long (rec e) (out e) (e .pre .room) (23 + (length (rec e) - 24)) (omega (arith, over))
 
 returns-3 : tie.Need-returns-3
 returns-3 c =
     let d = c .before .before in
-    let e = three-entry (longest (d .before)) in
+    let e = longest-entry d in
     let over = longest (d .before) .before .before .if2 .left in
     three d ∙ copied-all (rec e) (out e) (e .pre .room) (23 + (length (rec e) - 24)) (omega (arith, over))
 

@@ -60,10 +60,18 @@ fits c =
     let t = c .before in
     record-fits (shape t) (octets t) (t .loop .at) (looking t .left) (c .loop-test .taken) (long t) (t .before .record-size .ensures)
 
--- what the test told of the record, for any shape with these zeros
-fault-told : (c : tie.After-breaks Inv-loop μ-loop) (s : Shape) → Behind s (entry (c .before .before .before) .args .z) (octets (c .before .before .before)) (entry (c .before .before .before) .args .from) (entry (c .before .before .before) .args .j) → (t : Bool) → c .breaks .result ≡ t
-    → fieldFault cycleFlags s (rec (c .before .before)) ≡ t
-fault-told c s b t e = fault-is s (rec (c .before .before)) (entry (c .before .before .before) .args .z) (c .breaks .result) t (b .passed .high) (b .zeros) (c .breaks .ensures) e
+-- what a shape must be to which the call's requires applies
+abbrev Fits : Turns → Shape → Type 0
+Fits t s = Behind s (entry t .args .z) (octets t) (entry t .args .from) (entry t .args .j)
+
+-- what the test told of the record, for any such shape
+abbrev turn-of : tie.After-breaks Inv-loop μ-loop → Turn
+turn-of c = c .before .before
+
+fault-told : (c : tie.After-breaks Inv-loop μ-loop) (s : Shape) → Fits (turn-of c .before) s → (r : Bool) → c .breaks .result ≡ r
+    → fieldFault cycleFlags s (rec (turn-of c)) ≡ r
+fault-told c s b r e =
+    fault-is s (rec (turn-of c)) (entry (turn-of c .before) .args .z) (c .breaks .result) r (b .passed .high) (b .zeros) (c .breaks .ensures) e
 
 -- ---- the needs
 

@@ -12,6 +12,9 @@ use Rattle.stream_judge.proofs.changed.Tie as tie
 abbrev entry : tie.Else1 → tie.Start
 entry c = c .before .before .before .before .before
 
+abbrev asked : tie.Then1 → tie.Start
+asked c = c .before .before .before .before .before
+
 abbrev old : tie.Start → List ℕ
 old c = c .args .prev .now
 
@@ -20,8 +23,11 @@ new c = c .args .rec .now
 
 -- what each group that is found the same adds
 module _ (c : tie.Else5) where
+  abbrev last-same : tie.Else1
+  last-same = c .before .before .before .before .before
+
   abbrev long-entry : tie.Start
-  long-entry = entry (c .before .before .before .before .before)
+  long-entry = entry last-same
 
   front : Same (old long-entry) (new long-entry) 1 9
   front =
@@ -47,7 +53,7 @@ shared-slice-read-if1-2 : tie.Need-shared-slice-read-if1-2
 shared-slice-read-if1-2 c = search needs
 
 returns : tie.Need-returns
-returns c = let e = c .before .before .before .before .before in differs-last (old e) (new e) (c .if1 .taken)
+returns c = let e = asked c in differs-last (old e) (new e) (c .if1 .taken)
 
 differ4-requires : tie.Need-differ4-requires
 differ4-requires c κs = search needs
@@ -94,7 +100,7 @@ returns-5 c =
 returns-6 : tie.Need-returns-6
 returns-6 c =
     let e = long-entry (c .before) in
-    let same = c .before .before .before .before .before .before in
+    let same = last-same (c .before) in
     ends-same (old e) (new e) (e .pre .long) (same .if1 .left) 9 (front (c .before)) (end (c .before)) (c .if6 .taken)
 
 differ8-requires-3 : tie.Need-differ8-requires-3
@@ -110,7 +116,7 @@ returns-8 : tie.Need-returns-8
 returns-8 c =
     let both = c .before .before .before .before in
     let e = long-entry both in
-    let same = both .before .before .before .before .before in
+    let same = last-same both in
     ends-same (old e) (new e) (e .pre .long) (same .if1 .left) 17 (middle (c .before)) (end both) (c .if8 .taken)
 
 differ8-requires-4 : tie.Need-differ8-requires-4
@@ -120,7 +126,7 @@ returns-9 : tie.Need-returns-9
 returns-9 c =
     let both = c .before .before .before .before .before in
     let e = long-entry both in
-    let same = both .before .before .before .before .before in
+    let same = last-same both in
     ends-more (old e) (new e) (e .pre .long) (same .if1 .left) 17 (omega arith) (middle (c .before .before)) (end both)
     (omega (arith, e .pre .high)) (c .differ84 .result) (c .differ84 .ensures)
 
