@@ -9,48 +9,13 @@ use native.Mathlib.Numerals.{add-one}
 use native.Mathlib.Omega.{arith}
 use borrow.Author.Tests.{ltb-true, ltb-false, lt-ltb, le-ltb}
 use lib.Dec.{ltb}
-use lib.ListN.{length, take, drop, getD, set, length-append, length-drop}
-use lib.Seq.{length-take-le, take-length, take-at, drop-at, drop-drop, set-split, paste, paste-zero, paste-suc, length-paste}
-use Rattle.text.specs.Text.{digit, digits, decimal, lf, line, splice, Put, readOn, read, ReadsBack, LeadingDigit, NoLeadingZero}
+use lib.ListN.{length, take, drop, getD, set, length-append}
+use lib.Seq.{take-length, set-split, paste, paste-zero, paste-suc, length-paste}
+use Rattle.words.specs.Splice.{splice}
+use Rattle.words.proofs.Splice.{splice-long, splice-splice}
+use Rattle.text.specs.Text.{digit, digits, decimal, lf, line, Put, readOn, read, ReadsBack, LeadingDigit, NoLeadingZero}
 
 -- ---- octets put at a place
-
-module _ (at : ℕ) (xs out : List ℕ) (room : at + length xs ≤ length out) where
-  front-long : length (take at out ++ xs) ≡ at + length xs
-  front-long = length-append (take at out) xs ∙ ap (λ (n : ℕ). n + length xs) (length-take-le at out (omega arith))
-
-  regroup : splice at xs out ≡ (take at out ++ xs) ++ drop (at + length xs) out
-  regroup = sym (append-assoc (take at out) xs (drop (at + length xs) out))
-
-  splice-front : take (at + length xs) (splice at xs out) ≡ take at out ++ xs
-  splice-front = ap (take (at + length xs)) regroup ∙ take-at (take at out ++ xs) (drop (at + length xs) out) (at + length xs) front-long
-
-  splice-rest : drop (at + length xs) (splice at xs out) ≡ drop (at + length xs) out
-  splice-rest = ap (drop (at + length xs)) regroup ∙ drop-at (take at out ++ xs) (drop (at + length xs) out) (at + length xs) front-long
-
-  pub splice-long : length (splice at xs out) ≡ length out
-  splice-long =
-      omega (
-        arith,
-        ap length regroup,
-        length-append (take at out ++ xs) (drop (at + length xs) out),
-        front-long,
-        length-drop (at + length xs) out,
-      )
-
--- octets after octets
-pub splice-splice : (at : ℕ) (xs ys out : List ℕ) → at + length xs + length ys ≤ length out
-    → splice (at + length xs) ys (splice at xs out) ≡ splice at (xs ++ ys) out
-splice-splice at xs ys out room =
-    let first : at + length xs ≤ length out = omega arith in
-    let m = at + length xs in
-    let n = length ys in
-    let gone : drop (m + n) (splice at xs out) ≡ drop (m + n) out =
-    sym (drop-drop n m (splice at xs out)) ∙ ap (drop n) (splice-rest at xs out first) ∙ drop-drop n m out in
-    let long : m + n ≡ at + length (xs ++ ys) = omega (arith, length-append xs ys) in
-    ap₂ (λ (a r : List ℕ). a ++ (ys ++ r)) (splice-front at xs out first) (gone ∙ ap (λ (k : ℕ). drop k out) long)
-    ∙ append-assoc (take at out) xs (ys ++ drop (at + length (xs ++ ys)) out)
-    ∙ ap (λ (r : List ℕ). take at out ++ r) (sym (append-assoc xs ys (drop (at + length (xs ++ ys)) out)))
 
 module _ (at : ℕ) (xs before after : List ℕ) (r : ℕ) (p : Put at xs before after r) (room : at + length xs ≤ length before) where
   pub put-long : length after ≡ length before

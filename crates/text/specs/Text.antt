@@ -5,7 +5,8 @@ use mathlib.Core.Bool.{cond}
 use mathlib.Core.List.{List, [], _∷_, _++_}
 use Prim.Native.Nat.{ℕ, zero, suc, _+_, _-_, _*_, _/_, _%_, _≤_, _<_}
 use lib.Dec.{ltb}
-use lib.ListN.{length, take, drop}
+use lib.ListN.{length}
+use Rattle.words.specs.Splice.{splice}
 
 -- the octet of a digit, 0 to 9: ASCII `0` is 48
 abbrev pub digit : ℕ → ℕ
@@ -26,10 +27,6 @@ lf = 10
 -- the line of a key, which has its `=`, and a number
 abbrev pub line : List ℕ → ℕ → List ℕ
 line key n = key ++ (decimal n ++ (lf ∷ []))
-
--- octets xs in the place of those of `out` from `at` on
-abbrev pub splice : ℕ → List ℕ → List ℕ → List ℕ
-splice at xs out = take at out ++ (xs ++ drop (at + length xs) out)
 
 -- the contract of what writes octets xs at a place: they stand there, nothing else has changed, and the answer is the place
 -- after them
