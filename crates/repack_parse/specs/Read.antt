@@ -81,6 +81,11 @@ pub record AddedMarked (w : ℕ) (rec octets marks table : List ℕ) (st : Open)
   pub added : Added w rec (heldCodes octets marks) table st (heldCodes octetsAfter marksAfter) tableAfter r
   pub clear : Clear (r .items) marksAfter
 
+-- the same of marks that are held as bits
+abbrev pub AddedBits : ℕ → List ℕ → List ℕ → List ℕ → List ℕ → Open → List ℕ → List ℕ → List ℕ → Open → Type 0
+AddedBits w rec octets marks table st octetsAfter marksAfter tableAfter r =
+    AddedMarked w rec octets (markBits marks) table st octetsAfter (markBits marksAfter) tableAfter r
+
 -- a record of w lanes with its header: it has no bad field, and an item
 pub record Carries (w : ℕ) (rec : List ℕ) (h : Header) : Type 0 where
   pub header : h ≡ headerOf rec

@@ -17,6 +17,10 @@ use Rattle.repack_scratch.specs.Stands.{Stands}
 use Rattle.repack_gather.specs.Gather.{Clear}
 use Rattle.repack_parse.specs.Read.{Few}
 
+-- the record at octet `at`
+abbrev pub recordFrom : ℕ → List ℕ → ℕ → List ℕ
+recordFrom w transfers at = take (size (ofWidth w)) (drop at transfers)
+
 -- the record at octet `at` is a usual one: as its two words tell its header
 abbrev pub UsualAt : List ℕ → ℕ → ℕ → ℕ → Type 0
 UsualAt transfers at pair full = Usual (wordAt 4 transfers at) (wordAt 4 transfers (at + 3)) pair full (headerOf (drop at transfers))

@@ -18,7 +18,7 @@ ghost use Rattle.repack_scratch.specs.Codes.{itemRoom, markRoom, stretchRoom, U
 ghost use Rattle.repack_scratch.specs.Lanes.{Wide};
 ghost use Rattle.repack_scratch.specs.Stands.{closedAt, pairedAt, keptAt};
 ghost use Rattle.repack_gather.specs.Gather.{Clear};
-ghost use Rattle.repack_parse.specs.Read.{Closable, Turned, Ended, Carries, AddedData, AddedMarked, Ready, FinishIs, NextIs, ParsedIs};
+ghost use Rattle.repack_parse.specs.Read.{Closable, Turned, Ended, Carries, AddedData, AddedBits, Ready, FinishIs, NextIs, ParsedIs};
 
 // What reading one record gives: how far the take has been read, with no mark or with some, or the record's fault.
 pub enum Next {
@@ -134,7 +134,7 @@ fn add_marked(
 ) -> Open
     requires { ⌜ Carries w (now rec) h × Ready w (now octets) (now table) st ⌝ }
     requires { ⌜ (8 * length (now marks) ≡ length (now octets)) × Clear (st .items) (markBits (now marks)) ⌝ }
-    ensures { λ r. ⌜ AddedMarked w (now (rec .entry)) (now (octets .entry)) (markBits (now (marks .entry))) (now (table .entry)) st (now (octets .exit)) (markBits (now (marks .exit))) (now (table .exit)) r ⌝ }
+    ensures { λ r. ⌜ AddedBits w (now (rec .entry)) (now (octets .entry)) (now (marks .entry)) (now (table .entry)) st (now (octets .exit)) (now (marks .exit)) (now (table .exit)) r ⌝ }
 {
     let o = turn(table, st, pair_code(h));
     let e = HEAD_OCTETS + w;

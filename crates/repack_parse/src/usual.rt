@@ -9,13 +9,13 @@ use stream_record::layout::TKEEP;
 ghost use mathlib.Core.Path.{_≡_};
 ghost use mathlib.Core.Bool.{true};
 ghost use Prim.Native.Nat.{_+_, _≤_, _<_};
-ghost use lib.ListN.{length, take, drop};
+ghost use lib.ListN.{length};
 ghost use Rattle.stream_spec.specs.Layout.{size, ofWidth};
 ghost use Rattle.repack_sieve.specs.Sieve.{sieveRows};
 ghost use Rattle.repack_scratch.specs.Codes.{pairLimit};
 ghost use Rattle.repack_scratch.specs.Lanes.{Wide};
 ghost use Rattle.repack_parse.specs.Read.{Ready, AddedData};
-ghost use Rattle.repack_parse.specs.Reading.{UsualAt, Reading, Skimmed};
+ghost use Rattle.repack_parse.specs.Reading.{recordFrom, UsualAt, Reading, Skimmed};
 
 // How far a take has been read: up to this octet, with this state.
 pub struct Place {
@@ -45,7 +45,7 @@ fn add_usual(
 ) -> Open
     requires { ⌜ Wide lanes × (now sieve ≡ sieveRows) × Ready (lanes .width) (now octets) (now table) st ⌝ }
     requires { ⌜ (at + size (ofWidth (lanes .width)) ≤ length (now transfers)) × UsualAt (now transfers) at (st .pair) (lanes .full) ⌝ }
-    ensures { λ r. ⌜ AddedData (lanes .width) (take (size (ofWidth (lanes .width))) (drop at (now (transfers .entry)))) (now (octets .entry)) (now (table .entry)) st (now (octets .exit)) (now (table .exit)) r ⌝ }
+    ensures { λ r. ⌜ AddedData (lanes .width) (recordFrom (lanes .width) (now (transfers .entry)) at) (now (octets .entry)) (now (table .entry)) st (now (octets .exit)) (now (table .exit)) r ⌝ }
 {
     let lo = words::load4(transfers, at);
     let hi = words::load4(transfers, at + TKEEP);

@@ -33,8 +33,9 @@ same-length c = search needs
 
 returns : tie.Need-returns
 returns c =
-    let a = c .before .before .before .before .before .before .before .before .args in
-    let p = c .before .before .before .before .before .before .before .before .pre in
+    let at-start = c .before .before .before .before .before .before .before .before in
+    let a = at-start .args in
+    let p = at-start .pre in
     all-kept (a .w) 16 (drop (a .from) (a .transfers .now)) (a .octets .now) (c .before .before .place .last .0) (a .at) (omega (arith, p .1)) (omega (arith, p .1, p .3))
     (rw (lent-rest (a .transfers .now) (a .from)) at (c .before .before .place .ensures))
 
@@ -58,8 +59,9 @@ same-length-2 c = search needs
 
 returns-2 : tie.Need-returns-2
 returns-2 c =
-    let a = c .before .before .before .before .before .before .before .before .args in
-    let p = c .before .before .before .before .before .before .before .before .pre in
+    let at-start = c .before .before .before .before .before .before .before .before in
+    let a = at-start .args in
+    let p = at-start .pre in
     all-kept (a .w) (a .w) (drop (a .from) (a .transfers .now)) (a .octets .now) (c .before .before .place2 .last .0) (a .at) (omega (arith, p .1)) (omega (arith, p .1, p .3))
     (rw (lent-rest (a .transfers .now) (a .from)) at (c .before .before .place2 .ensures))
 

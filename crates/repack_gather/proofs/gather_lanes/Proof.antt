@@ -18,9 +18,11 @@ same-length c = search needs
 
 returns : tie.Need-returns
 returns c =
-    let a = c .before .before .before .before .before .before .before .args in
-    let p = c .before .before .before .before .before .before .before .pre in
-    rw (c .before .before .before .before .if1 .taken ∙ p .3)
+    let at-if1 = c .before .before .before .before in
+    let at-start = at-if1 .before .before .before in
+    let a = at-start .args in
+    let p = at-start .pre in
+    rw (at-if1 .if1 .taken ∙ p .3)
     (all-kept (length (a .lanes .now)) (length (a .lanes .now)) (a .lanes .now) (a .octets .now) (c .before .before .place .last .0) (a .at) (omega arith) (p .2)
     (c .before .before .place .ensures))
 

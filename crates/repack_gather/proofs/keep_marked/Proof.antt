@@ -48,8 +48,9 @@ same-length-2 c = search needs
 
 returns : tie.Need-returns
 returns c =
-    let a = c .before .before .before .before .args in
-    let p = c .before .before .before .before .pre in
+    let at-start = c .before .before .before .before in
+    let a = at-start .args in
+    let p = at-start .pre in
     (refl, (refl, rw (c .add-mark .ensures) (mark-set (a .marks .now) (a .n) (markOf (a .keep) (a .strb)) (p .1) (mark-small (a .keep) (a .strb)) (p .2))))
 
 pub keep-marked-spec : {M : Type 1} → statement M

@@ -29,17 +29,21 @@ loop-less c = search needs
 
 loop-again : tie.Need-loop-again Inv-loop μ-loop
 loop-again c =
-    let a = c .before .before .before .before .before .before .before .before .before .args in
-    let l = c .before .before .before .before .before .before .loop in
+    let at-test = c .before .before .before .before .before in
+    let at-loop = at-test .before in
+    let at-start = at-loop .before .before .before in
+    let a = at-start .args in
+    let l = at-loop .loop in
     sifting-lane (a .keep) (a .lanes .now) (a .octets .now) (a .at) (l .octets) (l .n) (l .k) (l .j) (l .inv) (c .before .before .keep-lane .last .0) (c .before .before .keep-lane .result)
-    (c .before .before .before .before .before .loop-test .taken) (c .before .before .keep-lane .ensures)
+    (at-test .loop-test .taken) (c .before .before .keep-lane .ensures)
 
 same-length : tie.Need-same-length Inv-loop μ-loop
 same-length c = c .before .loop .inv .same
 
 returns : tie.Need-returns Inv-loop μ-loop
 returns c =
-    let a = c .before .before .before .before .args in
+    let at-start = c .before .before .before .before in
+    let a = at-start .args in
     let l = c .before .loop in
     sifting-done (a .keep) (a .lanes .now) (a .octets .now) (a .at) (l .octets) (l .n) (l .k) (l .j) (l .inv) (c .loop-test .left)
 

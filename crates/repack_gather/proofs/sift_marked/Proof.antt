@@ -26,11 +26,14 @@ shared-slice-read-keep-marked c = search needs
 
 keep-marked-requires : tie.Need-keep-marked-requires Inv-loop μ-loop
 keep-marked-requires c κs =
-    let a = c .before .before .before .before .before .before .before .before .args in
-    let p = c .before .before .before .before .before .before .before .before .pre in
-    let l = c .before .before .before .before .loop in (
-      omega (arith, l .inv .near, l .inv .sameOctets, p .1, c .before .before .before .loop-test .taken),
-      omega (arith, l .inv .near, l .inv .sameMarks, length-marks (l .marks), p .1, c .before .before .before .loop-test .taken),
+    let at-test = c .before .before .before in
+    let at-loop = at-test .before in
+    let at-start = at-loop .before .before .before .before in
+    let a = at-start .args in
+    let p = at-start .pre in
+    let l = at-loop .loop in (
+      omega (arith, l .inv .near, l .inv .sameOctets, p .1, at-test .loop-test .taken),
+      omega (arith, l .inv .near, l .inv .sameMarks, length-marks (l .marks), p .1, at-test .loop-test .taken),
       l .inv .clear (p .2) (l .n) (omega arith),
     )
 
@@ -42,25 +45,31 @@ loop-less c = search needs
 
 loop-again : tie.Need-loop-again Inv-loop μ-loop
 loop-again c =
-    let a = c .before .before .before .before .before .before .before .before .before .before .before .before .before .args in
-    let l = c .before .before .before .before .before .before .before .before .before .loop in
-    let e = c .before .before .before .before .keep-marked .ensures in
-    marking-lane (a .keep) (a .strb) (a .lanes .now) (a .octets .now) (markBits (a .marks .now)) (a .at) (length-marks (a .marks .now) ∙ c .before .before .before .before .before .before .before .before .before .before .before .before .before .pre .0) (l .octets) (markBits (l .marks)) (l .n) (l .k) (l .t) (l .j) (l .inv)
-    (c .before .before .before .before .before .before .before .before .before .before .before .before .before .pre .1) (c .before .before .before .before .before .before .before .before .loop-test .taken) (c .before .before .before .before .keep-marked .last .0) (markBits (c .before .before .before .before .keep-marked .last .1 .0)) (c .before .before .before .before .keep-marked .result) (e .0) (e .1 .0) (e .1 .1)
+    let at-keep-marked = c .before .before .before .before in
+    let at-test = at-keep-marked .before .before .before .before in
+    let at-loop = at-test .before in
+    let at-start = at-loop .before .before .before .before in
+    let a = at-start .args in
+    let l = at-loop .loop in
+    let e = at-keep-marked .keep-marked .ensures in
+    marking-lane (a .keep) (a .strb) (a .lanes .now) (a .octets .now) (markBits (a .marks .now)) (a .at) (length-marks (a .marks .now) ∙ at-start .pre .0) (l .octets) (markBits (l .marks)) (l .n) (l .k) (l .t) (l .j) (l .inv)
+    (at-start .pre .1) (at-test .loop-test .taken) (at-keep-marked .keep-marked .last .0) (markBits (at-keep-marked .keep-marked .last .1 .0)) (at-keep-marked .keep-marked .result) (e .0) (e .1 .0) (e .1 .1)
 
 same-length : tie.Need-same-length Inv-loop μ-loop
 same-length c = c .before .loop .inv .sameOctets
 
 same-length-2 : tie.Need-same-length-2 Inv-loop μ-loop
 same-length-2 c =
+    let at-start = c .before .before .before .before .before in
     omega
-    (arith, c .before .loop .inv .sameMarks, length-marks (c .before .loop .marks), c .before .before .before .before .before .pre .0)
+    (arith, c .before .loop .inv .sameMarks, length-marks (c .before .loop .marks), at-start .pre .0)
 
 returns : tie.Need-returns Inv-loop μ-loop
 returns c =
-    let a = c .before .before .before .before .before .args in
+    let at-start = c .before .before .before .before .before in
+    let a = at-start .args in
     let l = c .before .loop in
-    marking-done (a .keep) (a .strb) (a .lanes .now) (a .octets .now) (markBits (a .marks .now)) (a .at) (length-marks (a .marks .now) ∙ c .before .before .before .before .before .pre .0) (l .octets) (markBits (l .marks)) (l .n) (l .k) (l .t) (l .j) (l .inv)
+    marking-done (a .keep) (a .strb) (a .lanes .now) (a .octets .now) (markBits (a .marks .now)) (a .at) (length-marks (a .marks .now) ∙ at-start .pre .0) (l .octets) (markBits (l .marks)) (l .n) (l .k) (l .t) (l .j) (l .inv)
     (c .loop-test .left)
 
 pub sift-marked-spec : {M : Type 1} → statement M

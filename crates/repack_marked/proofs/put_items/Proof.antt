@@ -70,9 +70,12 @@ shared-slice-read-out c = search needs
 
 mul-out : tie.Need-mul-out Inv-loop μ-loop
 mul-out c =
-    let i = c .before .before .before .before .before .before .before .before .args .from + (c .before .before .before .before .loop .j - 1) in
+    let at-loop = c .before .before .before .before in
+    let at-known = at-loop .before .before in
+    let at-start = at-known .before .before in
+    let i = at-start .args .from + (at-loop .loop .j - 1) in
     record {
-      fits = octet-small (getD (c .before .before .before .before .before .before .before .before .args .octets .now) i 0) (c .before .strobe .result) (omega (arith, c .before .before .before .before .before .before .shared-slice-known .given i)) (c .before .strobe .ensures .1);
+      fits = octet-small (getD (at-start .args .octets .now) i 0) (c .before .strobe .result) (omega (arith, at-known .shared-slice-known .given i)) (c .before .strobe .ensures .1);
     }
 
 add-out-2 : tie.Need-add-out-2 Inv-loop μ-loop
@@ -83,9 +86,11 @@ slice-write-out c = search needs
 
 mul-strb : tie.Need-mul-strb Inv-loop μ-loop
 mul-strb c =
-    let a = c .before .before .before .before .before .before .before .before .args in
-    let p = c .before .before .before .before .before .before .before .before .pre in
-    let l = c .before .before .before .before .loop in
+    let at-loop = c .before .before .before .before in
+    let at-start = at-loop .before .before .before .before in
+    let a = at-start .args in
+    let p = at-start .pre in
+    let l = at-loop .loop in
     record { fits = omega (arith, l .inv .2, few (a .octets .now) (a .marks .now) (a .from) (l .j) (a .n) (p .2) (p .1) (p .0)) }
 
 cast-strb : tie.Need-cast-strb Inv-loop μ-loop
@@ -93,9 +98,11 @@ cast-strb c = search needs
 
 add-strb : tie.Need-add-strb Inv-loop μ-loop
 add-strb c =
-    let a = c .before .before .before .before .before .before .before .before .args in
-    let p = c .before .before .before .before .before .before .before .before .pre in
-    let l = c .before .before .before .before .loop in
+    let at-loop = c .before .before .before .before in
+    let at-start = at-loop .before .before .before .before in
+    let a = at-start .args in
+    let p = at-start .pre in
+    let l = at-loop .loop in
     record { fits = omega (arith, l .inv .2, c .before .strobe .ensures .1, few (a .octets .now) (a .marks .now) (a .from) (l .j) (a .n) (p .2) (p .1) (p .0)) }
 
 loop-less : tie.Need-loop-less Inv-loop μ-loop
@@ -103,15 +110,18 @@ loop-less c = search needs
 
 loop-again : tie.Need-loop-again Inv-loop μ-loop
 loop-again c =
-    let a = c .before .before .before .before .before .before .before .before .args in
-    let l = c .before .before .before .before .loop in
-    let p = c .before .before .before .before .before .before .before .before .pre in
+    let at-loop = c .before .before .before .before in
+    let at-known = at-loop .before .before in
+    let at-start = at-known .before .before in
+    let a = at-start .args in
+    let l = at-loop .loop in
+    let p = at-start .pre in
     let d = c .before .strobe .result in
     let ds = drop (a .from) (a .octets .now) in
     let ms = drop (a .from) (markBits (a .marks .now)) in
     let x = getD (a .octets .now) (a .from + (l .j - 1)) 0 in
     let here : getD (drop (a .from) (a .octets .now)) (l .j - 1) 0 ≡ getD (a .octets .now) (a .from + (l .j - 1)) 0 = getD-drop (a .from) (a .octets .now) (l .j - 1) 0 in
-    let small : getD (drop (a .from) (a .octets .now)) (l .j - 1) 0 < 256 = omega (arith, here, c .before .before .before .before .before .before .shared-slice-known .given (a .from + (l .j - 1))) in
+    let small : getD (drop (a .from) (a .octets .now)) (l .j - 1) 0 < 256 = omega (arith, here, at-known .shared-slice-known .given (a .from + (l .j - 1))) in
     let inside : a .n ≤ length (drop (a .from) (a .octets .now)) = omega (arith, length-drop (a .from) (a .octets .now), p .1) in
     let marked : c .before .strobe .result ≡ 1 - getD (drop (a .from) (markBits (a .marks .now))) (l .j - 1) 0 =
     c .before .strobe .ensures .0 ∙ ap (λ (m : ℕ). 1 - m) (c .before .before .mark .ensures ∙ sym (getD-drop (a .from) (markBits (a .marks .now)) (l .j - 1) 0)) in (
@@ -129,8 +139,9 @@ same-length c = c .before .loop .inv .1
 
 returns : tie.Need-returns Inv-loop μ-loop
 returns c =
-    let a = c .before .before .before .before .before .args in
-    let p = c .before .before .before .before .before .pre in
+    let at-start = c .before .before .before .before .before in
+    let a = at-start .args in
+    let p = at-start .pre in
     let l = c .before .loop in
     let all : l .j ≡ 0 = omega arith in
     let is : drop (a .from) (heldCodes (a .octets .now) (markBits (a .marks .now))) ≡ items (a .octets .now) (a .marks .now) (a .from) =

@@ -17,8 +17,9 @@ same-length c = search needs
 
 returns-2 : tie.Need-returns-2
 returns-2 c =
-    let a = c .before .before .before .before .before .before .args in
-    let p = c .before .before .before .before .before .before .pre in
+    let at-start = c .before .before .before .before .before .before in
+    let a = at-start .args in
+    let p = at-start .pre in
     let one : a .flags ≡ 1 = omega arith in
     rw (one, c .before .before .close .ensures .0, c .before .before .close .ensures .1) (end-close (a .table .now) (a .st) (p .0))
 

@@ -15,10 +15,12 @@ same-length c = search needs
 
 returns-2 : tie.Need-returns-2
 returns-2 c =
-    let a = c .before .before .before .before .before .before .before .args in
-    let p = c .before .before .before .before .before .before .before .pre in
+    let at-if1 = c .before .before .before .before in
+    let at-start = at-if1 .before .before .before in
+    let a = at-start .args in
+    let p = at-start .pre in
     rw (c .before .before .close .ensures .0, c .before .before .close .ensures .1)
-    (λ items all h. finish-close items (a .table .now) (a .st) all p (c .before .before .before .before .if1 .left) h)
+    (λ items all h. finish-close items (a .table .now) (a .st) all p (at-if1 .if1 .left) h)
 
 pub finish-spec : {M : Type 1} → statement M
 finish-spec = tie.close (tie.spec returns close-requires same-length returns-2)

@@ -11,7 +11,9 @@ turned-requires : tie.Need-turned-requires
 turned-requires c κs = search needs
 
 returns-2 : tie.Need-returns-2
-returns-2 c = rw (c .turned .ensures) (turn-empty (c .before .before .before .before .before .before .args .table .now) (c .before .before .before .before .before .before .args .st) (c .before .before .before .before .before .before .args .pair) (c .before .if2 .taken))
+returns-2 c =
+    let at-start = c .before .before .before .before .before .before in
+    rw (c .turned .ensures) (turn-empty (at-start .args .table .now) (at-start .args .st) (at-start .args .pair) (c .before .if2 .taken))
 
 close-requires : tie.Need-close-requires
 close-requires c κs = search needs
@@ -24,10 +26,14 @@ same-length c = search needs
 
 returns-3 : tie.Need-returns-3
 returns-3 c =
-    let a = c .before .before .before .before .before .before .before .before .before .before .args in
-    let p = c .before .before .before .before .before .before .before .before .before .before .pre in
-    rw (c .turned2 .ensures, c .before .before .before .close .ensures .0, c .before .before .before .close .ensures .1)
-    (turn-close (a .table .now) (a .st) p (a .pair) (c .before .before .before .before .before .before .before .if1 .left) (c .before .before .before .before .before .if2 .left))
+    let at-close = c .before .before .before in
+    let at-if2 = at-close .before .before in
+    let at-if1 = at-if2 .before .before in
+    let at-start = at-if1 .before .before .before in
+    let a = at-start .args in
+    let p = at-start .pre in
+    rw (c .turned2 .ensures, at-close .close .ensures .0, at-close .close .ensures .1)
+    (turn-close (a .table .now) (a .st) p (a .pair) (at-if1 .if1 .left) (at-if2 .if2 .left))
 
 pub turn-spec : {M : Type 1} → statement M
 turn-spec =

@@ -43,33 +43,50 @@ part-put-plain-end-2 c = search needs
 
 put-plain-requires : tie.Need-put-plain-requires Inv-loop μ-loop
 put-plain-requires c κs =
-    let a = c .before .before .before .before .before .before .args in
-    let p = c .before .before .before .before .before .before .pre in
-    let l = c .before .before .before .loop in
+    let at-loop = c .before .before .before in
+    let at-start = at-loop .before .before .before in
+    let a = at-start .args in
+    let p = at-start .pre in
+    let l = at-loop .loop in
     (omega arith, p .0, p .1, lent-room (a .octets .now) (l .from) (a .v) (omega (arith, l .inv .fits .held, p .1)), lent-room (l .out) (l .to) (size (ofWidth (a .v))) (full-room (a .v) _ _ _ _ _ _ (p .0) (l .inv) (c .before .before .loop-test .taken)), p .2, omega arith)
 
 record-size-requires : tie.Need-record-size-requires Inv-loop μ-loop
 record-size-requires c κs = search needs
 
 add-to : tie.Need-add-to Inv-loop μ-loop
-add-to c = omega (arith, c .record-size .ensures, full-room (c .before .before .before .before .before .before .before .before .before .before .args .v) _ _ _ _ _ _ (c .before .before .before .before .before .before .before .before .before .before .pre .0) (c .before .before .before .before .before .before .before .loop .inv) (c .before .before .before .before .before .before .loop-test .taken), c .before .before .before .before .before .before .before .loop .inv .same, c .before .before .before .before .before .before .before .before .before .before .good)
+add-to c =
+    let at-test = c .before .before .before .before .before .before in
+    let at-loop = at-test .before in
+    let at-start = at-loop .before .before .before in
+    omega (arith, c .record-size .ensures, full-room (at-start .args .v) _ _ _ _ _ _ (at-start .pre .0) (at-loop .loop .inv) (at-test .loop-test .taken), at-loop .loop .inv .same, at-start .good)
 
 add-from : tie.Need-add-from Inv-loop μ-loop
-add-from c = omega (arith, c .before .before .before .before .before .before .before .loop .inv .fits .held, c .before .before .before .before .before .before .loop-test .taken, c .before .before .before .before .before .before .before .before .before .before .good)
+add-from c =
+    let at-test = c .before .before .before .before .before .before in
+    let at-loop = at-test .before in
+    let at-start = at-loop .before .before .before in
+    omega (arith, at-loop .loop .inv .fits .held, at-test .loop-test .taken, at-start .good)
 
 sub-left : tie.Need-sub-left Inv-loop μ-loop
 sub-left c = search needs
 
 loop-less : tie.Need-loop-less Inv-loop μ-loop
-loop-less c = omega (arith, c .before .before .before .before .before .before .loop-test .taken, c .before .before .before .before .before .before .before .before .before .before .pre .0)
+loop-less c =
+    let at-test = c .before .before .before .before .before .before in
+    let at-start = at-test .before .before .before .before in
+    omega (arith, at-test .loop-test .taken, at-start .pre .0)
 
 loop-again : tie.Need-loop-again Inv-loop μ-loop
 loop-again c =
-    let a = c .before .before .before .before .before .before .before .before .before .before .args in
-    let l = c .before .before .before .before .before .before .before .loop in
+    let at-put-plain = c .before .before .before in
+    let at-test = at-put-plain .before .before .before in
+    let at-loop = at-test .before in
+    let at-start = at-loop .before .before .before in
+    let a = at-start .args in
+    let l = at-loop .loop in
     rw (c .record-size .ensures)
-    (full-written (a .v) _ _ _ _ _ _ (c .before .before .before .before .before .before .before .before .before .before .pre .0) (l .inv)
-    (c .before .before .before .before .before .before .loop-test .taken) (size (ofWidth (a .v))) refl (c .before .before .before .put-plain .last .0) (rw (lent-codes (a .octets .now) (l .from)) at (c .before .before .before .put-plain .ensures)))
+    (full-written (a .v) _ _ _ _ _ _ (at-start .pre .0) (l .inv)
+    (at-test .loop-test .taken) (size (ofWidth (a .v))) refl (at-put-plain .put-plain .last .0) (rw (lent-codes (a .octets .now) (l .from)) at (at-put-plain .put-plain .ensures)))
 
 same-length : tie.Need-same-length Inv-loop μ-loop
 same-length c = c .before .loop .inv .same

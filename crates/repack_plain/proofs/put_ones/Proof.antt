@@ -39,26 +39,41 @@ shared-slice-read-write-one c = omega (arith, c .before .before .before .loop .i
 
 write-one-requires : tie.Need-write-one-requires Inv-loop μ-loop
 write-one-requires c κs =
-    (lent-room (c .before .before .before .loop .out) (c .before .before .before .loop .to) 8 (omega (arith, full-room 1 _ _ _ _ _ _ (omega arith) (c .before .before .before .loop .inv) (c .before .before .loop-test .taken), size-is (ofWidth 1))), c .before .before .before .before .before .before .pre .0)
+    let at-loop = c .before .before .before in
+    let at-start = at-loop .before .before .before in
+    (lent-room (at-loop .loop .out) (at-loop .loop .to) 8 (omega (arith, full-room 1 _ _ _ _ _ _ (omega arith) (at-loop .loop .inv) (c .before .before .loop-test .taken), size-is (ofWidth 1))), at-start .pre .0)
 
 add-to : tie.Need-add-to Inv-loop μ-loop
-add-to c = omega (arith, full-room 1 _ _ _ _ _ _ (omega arith) (c .before .before .before .before .before .before .loop .inv) (c .before .before .before .before .before .loop-test .taken), size-is (ofWidth 1), c .before .before .before .before .before .before .loop .inv .same, c .before .before .before .before .before .before .before .before .before .good)
+add-to c =
+    let at-test = c .before .before .before .before .before in
+    let at-loop = at-test .before in
+    let at-start = at-loop .before .before .before in
+    omega (arith, full-room 1 _ _ _ _ _ _ (omega arith) (at-loop .loop .inv) (at-test .loop-test .taken), size-is (ofWidth 1), at-loop .loop .inv .same, at-start .good)
 
 add-from : tie.Need-add-from Inv-loop μ-loop
-add-from c = omega (arith, c .before .before .before .before .before .before .loop .inv .fits .held, c .before .before .before .before .before .before .before .before .before .good)
+add-from c =
+    let at-loop = c .before .before .before .before .before .before in
+    let at-start = at-loop .before .before .before in
+    omega (arith, at-loop .loop .inv .fits .held, at-start .good)
 
 sub-left : tie.Need-sub-left Inv-loop μ-loop
 sub-left c = search needs
 
 loop-less : tie.Need-loop-less Inv-loop μ-loop
-loop-less c = omega (arith, c .before .before .before .before .before .loop-test .taken)
+loop-less c =
+    let at-test = c .before .before .before .before .before in
+    omega (arith, at-test .loop-test .taken)
 
 loop-again : tie.Need-loop-again Inv-loop μ-loop
 loop-again c =
-    let a = c .before .before .before .before .before .before .before .before .before .args in
-    let l = c .before .before .before .before .before .before .loop in
-    full-written 1 _ _ _ _ _ _ (omega arith) (c .before .before .before .before .before .before .loop .inv) (c .before .before .before .before .before .loop-test .taken) 8 (sym (size-is (ofWidth 1))) (c .before .before .write-one .last .0)
-    (c .before .before .write-one .ensures ∙ one-written (a .pair) (getD (a .octets .now) (l .from) 0) (a .octets .now) (drop 8 (take (length (l .out) - l .to) (drop (l .to) (l .out)))) (l .from) (c .before .before .before .before .before .before .before .before .before .pre .0) (omega (arith, l .inv .fits .held)) refl (omega (arith, c .before .before .before .shared-slice-known2 .given (l .from))))
+    let at-known = c .before .before .before in
+    let at-test = at-known .before .before in
+    let at-loop = at-test .before in
+    let at-start = at-loop .before .before .before in
+    let a = at-start .args in
+    let l = at-loop .loop in
+    full-written 1 _ _ _ _ _ _ (omega arith) (at-loop .loop .inv) (at-test .loop-test .taken) 8 (sym (size-is (ofWidth 1))) (c .before .before .write-one .last .0)
+    (c .before .before .write-one .ensures ∙ one-written (a .pair) (getD (a .octets .now) (l .from) 0) (a .octets .now) (drop 8 (take (length (l .out) - l .to) (drop (l .to) (l .out)))) (l .from) (at-start .pre .0) (omega (arith, l .inv .fits .held)) refl (omega (arith, at-known .shared-slice-known2 .given (l .from))))
 
 same-length : tie.Need-same-length Inv-loop μ-loop
 same-length c = c .before .loop .inv .same

@@ -16,19 +16,24 @@ write-data-header-requires c κs = (omega (arith, size-is (ofWidth (c .before .b
 
 place-requires : tie.Need-place-requires
 place-requires c κs =
-    let a = c .before .before .before .before .before .before .before .args in
-    let p = c .before .before .before .before .before .before .before .pre in
-    (p .1, p .2, p .0, p .3, omega (arith, size-is (ofWidth (a .v)), p .4, c .before .before .before .write-data-header .kept .0))
+    let at-write-data-header = c .before .before .before in
+    let at-start = at-write-data-header .before .before .before .before in
+    let a = at-start .args in
+    let p = at-start .pre in
+    (p .1, p .2, p .0, p .3, omega (arith, size-is (ofWidth (a .v)), p .4, at-write-data-header .write-data-header .kept .0))
 
 same-length : tie.Need-same-length
 same-length c = search needs
 
 returns : tie.Need-returns
 returns c =
-    let a = c .before .before .before .before .before .before .before .before .before .before .args in
-    let p = c .before .before .before .before .before .before .before .before .before .before .pre in
-    plain-written (a .v) (a .out .now) (c .before .before .before .before .before .before .write-data-header .last .0) (c .before .before .place .last .0) (a .octets .now) (a .n) (a .pair) (a .last)
-    (p .0) (p .1) (p .3) (p .5) (p .6) (λ i. omega (arith, c .before .before .before .before .before .before .before .before .shared-slice-known .given i)) (c .before .before .before .before .before .before .write-data-header .ensures) (c .before .before .place .ensures)
+    let at-write-data-header = c .before .before .before .before .before .before in
+    let at-known = at-write-data-header .before .before in
+    let at-start = at-known .before .before in
+    let a = at-start .args in
+    let p = at-start .pre in
+    plain-written (a .v) (a .out .now) (at-write-data-header .write-data-header .last .0) (c .before .before .place .last .0) (a .octets .now) (a .n) (a .pair) (a .last)
+    (p .0) (p .1) (p .3) (p .5) (p .6) (λ i. omega (arith, at-known .shared-slice-known .given i)) (at-write-data-header .write-data-header .ensures) (c .before .before .place .ensures)
 
 pub put-plain-spec : {M : Type 1} → statement M
 put-plain-spec = tie.close (tie.spec write-data-header-requires place-requires same-length returns)

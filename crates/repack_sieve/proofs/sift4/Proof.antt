@@ -57,7 +57,8 @@ shared-slice-read-result c = omega (arith, rows-long)
 
 add-result-2 : tie.Need-add-result-2
 add-result-2 c =
-    let b = c .before .before .before .before .before .before .before .before .before .before .before in
+    let at-11 = c .before .before .before .before .before .before .before .before .before .before .before in
+    let b = at-11 in
     omega (arith, (row-read (b .args .sieve .now) (b .args .keep) (b .pre .2)) .count, b)
 
 same-length : tie.Need-same-length
@@ -65,12 +66,15 @@ same-length c = search needs
 
 returns : tie.Need-returns
 returns c =
-    let a = c .before .before .before .before .before .before .before .before .before .before .before .args in
-    let p = c .before .before .before .before .before .before .before .before .before .before .before .pre in
+    let at-store4 = c .before .before .before in
+    let at-close = at-store4 .before .before in
+    let at-start = at-close .before .before .before .before .before .before in
+    let a = at-start .args in
+    let p = at-start .pre in
     let s = a .sieve .now in
     let l = 4 * (a .keep % 16) in
-    sifted4 (a .at) (a .x) (c .before .before .before .before .before .close .result) (a .keep) (getD s l 0) (getD s (l + 1) 0) (getD s (l + 2) 0) (getD s (l + 3) 0) (a .octets .now) (c .before .before .before .store4 .last .0)
-    (row-read s (a .keep) (p .2)) (p .0) (p .1) (c .before .before .before .before .before .close .ensures) (c .before .before .before .store4 .ensures)
+    sifted4 (a .at) (a .x) (at-close .close .result) (a .keep) (getD s l 0) (getD s (l + 1) 0) (getD s (l + 2) 0) (getD s (l + 3) 0) (a .octets .now) (at-store4 .store4 .last .0)
+    (row-read s (a .keep) (p .2)) (p .0) (p .1) (at-close .close .ensures) (at-store4 .store4 .ensures)
 
 pub sift4-spec : {M : Type 1} → statement M
 sift4-spec =

@@ -34,7 +34,8 @@ shared-slice-read-both-2 c = omega (arith, rows-long)
 
 both-requires : tie.Need-both-requires
 both-requires c κs =
-    let b = c .before .before .before .before in
+    let at-4 = c .before .before .before .before in
+    let b = at-4 in
     ((row-read (b .args .sieve .now) (b .args .keep) (b .pre .1)) .keptSmall, (row-read (b .args .sieve .now) (b .args .keep / 16) (b .pre .1)) .keptSmall)
 
 add-both : tie.Need-add-both
@@ -57,7 +58,8 @@ shared-slice-read-both-4 c = omega (arith, rows-long)
 
 both-requires-2 : tie.Need-both-requires-2
 both-requires-2 c κs =
-    let b = c .before .before .before .before .before .before .before in
+    let at-7 = c .before .before .before .before .before .before .before in
+    let b = at-7 in
     ((row-read (b .args .sieve .now) (b .args .keep) (b .pre .1)) .oddSmall, (row-read (b .args .sieve .now) (b .args .keep / 16) (b .pre .1)) .oddSmall)
 
 add-both-3 : tie.Need-add-both-3
@@ -80,7 +82,8 @@ shared-slice-read-both-6 c = omega (arith, rows-long)
 
 both-requires-3 : tie.Need-both-requires-3
 both-requires-3 c κs =
-    let b = c .before .before .before .before .before .before .before .before .before .before in
+    let at-10 = c .before .before .before .before .before .before .before .before .before .before in
+    let b = at-10 in
     ((row-read (b .args .sieve .now) (b .args .keep) (b .pre .1)) .farSmall, (row-read (b .args .sieve .now) (b .args .keep / 16) (b .pre .1)) .farSmall)
 
 close-requires : tie.Need-close-requires
@@ -103,7 +106,8 @@ shared-slice-read-n c = omega (arith, rows-long)
 
 add-n-2 : tie.Need-add-n-2
 add-n-2 c =
-    let b = c .before .before .before .before .before .before .before .before .before .before .before .before .before .before .before .before .before in
+    let at-17 = c .before .before .before .before .before .before .before .before .before .before .before .before .before .before .before .before .before in
+    let b = at-17 in
     omega (arith, (row-read (b .args .sieve .now) (b .args .keep) (b .pre .1)) .count, b)
 
 cast-store4-2 : tie.Need-cast-store4-2
@@ -111,8 +115,10 @@ cast-store4-2 c = search needs
 
 store4-requires-2 : tie.Need-store4-requires-2
 store4-requires-2 c κs =
-    let b = c .before .before .before .before .before .before .before .before .before .before .before .before .before .before .before .before .before .before in
-    omega (arith, (row-read (b .args .sieve .now) (b .args .keep) (b .pre .1)) .count, b .pre .0, c .before .before .before .before .store4 .kept .0)
+    let at-store4 = c .before .before .before .before in
+    let at-18 = at-store4 .before .before .before .before .before .before .before .before .before .before .before .before .before .before in
+    let b = at-18 in
+    omega (arith, (row-read (b .args .sieve .now) (b .args .keep) (b .pre .1)) .count, b .pre .0, at-store4 .store4 .kept .0)
 
 add-result : tie.Need-add-result
 add-result c = search needs
@@ -125,7 +131,8 @@ shared-slice-read-result c = omega (arith, rows-long)
 
 add-result-2 : tie.Need-add-result-2
 add-result-2 c =
-    let b = c .before .before .before .before .before .before .before .before .before .before .before .before .before .before .before .before .before .before .before .before .before .before in
+    let at-22 = c .before .before .before .before .before .before .before .before .before .before .before .before .before .before .before .before .before .before .before .before .before .before in
+    let b = at-22 in
     omega (arith, (row-read (b .args .sieve .now) (b .args .keep) (b .pre .1)) .count, (row-read (b .args .sieve .now) (b .args .keep / 16) (b .pre .1)) .count, b)
 
 same-length : tie.Need-same-length
@@ -133,15 +140,22 @@ same-length c = search needs
 
 returns : tie.Need-returns
 returns c =
-    let a = c .before .before .before .before .before .before .before .before .before .before .before .before .before .before .before .before .before .before .before .before .before .before .args in
-    let p = c .before .before .before .before .before .before .before .before .before .before .before .before .before .before .before .before .before .before .before .before .before .before .pre in
+    let at-store42 = c .before .before .before in
+    let at-store4 = at-store42 .before .before .before .before .before in
+    let at-close = at-store4 .before .before in
+    let at-both3 = at-close .before in
+    let at-both2 = at-both3 .before .before .before in
+    let at-both = at-both2 .before .before .before in
+    let at-start = at-both .before .before .before .before .before in
+    let a = at-start .args in
+    let p = at-start .pre in
     let s = a .sieve .now in
     let l = 4 * (a .keep % 16) in
     let h = 4 * (a .keep / 16 % 16) in
-    sifted8 (a .at) (a .x) (c .before .before .before .before .before .before .before .before .before .before .close .result) (a .keep) (getD s l 0) (getD s (l + 1) 0) (getD s (l + 2) 0) (getD s (l + 3) 0) (getD s h 0) (getD s (h + 1) 0) (getD s (h + 2) 0) (getD s (h + 3) 0)
-    (c .before .before .before .before .before .before .before .before .before .before .before .before .before .before .before .before .before .both .result) (c .before .before .before .before .before .before .before .before .before .before .before .before .before .before .both2 .result) (c .before .before .before .before .before .before .before .before .before .before .before .both3 .result) (a .octets .now) (c .before .before .before .before .before .before .before .before .store4 .last .0) (c .before .before .before .store42 .last .0)
-    (row-read s (a .keep) (p .1)) (row-read s (a .keep / 16) (p .1)) (p .0) (omega (arith, c .before .before .before .before .before .before .before .before .before .before .before .before .before .before .before .before .before .before .before .before .before .before .fits .x)) (c .before .before .before .before .before .before .before .before .before .before .before .before .before .before .before .before .before .both .ensures) (c .before .before .before .before .before .before .before .before .before .before .before .before .before .before .both2 .ensures) (c .before .before .before .before .before .before .before .before .before .before .before .both3 .ensures)
-    (c .before .before .before .before .before .before .before .before .before .before .close .ensures) (c .before .before .before .before .before .before .before .before .store4 .ensures) (c .before .before .before .store42 .ensures)
+    sifted8 (a .at) (a .x) (at-close .close .result) (a .keep) (getD s l 0) (getD s (l + 1) 0) (getD s (l + 2) 0) (getD s (l + 3) 0) (getD s h 0) (getD s (h + 1) 0) (getD s (h + 2) 0) (getD s (h + 3) 0)
+    (at-both .both .result) (at-both2 .both2 .result) (at-both3 .both3 .result) (a .octets .now) (at-store4 .store4 .last .0) (at-store42 .store42 .last .0)
+    (row-read s (a .keep) (p .1)) (row-read s (a .keep / 16) (p .1)) (p .0) (omega (arith, at-start .fits .x)) (at-both .both .ensures) (at-both2 .both2 .ensures) (at-both3 .both3 .ensures)
+    (at-close .close .ensures) (at-store4 .store4 .ensures) (at-store42 .store42 .ensures)
 
 pub sift8-spec : {M : Type 1} → statement M
 sift8-spec =
