@@ -7,7 +7,7 @@ use lib.ListN.{length, getD, drop}
 use Rattle.stream_spec.specs.declared.Shape.{Shape}
 use Rattle.stream_spec.specs.Layout.{bitOf, bit, tlast, size}
 use Rattle.stream_spec.specs.Walk.{Passed, Left, recordAt}
-use Rattle.stream_spec.proofs.Records.{size-pos}
+use Rattle.stream_spec.proofs.Size.{size-pos}
 use Rattle.stream_spec.proofs.Walk.{left-start, left-like, record-fits, record-octet, left-next, records-next, no-records}
 use Rattle.report_spec.specs.Report.{lasts, packetCount}
 

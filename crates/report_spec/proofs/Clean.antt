@@ -19,7 +19,8 @@ use Rattle.stream_spec.specs.Checks.{takeChecks, cycleChecks, roomCheck}
 use Rattle.stream_spec.specs.Handshake.{Finding, findings, firstFinding, transferred, handshakes, asTransfer, transferCount, harvested}
 use Rattle.stream_spec.specs.Walk.{Passed}
 use Rattle.stream_spec.specs.Answers.{verdict, judgeChecks, judgeAnswer, uncleanCheck, harvestRefusal}
-use Rattle.stream_spec.proofs.Records.{size-pos, Sized, length-joined, length-pieces, records-joined, records-sized}
+use Rattle.stream_spec.proofs.Size.{size-pos}
+use Rattle.stream_spec.proofs.Records.{Sized, length-joined, length-pieces, records-joined, records-sized}
 use Rattle.stream_spec.proofs.Harvest.{length-kept, fewer}
 use Rattle.stream_spec.proofs.Passed.{checks-passed}
 

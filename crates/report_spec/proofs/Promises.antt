@@ -28,7 +28,8 @@ use Rattle.stream_spec.specs.Legal.{Octets, Legal}
 use Rattle.refusal.proofs.First.{first-none, append-found, append-passed}
 use Rattle.stream_spec.proofs.Legal.{octets-append, octets-drop, EachOctets, pieces-octets}
 use Rattle.stream_spec.proofs.Passed.{fits-length}
-use Rattle.stream_spec.proofs.Records.{length-pieces, size-pos}
+use Rattle.stream_spec.proofs.Size.{size-pos}
+use Rattle.stream_spec.proofs.Records.{length-pieces}
 use Rattle.stream_spec.proofs.Promises.{repackingKeeps, laneKeeping, harvestLegal, harvestRepacks, packedLegal}
 use Rattle.report_setup_spec.specs.declared.Setup.{Setup}
 use Rattle.report_setup_spec.specs.declared.Mode.{Mode}

@@ -77,8 +77,5 @@ module _ (out piece : List ℕ) (to z : ℕ) (l : length piece ≡ z) (h : to + 
 -- the same where the lent part comes back as some octets of which that is told
 module _ (out piece part : List ℕ) (to k : ℕ) (h : to + length piece ≤ length out) (e : k ≡ length out - to)
     (f : part ≡ inFront piece (take k (drop to out))) where
-  pub part-long : length (take to out ++ (part ++ drop k (drop to out))) ≡ length out
-  part-long = rw f (lent-long out piece to (length piece) refl h k e)
-
   pub part-writes : Writes piece out to (take to out ++ (part ++ drop k (drop to out))) (to + length piece)
   part-writes = rw f (lent-writes out piece to (length piece) refl h k e)

@@ -14,8 +14,7 @@ use Rattle.stream_spec.specs.declared.Shape.{Shape}
 use Rattle.stream_spec.specs.Items.{Transfer, items}
 use Rattle.stream_spec.specs.Layout.{maskOf, size, atWidth, typesOf, laneType, laneOf, lanesOf, Kept, octet, position, keepBit, strbBit, laneOctet, transferOf, octetsOf, pieces, recordCount, records, joined, transfers, octets, streamItems, packedTransfers, packed}
 use Rattle.stream_spec.proofs.Bits.{bit-back, odd-mask, half-mask, two-octets}
-pub use Rattle.stream_spec.proofs.Size.{size-pos}
-use Rattle.stream_spec.proofs.Size.{length-octetsOf}
+use Rattle.stream_spec.proofs.Size.{size-pos, length-octetsOf}
 use Rattle.stream_spec.proofs.Pack.{map-append, items-append, items-pack, wide-pack, Wide}
 
 -- ---- pieces

@@ -17,8 +17,7 @@ use Rattle.stream_spec.specs.Checks.{shapeChecks, lengthCheck, transferC
 use Rattle.stream_spec.specs.Answers.{written, repackRefusal, repackAnswer, repackAfter}
 use Rattle.stream_spec.specs.Demand3.{Call, answerTo, accepted, resultOf}
 use Rattle.refusal.proofs.First.{first-none, none-first, append-none, none-append}
-pub use Rattle.stream_spec.proofs.Passed.{WidthFits, width-fits, fits-width, length-fits}
-use Rattle.stream_spec.proofs.Passed.{ShapeFits, shapes-fit, fits-shapes}
+use Rattle.stream_spec.proofs.Passed.{WidthFits, ShapeFits, shapes-fit, fits-shapes, length-fits}
 use Rattle.stream_spec.proofs.Records.{length-packed}
 
 -- the input that a repacking call accepts

@@ -1,7 +1,6 @@
 -- Walking over a take record by record: a walk's start, the record at `at` with what is left behind it, and a walk's end.
 -- Assumes nothing.
 use mathlib.Core.Path.{_≡_, refl, sym, ap, ap₂, _∙_, subst}
-use mathlib.Core.Bool.{false}
 use mathlib.Core.List.{List, [], _∷_}
 use Prim.Native.Nat.{ℕ, suc, _+_, _-_, _/_, _%_, _≤_, _<_}
 use native.Mathlib.Nat.{zero-div, add-div-right}
@@ -10,18 +9,11 @@ use lib.ListN.{length, getD, take, drop, length-drop, drop-of-length-le}
 use lib.Seq.{drop-drop, length-take-le, getD-take, getD-drop}
 use Rattle.stream_spec.specs.declared.Shape.{Shape}
 use Rattle.stream_spec.specs.Layout.{size, recordCount, records}
-use Rattle.stream_spec.specs.Checks.{widthCheck, lengthCheck}
-use Rattle.stream_spec.specs.Walk.{Passed, Left, recordAt}
+use Rattle.stream_spec.specs.Walk.{Left, recordAt}
 use Rattle.stream_spec.proofs.Size.{size-pos}
 use Rattle.stream_spec.proofs.Records.{FirstRecord, first-record, length-pieces}
-pub use Rattle.stream_spec.proofs.Passed.{checks-passed}
-use Rattle.stream_spec.proofs.Passed.{width-fits, take-passed}
 
 -- ---- the start
-
--- what the tests let through
-pub passed : (s : Shape) (xs : List ℕ) → widthCheck (s .width) .found ≡ false → lengthCheck s xs .found ≡ false → Passed s xs
-passed s xs w l = let f = width-fits (s .width) w in take-passed s xs (record { low = f .low; high = f .high }) l
 
 -- a take of whole records is left from octet 0 on
 pub left-start : (s : Shape) (xs : List ℕ) → length xs % size s ≡ 0 → Left s xs 0

@@ -7,7 +7,7 @@ use borrow.Author.Needs.{needs}
 use lib.ListN.{length}
 use Rattle.stream_spec.specs.declared.Shape.{Shape}
 use Rattle.stream_spec.specs.Layout.{size as sizeOf}
-use Rattle.stream_spec.proofs.Records.{size-pos}
+use Rattle.stream_spec.proofs.Size.{size-pos}
 use Rattle.report_call.proofs.Packets.{Counting, counting-start, next-within, again, counted}
 use Rattle.report_call.proofs.outcome.packets.Statement.{statement}
 use Rattle.report_call.proofs.outcome.packets.Tie as tie
