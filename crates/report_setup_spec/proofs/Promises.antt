@@ -74,8 +74,8 @@ only-by (x ∷ []) n e = one-only x n (some-taken (isDigit x) (x - 48) n e)
 only-by (x ∷ y ∷ []) n e = two-only x y n (some-taken (not (eqb x 48) && (isDigit x && isDigit y)) (10 * (x - 48) + (y - 48)) n e)
 only-by (x ∷ y ∷ z ∷ zs) n e = let z : _≡_ {A = ℕ} 0 1 = cc in absurd (omega arith)
 
-pub numbers-exactly : NumbersExactly
-numbers-exactly = record { each = λ n h. each-by n (ltb n 10) refl h; only = only-by }
+pub numbersExactly : NumbersExactly
+numbersExactly = record { each = λ n h. each-by n (ltb n 10) refl h; only = only-by }
 
 -- ---- a line that is read
 
@@ -313,5 +313,5 @@ unfolding sheetOf
 sheets-each u h k =
     rw (number-each (text "width_in=") (lineText (text "width_out=") (numeral (u .«width_out»)) (lineText (text "mode=") (modeWord (u .mode)) (lineText (text "tlast=") (tlastWord (u .tlast)) []))) (u .«width_in») refl h, number-each (text "width_out=") (lineText (text "mode=") (modeWord (u .mode)) (lineText (text "tlast=") (tlastWord (u .tlast)) [])) (u .«width_out») refl k, mode-each (lineText (text "tlast=") (tlastWord (u .tlast)) []) (u .mode), tlast-each [] (u .tlast))
 
-pub sheets-exactly : SheetsExactly
-sheets-exactly = record { each = sheets-each; only = sheets-only }
+pub sheetsExactly : SheetsExactly
+sheetsExactly = record { each = sheets-each; only = sheets-only }

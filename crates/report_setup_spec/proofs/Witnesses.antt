@@ -12,22 +12,22 @@ use Rattle.report_setup_spec.specs.declared.Tlast.the-variants.{Wired, A
 use Rattle.report_setup_spec.specs.declared.Setup.{Setup}
 use Rattle.report_setup_spec.specs.declared.Sheet.the-variants.{Read}
 use Rattle.report_setup_spec.specs.Grammar.{text, number, sheetOf}
-use Rattle.report_setup_spec.proofs.Promises.{numbers-exactly, sheets-exactly}
+use Rattle.report_setup_spec.proofs.Promises.{numbersExactly, sheetsExactly}
 
 -- ---- numbers
 
 pub least : number (text "0") ≡ some 0
-least = numbers-exactly .each 0 (omega arith)
+least = numbersExactly .each 0 (omega arith)
 
 pub greatest : number (text "99") ≡ some 99
-greatest = numbers-exactly .each 99 (omega arith)
+greatest = numbersExactly .each 99 (omega arith)
 
 -- whatever is read is at most 99, and spelt in one way
 pub at-most : (value : List ℕ) (n : ℕ) → number value ≡ some n → n ≤ 99
-at-most value n e = numbers-exactly .only value n e .0
+at-most value n e = numbersExactly .only value n e .0
 
 pub one-way : (v w : List ℕ) (n : ℕ) → number v ≡ some n → number w ≡ some n → v ≡ w
-one-way v w n e f = numbers-exactly .only v n e .1 ∙ sym (numbers-exactly .only w n f .1)
+one-way v w n e f = numbersExactly .only v n e .1 ∙ sym (numbersExactly .only w n f .1)
 
 -- ---- sheets
 
@@ -35,14 +35,14 @@ abbrev setup : ℕ → ℕ → Mode → Tlast → Setup
 setup a b m t = record { «width_in» = a; «width_out» = b; mode = m; tlast = t }
 
 pub low-high : sheetOf (text "width_in=0\nwidth_out=99\nmode=pack\ntlast=wired\n") ≡ Read (setup 0 99 Pack Wired)
-low-high = sheets-exactly .each (setup 0 99 Pack Wired) (omega arith) (omega arith)
+low-high = sheetsExactly .each (setup 0 99 Pack Wired) (omega arith) (omega arith)
 
 pub high-low : sheetOf (text "width_in=99\nwidth_out=0\nmode=lanes\ntlast=none\n") ≡ Read (setup 99 0 Lanes Absent)
-high-low = sheets-exactly .each (setup 99 0 Lanes Absent) (omega arith) (omega arith)
+high-low = sheetsExactly .each (setup 99 0 Lanes Absent) (omega arith) (omega arith)
 
 -- whatever is read has widths of at most 99, and two sheets that say the same are the same octets
 pub widths : (xs : List ℕ) (u : Setup) → sheetOf xs ≡ Read u → (u .«width_in» ≤ 99) × (u .«width_out» ≤ 99)
-widths xs u e = let p = sheets-exactly .only xs u e in (p .0, p .1)
+widths xs u e = let p = sheetsExactly .only xs u e in (p .0, p .1)
 
 pub one-sheet : (xs ys : List ℕ) (u : Setup) → sheetOf xs ≡ Read u → sheetOf ys ≡ Read u → xs ≡ ys
-one-sheet xs ys u e f = sheets-exactly .only xs u e .2 ∙ sym (sheets-exactly .only ys u f .2)
+one-sheet xs ys u e f = sheetsExactly .only xs u e .2 ∙ sym (sheetsExactly .only ys u f .2)
