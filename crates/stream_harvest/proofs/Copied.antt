@@ -4,14 +4,15 @@ use mathlib.Core.List.{List, [], _∷_, _++_}
 use Prim.Native.Nat.{ℕ, zero, suc, _+_, _-_, _%_, _≤_, _<_}
 use native.Mathlib.Omega.{arith}
 use lib.ListN.{length, getD, take, drop, set, length-set, length-drop}
-use lib.Seq.{take-all, take-add, length-take-le, drop-drop}
+use lib.Seq.{take-all, take-add, take-take, length-take-le, drop-drop}
 use Rattle.stream_spec.specs.Handshake.{asTransfer}
 use Rattle.stream_spec.specs.Memory.{inFront}
 use Rattle.stream_spec.proofs.Bits.{low-number}
 use Rattle.stream_spec.proofs.Harvest.{length-kept}
 use Rattle.words.specs.Splice.{splice}
-use Rattle.words.specs.Words.{padded}
-use Rattle.words.proofs.Splice.{splice-long, splice-splice}
+use Rattle.words.specs.Words.{wordAt, octetsOfWord, padded}
+use Rattle.words.proofs.Words.{word-octets}
+use Rattle.words.proofs.Splice.{splice-long, splice-over}
 
 pub same-length : (rec : List ℕ) → 0 < length rec → length (asTransfer rec) ≡ length rec
 same-length rec h = length-kept (length rec) rec h refl
@@ -33,6 +34,10 @@ part-long i rec = rw (part-all i rec) (length-drop i rec)
 pub group-is : (n i : ℕ) (rec : List ℕ) → i + n ≤ length rec → padded n n (take (length rec - i) (drop i rec)) ≡ take n (drop i rec)
 group-is n i rec h = rw (part-all i rec) (padded-take n (drop i rec) (omega (arith, length-drop i rec)))
 
+-- eight octets as one word
+pub word-is : (i : ℕ) (rec : List ℕ) → ((j : ℕ) → getD rec j 0 < 256) → i + 8 ≤ length rec → octetsOfWord 8 (wordAt 8 rec i) ≡ take 8 (drop i rec)
+word-is i rec octets h = word-octets 8 rec i octets ∙ padded-take 8 (drop i rec) (omega (arith, length-drop i rec))
+
 -- ---- the record, group by group
 
 -- octet 0 and j octets behind it stand in the output
@@ -48,17 +53,18 @@ module _ (rec out : List ℕ) (room : length rec ≤ length out) where
       splice-long 1 (take j (drop 1 rec)) (set out 0 (getD rec 0 0 % 2)) (omega (arith, group-long j 1 h, length-set out 0 (getD rec 0 0 % 2)))
       ∙ length-set out 0 (getD rec 0 0 % 2)
 
-  -- n octets more
-  pub copied-more : (j n : ℕ) → 1 + j + n ≤ length rec → splice (1 + j) (take n (drop (1 + j) rec)) (copied rec out j) ≡ copied rec out (j + n)
-  copied-more j n h =
+  -- n octets more, from behind octet a on: those that stand there already are written once more
+  pub copied-over : (a j n : ℕ) → a ≤ j → j ≤ a + n → 1 + (a + n) ≤ length rec
+      → splice (1 + a) (take n (drop (1 + a) rec)) (copied rec out j) ≡ copied rec out (a + n)
+  copied-over a j n h k room' =
       let zeroth = set out 0 (getD rec 0 0 % 2) in
-      let long : length (take j (drop 1 rec)) ≡ j = group-long j 1 (omega arith) in
-      let fits : 1 + length (take j (drop 1 rec)) + length (take n (drop (1 + j) rec)) ≤ length (set out 0 (getD rec 0 0 % 2)) =
-      omega (arith, long, group-long n (1 + j) h, length-set out 0 (getD rec 0 0 % 2)) in
-      let behind : take n (drop (1 + j) rec) ≡ take n (drop j (drop 1 rec)) = ap (take n) (sym (drop-drop j 1 rec)) in
-      ap (λ (i : ℕ). splice (1 + i) (take n (drop (1 + j) rec)) (copied rec out j)) (sym long)
-      ∙ splice-splice 1 (take j (drop 1 rec)) (take n (drop (1 + j) rec)) zeroth fits
-      ∙ ap (λ (xs : List ℕ). splice 1 xs (set out 0 (getD rec 0 0 % 2))) (ap (λ (xs : List ℕ). take j (drop 1 rec) ++ xs) behind ∙ sym (take-add j n (drop 1 rec)))
+      let there : length (take j (drop 1 rec)) ≡ j = group-long j 1 (omega arith) in
+      let more : length (take n (drop (1 + a) rec)) ≡ n = group-long n (1 + a) (omega arith) in
+      let behind : take n (drop (1 + a) rec) ≡ take n (drop a (drop 1 rec)) = ap (take n) (sym (drop-drop a 1 rec)) in
+      splice-over 1 a (take j (drop 1 rec)) (take n (drop (1 + a) rec)) (set out 0 (getD rec 0 0 % 2)) (omega (arith, there)) (omega (arith, there, more))
+      (omega (arith, more, length-set out 0 (getD rec 0 0 % 2)))
+      ∙ ap (λ (xs : List ℕ). splice 1 xs (set out 0 (getD rec 0 0 % 2)))
+      (ap₂ (λ (xs ys : List ℕ). xs ++ ys) (take-take a j (drop 1 rec) h) behind ∙ sym (take-add a n (drop 1 rec)))
 
   -- all of them
   pub copied-all : (j : ℕ) → 1 + j ≡ length rec → copied rec out j ≡ inFront (asTransfer rec) out

@@ -18,13 +18,6 @@ pub record RecordFits (rec out : List ℕ) : Type 0 where
   pub high : length rec ≤ groupedMost
   pub room : length rec ≤ length out
 
--- n octets from octet `at` on, of a record and of the output
-pub record PartFits (rec out : List ℕ) (at n : ℕ) : Type 0 where
-  pub low : 1 ≤ n
-  pub high : n ≤ 16
-  pub inside : at + n ≤ length rec
-  pub room : at + n ≤ length out
-
 -- the octets that a cycle adds: a transfer record, or none
 abbrev pub added : List ℕ → List ℕ
 added c = cond (transferred c) (asTransfer c) []

@@ -8,39 +8,41 @@ use stream_spec::Shape;
 use stream_spec::Verdict;
 use stream_spec::Written;
 ghost use mathlib.Core.Path.{_≡_};
-ghost use lib.ListN.{take, drop};
-ghost use Rattle.words.specs.Splice.{splice};
+ghost use Prim.Native.Nat.{_+_, _≤_, _<_};
+ghost use Rattle.stream_spec.specs.Layout.{sizeLeast};
 ghost use Rattle.stream_spec.specs.Handshake.{asTransfer, harvested};
 ghost use Rattle.stream_spec.specs.Memory.{inFront};
 ghost use Rattle.stream_spec.specs.Answers.{Harvested};
-ghost use Rattle.stream_harvest.specs.Filling.{RecordFits, PartFits, CycleFits, CyclePut, TakeFits};
+ghost use Rattle.stream_harvest.specs.Filling.{RecordFits, CycleFits, CyclePut, TakeFits};
 
-// Copies n octets of the record, from octet `at` on, to the same places of `out`.
-fn copy(rec: &[u8], out: &mut [u8], at: usize, n: usize)
-    requires { ⌜ PartFits (now rec) (now out) at n ⌝ }
-    ensures { λ _. ⌜ now (out .exit) ≡ splice at (take n (drop at (now (rec .entry)))) (now (out .entry)) ⌝ }
+// How many octets behind the eighth are moved in one group: all of them, but sixteen at most.
+fn grouped(n: usize) -> usize
+    requires { ⌜ sizeLeast < n ⌝ }
+    ensures { λ r. ⌜ (1 ≤ r) × (r ≤ 16) × (8 + r ≤ n) × (n ≤ 24 → 8 + r ≡ n) × (24 < n → r ≡ 16) ⌝ }
 {
-    words::place(out, at, &rec[at..], n, n);
+    if n <= 24 {
+        return n - 8;
+    }
+    16
 }
 
 // Writes the cycle record `rec` as a transfer record at the front of `out`: octet 0 has TLAST alone, and the others are
-// as sampled, moved in groups of up to sixteen.
+// as sampled, moved in groups. Of a record longer than 24 octets the last group overlaps the one before it.
 fn put_transfer(rec: &[u8], out: &mut [u8])
     requires { ⌜ RecordFits (now rec) (now out) ⌝ }
     ensures { λ _. ⌜ now (out .exit) ≡ inFront (asTransfer (now (rec .entry))) (now (out .entry)) ⌝ }
 {
     let n = rec.len();
     out[FLAGS] = rec[FLAGS] % 2;
-    copy(rec, out, TID, 7);
+    words::place(out, TID, &rec[TID..], 7, 7);
     if n == SIZE_LEAST {
         return;
     }
-    if n <= 24 {
-        copy(rec, out, 8, n - 8);
-        return;
+    let more = grouped(n);
+    words::place(out, 8, &rec[8..], more, more);
+    if 24 < n {
+        words::store8(out, n - 8, words::load8(rec, n - 8));
     }
-    copy(rec, out, 8, 16);
-    copy(rec, out, 24, n - 24);
 }
 
 // Writes the record of one cycle at the front of `out`, if it is a transfer, and answers how many octets it wrote.

@@ -1,12 +1,12 @@
 -- `stream_harvest::put_transfer` meets its contract: octet 0, then the others in up to three groups. Assumes nothing.
 use mathlib.Core.Path.{_≡_, ap, _∙_}
 use mathlib.Core.List.{List}
-use Prim.Native.Nat.{ℕ, _+_, _-_, _%_}
+use Prim.Native.Nat.{ℕ, _+_, _-_, _%_, _<_}
 use native.Mathlib.Omega.{arith}
-use lib.ListN.{length, getD, take, drop, length-set}
+use lib.ListN.{length, getD, take, drop, set, length-set}
 use Rattle.words.specs.Splice.{splice}
-use Rattle.stream_harvest.specs.Filling.{PartFits}
-use Rattle.stream_harvest.proofs.Copied.{copied, copied-long, copied-more, copied-all}
+use Rattle.words.specs.Words.{octetsOfWord}
+use Rattle.stream_harvest.proofs.Copied.{part-long, group-is, word-is, copied, copied-long, copied-over, copied-all}
 use borrow.Author.Needs.{needs}
 use Rattle.stream_harvest.proofs.put_transfer.Statement.{statement}
 use Rattle.stream_harvest.proofs.put_transfer.Tie as tie
@@ -19,57 +19,75 @@ rec e = e .args .rec .now
 abbrev out : tie.Start → List ℕ
 out e = e .args .out .now
 
-abbrev entry : tie.After-copy → tie.Start
-entry c = c .before .before .before .before .before
+-- octet 0 alone
+abbrev zeroth : tie.Start → List ℕ
+zeroth e = set (out e) 0 (getD (rec e) 0 0 % 2)
 
-one : (c : tie.After-copy) → c .copy .last .1 .0 ≡ copied (rec (entry c)) (out (entry c)) 7
-one c = c .copy .ensures
+abbrev entry : tie.After-place → tie.Start
+entry c = c .before .before .before .before .before .before
 
--- one group is not all
-abbrev short : tie.Else1 → tie.Start
-short c = entry (c .before .before .before)
+octets : (c : tie.After-place) (j : ℕ) → getD (rec (entry c)) j 0 < 256
+octets c j = let known = c .before .before .before .before .before .shared-slice-known .given j in omega (arith, known)
 
-one-short : (c : tie.Else1) → c .before .before .before .copy .last .1 .0 ≡ copied (rec (short c)) (out (short c)) 7
-one-short c = one (c .before .before .before)
+one : (c : tie.After-place) → c .place .last .0 ≡ copied (rec (entry c)) (out (entry c)) 7
+one c =
+    let e = entry c in
+    c .place .ensures ∙ ap (λ (xs : List ℕ). splice 1 xs (zeroth e)) (group-is 7 1 (rec e) (omega (arith, e .pre .low)))
 
--- two groups
-abbrev two-entry : tie.After-copy2 → tie.Start
-two-entry c = short (c .before .before .before)
+one-long : (c : tie.After-place) → length (c .place .last .0) ≡ length (out (entry c))
+one-long c = let e = entry c in ap length (one c) ∙ copied-long (rec e) (out e) (e .pre .room) 7 (omega (arith, e .pre .low))
 
-two : (c : tie.After-copy2) → c .copy2 .last .1 .0 ≡ copied (rec (two-entry c)) (out (two-entry c)) (7 + (length (rec (two-entry c)) - 8))
+-- one group is not all: m octets more
+abbrev after-one : tie.After-grouped → tie.After-place
+after-one c = c .before .before .before .before
+
+abbrev after-grouped : tie.After-place2 → tie.After-grouped
+after-grouped c = c .before .before .before
+
+abbrev start : tie.After-place2 → tie.Start
+start c = entry (after-one (after-grouped c))
+
+two : (c : tie.After-place2) → c .place2 .last .0 ≡ copied (rec (start c)) (out (start c)) (7 + after-grouped c .grouped .result)
 two c =
-    let e = two-entry c in
-    let n = length (rec e) - 8 in
-    c .copy2 .ensures
-    ∙ ap (splice 8 (take (length (rec e) - 8) (drop 8 (rec e)))) (one-short (c .before .before .before))
-    ∙ copied-more (rec e) (out e) (e .pre .room) 7 n (omega (arith, e .pre .low))
+    let g = after-grouped c in
+    let e = start c in
+    let m = g .grouped .result in
+    let fits = g .grouped .ensures .2 in
+    c .place2 .ensures
+    ∙ ap (λ (xs : List ℕ). splice 8 xs (after-one g .place .last .0)) (group-is m 8 (rec e) (omega (arith, fits)))
+    ∙ ap (splice 8 (take (g .grouped .result) (drop 8 (rec e)))) (one (after-one g))
+    ∙ copied-over (rec e) (out e) (e .pre .room) 7 7 m (omega arith) (omega arith) (omega (arith, fits))
 
--- the first two of three
-abbrev three-entry : tie.After-copy3 → tie.Start
-three-entry c = short (c .before .before .before)
+two-long : (c : tie.After-place2) → length (c .place2 .last .0) ≡ length (out (start c))
+two-long c =
+    let e = start c in
+    let m = after-grouped c .grouped .result in
+    ap length (two c) ∙ copied-long (rec e) (out e) (e .pre .room) (7 + m) (omega (arith, after-grouped c .grouped .ensures .2))
 
-two-of-three : (c : tie.After-copy3) → c .copy3 .last .1 .0 ≡ copied (rec (three-entry c)) (out (three-entry c)) 23
-two-of-three c =
-    let e = three-entry c in
-    c .copy3 .ensures
-    ∙ ap (splice 8 (take 16 (drop 8 (rec e)))) (one-short (c .before .before .before))
-    ∙ copied-more (rec e) (out e) (e .pre .room) 7 16 (omega (arith, c .before .before .if2 .left))
+-- and the last eight, over the end of those
+abbrev after-two : tie.After-load8 → tie.After-place2
+after-two c = c .before .before .before .before .before
 
--- and the third
-abbrev longest : tie.After-copy-arg4 → tie.After-copy3
-longest c = c .before .before .before
+abbrev long-start : tie.After-store8 → tie.Start
+long-start c = start (after-two (c .before))
 
-abbrev longest-entry : tie.After-copy4 → tie.Start
-longest-entry c = three-entry (longest (c .before))
+over : (c : tie.After-load8) → 24 < length (rec (start (after-two c)))
+over c = c .before .before .if2 .taken
 
-three : (c : tie.After-copy4) → c .copy4 .last .1 .0 ≡ copied (rec (longest-entry c)) (out (longest-entry c)) (23 + (length (rec (longest-entry c)) - 24))
+three : (c : tie.After-store8) → c .store8 .last .0 ≡ copied (rec (long-start c)) (out (long-start c)) (length (rec (long-start c)) - 9 + 8)
 three c =
-    let e = longest-entry c in
-    let n = length (rec e) - 24 in
-    let long = longest (c .before) .before .before .if2 .left in
-    c .copy4 .ensures
-    ∙ ap (splice 24 (take (length (rec e) - 24) (drop 24 (rec e)))) (two-of-three (longest (c .before)))
-    ∙ copied-more (rec e) (out e) (e .pre .room) 23 n (omega (arith, long))
+    let l = c .before in
+    let p = after-two l in
+    let e = long-start c in
+    let from = length (rec e) - 8 in
+    let all : 7 + after-grouped p .grouped .result ≡ 23 = omega (arith, after-grouped p .grouped .ensures .4 (over l)) in
+    let place : length (rec e) - 8 ≡ 1 + (length (rec e) - 9) = omega (arith, over l) in
+    c .store8 .ensures
+    ∙ ap (λ (x : ℕ). splice (length (rec e) - 8) (octetsOfWord 8 x) (p .place2 .last .0)) (l .load8 .ensures)
+    ∙ ap (λ (xs : List ℕ). splice (length (rec e) - 8) xs (p .place2 .last .0)) (word-is from (rec e) (octets (after-one (after-grouped p))) (omega (arith, over l)))
+    ∙ ap (splice (length (rec e) - 8) (take 8 (drop (length (rec e) - 8) (rec e)))) (two p ∙ ap (copied (rec e) (out e)) all)
+    ∙ ap (λ (i : ℕ). splice i (take 8 (drop i (rec e))) (copied (rec e) (out e) 23)) place
+    ∙ copied-over (rec e) (out e) (e .pre .room) (length (rec e) - 9) 23 8 (omega (arith, e .pre .high)) (omega (arith, over l)) (omega (arith, over l))
 
 -- ---- the needs
 
@@ -79,85 +97,91 @@ shared-slice-read-out c = search needs
 slice-write-out : tie.Need-slice-write-out
 slice-write-out c = search needs
 
-copy-requires : tie.Need-copy-requires
-copy-requires c κs =
-    let e = c .before .before .before .before in
-    let long = length-set (out e) 0 (getD (rec e) 0 0 % 2) in
-    record { low = omega arith; high = omega arith; inside = omega (arith, e .pre .low); room = omega (arith, long, e .pre .low, e .pre .room) }
+sub-place : tie.Need-sub-place
+sub-place c = search needs
+
+part-place-start : tie.Need-part-place-start
+part-place-start c = search needs
+
+part-place-end : tie.Need-part-place-end
+part-place-end c = search needs
+
+place-requires : tie.Need-place-requires
+place-requires c κs =
+    let e = c .before .before .before .before .before in (
+      omega arith,
+      omega arith,
+      omega arith,
+      omega (arith, part-long 1 (rec e), e .pre .low),
+      omega (arith, length-set (out e) 0 (getD (rec e) 0 0 % 2), e .pre .low, e .pre .room),
+    )
 
 same-length : tie.Need-same-length
-same-length c =
-    let e = entry (c .before .before .before) in
-    ap length (one (c .before .before .before)) ∙ copied-long (rec e) (out e) (e .pre .room) 7 (omega (arith, e .pre .low))
+same-length c = one-long (c .before .before .before)
 
 returns : tie.Need-returns
 returns c =
-    let e = entry (c .before .before .before) in
-    one (c .before .before .before) ∙ copied-all (rec e) (out e) (e .pre .room) 7 (omega (arith, c .if1 .taken))
+    let d = c .before .before .before in
+    let e = entry d in
+    one d ∙ copied-all (rec e) (out e) (e .pre .room) 7 (omega (arith, c .if1 .taken))
 
-sub-copy : tie.Need-sub-copy
-sub-copy c = let e = short (c .before .before) in omega (arith, e .pre .low)
+grouped-requires : tie.Need-grouped-requires
+grouped-requires c κs = let e = entry (c .before .before .before) in omega (arith, e .pre .low, c .if1 .left)
 
-copy-requires-2 : tie.Need-copy-requires-2
-copy-requires-2 c κs =
-    let s = c .before .before in
-    let e = short s in
-    let long = ap length (one-short s) ∙ copied-long (rec e) (out e) (e .pre .room) 7 (omega (arith, e .pre .low)) in
-    record {
-      low = omega (arith, e .pre .low, s .if1 .left);
-      high = omega (arith, c .before .if2 .taken);
-      inside = omega (arith, e .pre .low);
-      room = omega (arith, long, e .pre .low, e .pre .room);
-    }
+sub-place-2 : tie.Need-sub-place-2
+sub-place-2 c = let e = entry (after-one (c .before)) in omega (arith, e .pre .low)
+
+part-place-start-2 : tie.Need-part-place-start-2
+part-place-start-2 c = let e = entry (after-one (c .before)) in omega (arith, e .pre .low)
+
+part-place-end-2 : tie.Need-part-place-end-2
+part-place-end-2 c = search needs
+
+place-requires-2 : tie.Need-place-requires-2
+place-requires-2 c κs =
+    let g = c .before .before in
+    let e = entry (after-one g) in
+    let more = g .grouped .ensures in (
+      more .0,
+      more .1,
+      omega arith,
+      omega (arith, part-long 8 (rec e), more .2),
+      omega (arith, more .2, one-long (after-one g), e .pre .room),
+    )
+
+sub-store8 : tie.Need-sub-store8
+sub-store8 c = let n = c .before .if2 .taken in omega (arith, n)
+
+sub-load8 : tie.Need-sub-load8
+sub-load8 c = let n = c .before .if2 .taken in omega (arith, n)
+
+load8-requires : tie.Need-load8-requires
+load8-requires c κs = let n = c .before .if2 .taken in omega (arith, n)
+
+store8-requires : tie.Need-store8-requires
+store8-requires c κs = let e = start (after-two c) in omega (arith, over c, two-long (after-two c), e .pre .room)
 
 same-length-2 : tie.Need-same-length-2
 same-length-2 c =
     let d = c .before .before in
-    let e = two-entry d in
-    ap length (two d) ∙ copied-long (rec e) (out e) (e .pre .room) (7 + (length (rec e) - 8)) (omega (arith, e .pre .low))
+    let e = long-start d in
+    ap length (three d) ∙ copied-long (rec e) (out e) (e .pre .room) (length (rec e) - 9 + 8) (omega (arith, over (d .before)))
 
 returns-2 : tie.Need-returns-2
 returns-2 c =
     let d = c .before .before in
-    let e = two-entry d in
-    two d ∙ copied-all (rec e) (out e) (e .pre .room) (7 + (length (rec e) - 8)) (omega (arith, e .pre .low))
-
-copy-requires-3 : tie.Need-copy-requires-3
-copy-requires-3 c κs =
-    let s = c .before .before in
-    let e = short s in
-    let long = ap length (one-short s) ∙ copied-long (rec e) (out e) (e .pre .room) 7 (omega (arith, e .pre .low)) in
-    record { low = omega arith; high = omega arith; inside = omega (arith, c .before .if2 .left); room = omega (arith, long, c .before .if2 .left, e .pre .room) }
-
-sub-copy-2 : tie.Need-sub-copy-2
-sub-copy-2 c = omega (arith, longest c .before .before .if2 .left)
-
-copy-requires-4 : tie.Need-copy-requires-4
-copy-requires-4 c κs =
-    let d = longest c in
-    let e = three-entry d in
-    let over = d .before .before .if2 .left in
-    let long = ap length (two-of-three d) ∙ copied-long (rec e) (out e) (e .pre .room) 23 (omega (arith, over)) in
-    record {
-      low = omega (arith, over);
-      high = omega (arith, e .pre .high);
-      inside = omega (arith, over);
-      room = omega (arith, long, over, e .pre .room);
-    }
+    let e = long-start d in
+    three d ∙ copied-all (rec e) (out e) (e .pre .room) (length (rec e) - 9 + 8) (omega (arith, over (d .before)))
 
 same-length-3 : tie.Need-same-length-3
-same-length-3 c =
-    let d = c .before .before in
-    let e = longest-entry d in
-    let over = longest (d .before) .before .before .if2 .left in
-    ap length (three d) ∙ copied-long (rec e) (out e) (e .pre .room) (23 + (length (rec e) - 24)) (omega (arith, over))
+same-length-3 c = two-long (c .before .before .before)
 
 returns-3 : tie.Need-returns-3
 returns-3 c =
-    let d = c .before .before in
-    let e = longest-entry d in
-    let over = longest (d .before) .before .before .if2 .left in
-    three d ∙ copied-all (rec e) (out e) (e .pre .room) (23 + (length (rec e) - 24)) (omega (arith, over))
+    let d = c .before .before .before in
+    let e = start d in
+    let m = after-grouped d .grouped .result in
+    two d ∙ copied-all (rec e) (out e) (e .pre .room) (7 + m) (omega (arith, after-grouped d .grouped .ensures .3 (omega (arith, c .if2 .left))))
 
 pub put-transfer-spec : {M : Type 1} → statement M
 put-transfer-spec =
@@ -165,15 +189,22 @@ put-transfer-spec =
     (tie.spec
     shared-slice-read-out
     slice-write-out
-    copy-requires
+    sub-place
+    part-place-start
+    part-place-end
+    place-requires
     same-length
     returns
-    sub-copy
-    copy-requires-2
+    grouped-requires
+    sub-place-2
+    part-place-start-2
+    part-place-end-2
+    place-requires-2
+    sub-store8
+    sub-load8
+    load8-requires
+    store8-requires
     same-length-2
     returns-2
-    copy-requires-3
-    sub-copy-2
-    copy-requires-4
     same-length-3
     returns-3)
