@@ -17,7 +17,8 @@ use Rattle.stream_spec.specs.Handshake.{transferCount, harvested}
 use Rattle.stream_spec.specs.Walk.{Passed}
 use Rattle.stream_spec.specs.Memory.{inFront}
 use Rattle.stream_spec.specs.Answers.{lentAfter, judgeAnswer, harvestRefusal, harvestAfter, Harvested}
-use Rattle.report_spec.proofs.Clean.{harvested-long, harvested-short, clean-count, clean-passed, clean-harvested}
+use Rattle.stream_spec.proofs.Harvest.{harvested-long, harvested-short}
+use Rattle.stream_spec.proofs.Clean.{clean-count, clean-passed, clean-harvested}
 
 -- the code has the shape in t, and a record's size in z
 module _ (s : Shape) (xs : List ℕ) (n : ℕ) (clean : judgeAnswer s xs ≡ Clean n) (t : Shape) (same : t ≡ s) where

@@ -1,7 +1,6 @@
--- Laws of the report: a sheet whose numbers pass, a clean take, conversion in either mode, packet ends, short texts; what is
+-- Laws of the report: a sheet whose numbers pass, conversion in either mode, packet ends, short texts; what is
 -- promised; its worked cases; and what shows that contract and promises say something.
 pub mod Passes
-pub mod Clean
 pub mod Convert
 pub mod Ends
 pub mod Short

@@ -7,9 +7,9 @@ use mathlib.Core.Option.{Option, none, some}
 use Prim.Native.Nat.{ℕ, suc, _*_, _/_, _%_, _≤_}
 use native.Mathlib.Nat.{le-trans, mul-div-cancel}
 use native.Mathlib.Omega.{arith}
-use borrow.Author.Tests.{le-ltb, eq-eqb, eqb-true, eqb-false, not-false}
+use borrow.Author.Tests.{eqb-true, eqb-false, not-false}
 use lib.Dec.{eqb, ltb}
-use lib.ListN.{length, replicate, length-replicate}
+use lib.ListN.{length}
 use Rattle.refusal.specs.Code.{codeOf}
 use Rattle.refusal.specs.declared.Refusal.{Refusal}
 use Rattle.refusal.specs.declared.Refusal.the-variants.{Length, Room, Setup as BadSheet}
@@ -30,6 +30,8 @@ use Rattle.stream_spec.proofs.Legal.{octets-append, octets-drop, EachOctets, pi
 use Rattle.stream_spec.proofs.Passed.{fits-length}
 use Rattle.stream_spec.proofs.Size.{size-pos}
 use Rattle.stream_spec.proofs.Records.{length-pieces}
+use Rattle.stream_spec.proofs.Harvest.{harvested-count}
+use Rattle.stream_spec.proofs.Clean.{clean-count, clean-passed, clean-harvested}
 use Rattle.stream_spec.proofs.Promises.{repackingKeeps, laneKeeping, harvestLegal, harvestRepacks, packedLegal}
 use Rattle.report_setup_spec.specs.declared.Setup.{Setup}
 use Rattle.report_setup_spec.specs.declared.Mode.{Mode}
@@ -45,7 +47,6 @@ use Rattle.report_spec.specs.Report.{Outcome, shapeOf, outShape, prepare
 use Rattle.report_spec.specs.Promises.{OctetsOf, ReportsSetup, isClean, OnlyWhenClean, CleanTally, CleanTallies, mayShow, RefusalsShown, NeverReservedNorUnclean, PackNeverRatio, orderedChecks, convertedOf, tallyOf, inOrder, ReportInOrder, TextShort}
 use Rattle.report_spec.proofs.Passes.{sound-in, sound-out, sound-ratio, fits-out}
 use Rattle.report_spec.proofs.Convert.{convertRefusal, convertCount, answer-is, result-long, result-fits, not-written, IsWritten, is-written}
-use Rattle.report_spec.proofs.Clean.{harvested-count, clean-count, clean-passed, clean-harvested}
 use Rattle.report_spec.proofs.Ends.{same-ends}
 use Rattle.report_spec.proofs.Short.{two-short, three-short}
 

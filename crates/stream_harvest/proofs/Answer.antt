@@ -5,10 +5,9 @@ use mathlib.Core.Bool.{Bool, true, false}
 use mathlib.Core.List.{List, [], _∷_, _++_, map}
 use mathlib.Core.Option.{Option, none, some}
 use Prim.Native.Nat.{ℕ, _*_, _≤_, _<_}
-use native.Mathlib.Nat.{mul-le-mul-right, div-mul-le-self}
 use native.Mathlib.Omega.{arith}
 use borrow.Author.Tests.{lt-ltb, le-ltb}
-use lib.ListN.{length, length-map}
+use lib.ListN.{length}
 use Rattle.refusal.specs.declared.Refusal.{Refusal}
 use Rattle.refusal.specs.declared.Refusal.the-variants.{Unclean, Room}
 use Rattle.stream_spec.specs.declared.Shape.{Shape}
@@ -16,18 +15,15 @@ use Rattle.stream_spec.specs.declared.Verdict.{Verdict}
 use Rattle.stream_spec.specs.declared.Verdict.the-variants.{Clean, Broken, Refused}
 use Rattle.stream_spec.specs.declared.Written.{Written}
 use Rattle.stream_spec.specs.declared.Written.the-variants.{Records, Refused as NotWritten}
-use Rattle.stream_spec.specs.Layout.{widthMost, size, records, recordCount}
+use Rattle.stream_spec.specs.Layout.{widthMost, size, records}
 use Rattle.refusal.specs.Checks.{Check, first}
-use Rattle.stream_spec.specs.Checks.{captureMost, takeChecks, cycleChecks, roomCheck}
-use Rattle.stream_spec.specs.Handshake.{Finding, findings, firstFinding, transferred, handshakes, asTransfer, transferCount, harvested}
+use Rattle.stream_spec.specs.Checks.{captureMost, roomCheck}
+use Rattle.stream_spec.specs.Handshake.{Finding, findings, firstFinding, transferCount, harvested}
 use Rattle.stream_spec.specs.Answers.{verdict, writtenValues, judgeChecks, judgeAnswer, uncleanCheck, harvestRefusal, harvestAnswer, harvestAfter, Harvested}
-use Rattle.refusal.proofs.First.{append-none}
-use Rattle.stream_spec.proofs.Size.{size-pos}
-use Rattle.stream_spec.proofs.Records.{Sized, length-joined, length-pieces, records-sized}
 use Rattle.stream_spec.specs.Memory.{inFront}
 use Rattle.stream_spec.specs.Walk.{Passed}
-use Rattle.stream_spec.proofs.Passed.{checks-passed}
-use Rattle.stream_spec.proofs.Harvest.{fewer, length-kept}
+use Rattle.stream_spec.proofs.Harvest.{harvested-long, harvested-short}
+use Rattle.stream_spec.proofs.Clean.{clean-count, clean-passed}
 use Rattle.stream_harvest.specs.Filling.{TakeFits}
 
 -- ---- the first refusal, from the verdict
@@ -67,41 +63,6 @@ left-of (some r) f n o = refl
 left-of none (some f) n o = refl
 left-of none none n o = refl
 
--- what a clean verdict says: nothing is refused, and its number is the count
-record IsClean (j : Option Refusal) (n m : ℕ) : Type 0 where
-  accepted : j ≡ none
-  count : n ≡ m
-
-is-clean : (j : Option Refusal) (f : Option Finding) (n m : ℕ) → Clean n ≡ verdict j f m → IsClean j n m
-is-clean (some r) f n m e = let z : _≡_ {A = ℕ} 0 1 = cc in absurd (omega arith)
-is-clean none (some f) n m e = let z : _≡_ {A = ℕ} 0 1 = cc in absurd (omega arith)
-is-clean none none n m e = record { accepted = refl; count = cc }
-
--- ---- how long what is harvested is
-
-pub kept-sized : (n : ℕ) (cs : List (List ℕ)) → 0 < n → Sized n cs → Sized n (map asTransfer (handshakes cs))
-kept-sized n [] h z = tt
-kept-sized n (c ∷ cs) h z = go (transferred c) refl (kept-sized n cs h (z .1))
-  where
-    go : (t : Bool) → transferred c ≡ t → Sized n (map asTransfer (handshakes cs)) → Sized n (map asTransfer (handshakes (c ∷ cs)))
-    go true e ih = rw e (length-kept n c h (z .0), ih)
-    go false e ih = rw e ih
-
-module _ (s : Shape) (xs : List ℕ) where
-  pub harvested-long : length (harvested s xs) ≡ transferCount s xs * size s
-  harvested-long =
-      length-joined (size s) (map asTransfer (handshakes (records s xs))) (kept-sized (size s) (records s xs) (size-pos s) (records-sized s xs))
-      ∙ ap (λ (n : ℕ). n * size s) (length-map (handshakes (records s xs)) asTransfer)
-
-  harvested-short : transferCount s xs * size s ≤ length xs
-  harvested-short =
-      omega (
-        arith,
-        mul-le-mul-right (size s) (fewer (records s xs)),
-        ap (λ (n : ℕ). n * size s) (length-pieces (size s) (recordCount s xs) xs),
-        div-mul-le-self (length xs) (size s),
-      )
-
 -- ---- the answers
 
 module _ (s : Shape) (xs : List ℕ) (v : Verdict) (judged : v ≡ judgeAnswer s xs) where
@@ -129,12 +90,14 @@ module _ (s : Shape) (xs : List ℕ) (v : Verdict) (judged : v ≡ judgeAnswer s
         refused-by (Unclean cycle rule) (left (length before) ∙ ap (λ (x : Verdict). refusalOf x (first (roomCheck (harvested s xs) (length before) ∷ []))) e)
 
   module _ (n : ℕ) (clean : v ≡ Clean n) where
-    passed : IsClean (first (judgeChecks s xs)) n (transferCount s xs)
-    unfolding judgeAnswer
-    passed = is-clean (first (judgeChecks s xs)) (firstFinding s xs) n (transferCount s xs) (sym clean ∙ judged)
+    sound : judgeAnswer s xs ≡ Clean n
+    sound = sym judged ∙ clean
 
     tests : Passed s xs
-    tests = checks-passed s xs (append-none (takeChecks s xs) (cycleChecks s 0 (records s xs)) (passed .accepted) .0)
+    tests = clean-passed s xs n sound
+
+    counted : n ≡ transferCount s xs
+    counted = clean-count s xs n sound
 
     pub clean-width : s .width ≤ widthMost
     clean-width = tests .high
@@ -142,10 +105,10 @@ module _ (s : Shape) (xs : List ℕ) (v : Verdict) (judged : v ≡ judgeAnswer s
     -- the code has the record's size in z
     module _ (z : ℕ) (q : z ≡ size s) where
       long-is : n * z ≡ length (harvested s xs)
-      long-is = ap₂ (λ (a b : ℕ). a * b) (passed .count) q ∙ sym (harvested-long s xs)
+      long-is = ap₂ (λ (a b : ℕ). a * b) counted q ∙ sym (harvested-long s xs)
 
       pub clean-short : n * z ≤ captureMost
-      clean-short = omega (arith, long-is, harvested-long s xs, harvested-short s xs, tests .short)
+      clean-short = omega (arith, long-is, harvested-short s xs, tests .short)
 
       module _ (before : List ℕ) where
         by-room : harvestRefusal s xs (length before) ≡ first (roomCheck (harvested s xs) (length before) ∷ [])
@@ -165,5 +128,5 @@ module _ (s : Shape) (xs : List ℕ) (v : Verdict) (judged : v ≡ judgeAnswer s
         harvest-written l after e =
             let fits : length (harvested s xs) ≤ length before = omega (arith, long-is) in
             let taken : harvestRefusal s xs (length before) ≡ none = by-room ∙ rw (le-ltb (length before) (length (harvested s xs)) fits) refl in
-            let told = ap {B = Written} Records (passed .count) in
+            let told = ap {B = Written} Records counted in
             record { is = rw taken told; shows = rw taken (ap writtenValues told); leaves = rw taken e }

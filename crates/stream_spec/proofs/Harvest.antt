@@ -1,5 +1,5 @@
--- What an accepted harvest writes is a legal stream: its cycles had no bad field, and no rule is broken, so none of those
--- with ARESETn and TVALID high has a reserved lane (R4). Assumes nothing.
+-- How much is harvested; and what an accepted harvest writes is a legal stream: its cycles had no bad field, and no rule is
+-- broken, so none of those with ARESETn and TVALID high has a reserved lane (R4). Assumes nothing.
 use mathlib.Core.Path.{_≡_, refl, ap, _∙_}
 use mathlib.Core.Bool.{Bool, true, false, _&&_}
 use mathlib.Core.List.{List, [], _∷_, _++_, map}
@@ -13,7 +13,7 @@ use Rattle.stream_spec.specs.declared.Shape.{Shape}
 use Rattle.stream_spec.specs.Layout.{tlast, tvalid, aresetn, tready, laneTypes, anyReserved, size, records, recordCount, joined, packed}
 use Rattle.refusal.specs.Checks.{Check, check, first}
 use Rattle.stream_spec.specs.Checks.{fieldFault, reservedFault, transferFlags, cycleFlags, captureMost, transferChecks, cycleFaults, cycleChecks, shapeChecks, lengthCheck, takeChecks, roomCheck}
-use Rattle.stream_spec.specs.Handshake.{r4, Finding, findings, transferred, handshakes, asTransfer, harvested}
+use Rattle.stream_spec.specs.Handshake.{r4, Finding, findings, transferred, handshakes, asTransfer, transferCount, harvested}
 use Rattle.stream_spec.specs.Answers.{judgeChecks, uncleanCheck, harvestRefusal}
 use Rattle.stream_spec.specs.Legal.{Octets}
 use Rattle.stream_spec.specs.Walk.{Passed}
@@ -97,13 +97,45 @@ fit s (c ∷ cs) z o g = go (transferred c) refl (fit s cs (z .1) (o .1) (g .2))
     go false e r = rw e r
     go true e r = rw e (fit-more s c (handshakes cs) (z .0) (o .0) (g .0) (g .1) e r)
 
-pub fewer : (cs : List (List ℕ)) → length (handshakes cs) ≤ length cs
+fewer : (cs : List (List ℕ)) → length (handshakes cs) ≤ length cs
 fewer [] = omega arith
 fewer (c ∷ cs) = go (transferred c) refl (fewer cs)
   where
     go : (b : Bool) → transferred c ≡ b → length (handshakes cs) ≤ length cs → length (handshakes (c ∷ cs)) ≤ length (c ∷ cs)
     go false e h = rw e (omega arith)
     go true e h = rw e (omega arith)
+
+-- ---- how much is harvested
+
+kept-sized : (n : ℕ) (cs : List (List ℕ)) → 0 < n → Sized n cs → Sized n (map asTransfer (handshakes cs))
+kept-sized n [] h z = tt
+kept-sized n (c ∷ cs) h z = go (transferred c) refl (kept-sized n cs h (z .1))
+  where
+    go : (t : Bool) → transferred c ≡ t → Sized n (map asTransfer (handshakes cs)) → Sized n (map asTransfer (handshakes (c ∷ cs)))
+    go true e ih = rw e (length-kept n c h (z .0), ih)
+    go false e ih = rw e ih
+
+module _ (s : Shape) (xs : List ℕ) where
+  sized : Sized (size s) (map asTransfer (handshakes (records s xs)))
+  sized = kept-sized (size s) (records s xs) (size-pos s) (records-sized s xs)
+
+  pub harvested-count : length (records s (harvested s xs)) ≡ transferCount s xs
+  harvested-count = ap {B = ℕ} length (records-joined s (map asTransfer (handshakes (records s xs))) sized) ∙ length-map (handshakes (records s xs)) asTransfer
+
+  pub harvested-long : length (harvested s xs) ≡ transferCount s xs * size s
+  harvested-long =
+      length-joined (size s) (map asTransfer (handshakes (records s xs))) sized
+      ∙ ap (λ (n : ℕ). n * size s) (length-map (handshakes (records s xs)) asTransfer)
+
+  pub harvested-short : length (harvested s xs) ≤ length xs
+  harvested-short =
+      omega (
+        arith,
+        harvested-long,
+        mul-le-mul-right (size s) (fewer (records s xs)),
+        ap (λ (n : ℕ). n * size s) (length-pieces (size s) (recordCount s xs) xs),
+        div-mul-le-self (length xs) (size s),
+      )
 
 -- ---- harvest
 
@@ -121,23 +153,15 @@ pub harvestLegal : HarvestLegal
 harvestLegal s xs room o e =
     let g = harvest-good s xs room e in
     let hs = handshakes (records s xs) in
-    let f = fit s (records s xs) (records-sized s xs) (pieces-octets (recordCount s xs) (size s) xs o) (g .1) in
-    let long = length-joined (size s) (map asTransfer hs) (f .sized) in (
+    let f = fit s (records s xs) (records-sized s xs) (pieces-octets (recordCount s xs) (size s) xs o) (g .1) in (
       record {
         widthLow = g .0 .low;
         widthHigh = g .0 .high;
         octets = f .octets;
-        whole = rw long (mul-mod-left (length (map asTransfer hs)) (size s));
+        whole = rw (harvested-long s xs) (mul-mod-left (transferCount s xs) (size s));
         faultless = rw (records-joined s (map asTransfer hs) (f .sized)) (of-faultless s 0 (map asTransfer hs) (f .faultless));
       },
-      omega (
-        arith,
-        long,
-        ap (λ (n : ℕ). n * size s) (length-map hs asTransfer),
-        mul-le-mul-right (size s) (fewer (records s xs)),
-        ap (λ (n : ℕ). n * size s) (length-pieces (size s) (recordCount s xs) xs),
-        div-mul-le-self (length xs) (size s),
-      ),
+      harvested-short s xs,
     )
 
 pub harvestRepacks : HarvestRepacks
