@@ -1,7 +1,7 @@
 -- The steps of the report, from the cycles up to the sheet: a law for each way that the code ends. Assumes nothing.
 use mathlib.Core.Path.{_≡_, refl, sym, ap, _∙_, subst}
-use mathlib.Core.Bool.{Bool, true, false}
-use mathlib.Core.List.{List, _++_}
+use mathlib.Core.Bool.{Bool, true, false, cond}
+use mathlib.Core.List.{List, [], _∷_, _++_}
 use mathlib.Core.Option.{Option, none, some}
 use Prim.Native.Nat.{ℕ, _≤_}
 use native.Mathlib.Omega.{arith}
@@ -32,6 +32,7 @@ use Rattle.stream_record.specs.declared.Checked.the-variants.{Passed, Refused a
 use Rattle.report_spec.specs.Report.{contents, Outcome, refused, shapeOf, prepared, cyclesOf, transfersOf, afterJudging, convertedTransfers, captureOutcome, setupChecks, Passes, unless, setupOutcome, sheetOutcome, outcomeOf, verdictValues, textOf, reportOf, Reported}
 use Rattle.report_call.specs.Steps.{Came, OfCapture, OfCycles, OfTransfers, OfClean, Rendered}
 use Rattle.report_call.proofs.Told.{prefix-is}
+use Rattle.refusal.proofs.First.{first-none}
 use Rattle.stream_record.specs.Checked.{checkedOf}
 use Rattle.stream_record.proofs.Tests.{refused-is, passed-is}
 use Rattle.report_spec.proofs.Passes.{sound-in, fits-in}
@@ -97,6 +98,10 @@ module _ (u : Setup) (capture zeros cycles : List ℕ) (n : ℕ) (p : Put 0 capt
 
 -- ---- of_setup
 
+found-alone : (b : Bool) (q r : Refusal) → cond b (some q) none ≡ some r → (b ≡ true) × (q ≡ r)
+found-alone true q r e = (refl, cc)
+found-alone false q r e = let z : _≡_ {A = ℕ} 0 1 = cc in absurd (omega arith)
+
 -- a take of a bad length is not filled in, and judging refuses it
 ill-filled : (s : Shape) (wire : Tlast) (capture : List ℕ) → widthCheck (s .width) .found ≡ false → lengthCheck s capture .found ≡ true
     → prepared wire s capture ≡ capture
@@ -108,6 +113,17 @@ ill-afterJudging : (s : Shape) (capture : List ℕ) → widthCheck (s .width) .f
     → judgeAnswer s capture ≡ NotJudged Length
 unfolding judgeAnswer
 ill-afterJudging s capture w h = rw (w, h) refl
+
+-- the code has the shape of the take in t, and tested the length as y
+module _ (u : Setup) (t : Shape) (same : t ≡ shapeOf u) (xs : List ℕ) (y : Checked) (h : checkedOf y ≡ first (lengthCheck t xs ∷ [])) where
+  tested : checkedOf y ≡ first (lengthCheck (shapeOf u) xs ∷ [])
+  tested = h ∙ ap (λ (s : Shape). first (lengthCheck s xs ∷ [])) same
+
+  pub length-passed : y ≡ Passed → lengthCheck (shapeOf u) xs .found ≡ false
+  length-passed k = first-none (lengthCheck (shapeOf u) xs) [] (passed-is y (lengthCheck (shapeOf u) xs ∷ []) tested k) .0
+
+  pub length-refused : (r : Refusal) → y ≡ NotPassed r → (lengthCheck (shapeOf u) xs .found ≡ true) × (Length ≡ r)
+  length-refused r k = found-alone (lengthCheck (shapeOf u) xs .found) Length r (refused-is y (lengthCheck (shapeOf u) xs ∷ []) tested r k)
 
 module _ (u : Setup) (out : List ℕ) (x : Checked) (e : checkedOf x ≡ first (setupChecks u)) where
   pub setup-refused : (r : Refusal) → x ≡ NotPassed r → (capture : Option (List ℕ)) (f : Ending) → f .verdict ≡ Refused r → f .octets ≡ 0
@@ -128,9 +144,6 @@ module _ (u : Setup) (out : List ℕ) (x : Checked) (e : checkedOf x ≡ first (
     pub width-high : (t : Shape) → t ≡ shapeOf u → t .width ≤ widthMost
     width-high t same = subst (λ (s : Shape). s .width ≤ widthMost) (sym same) (fits-in u passes .high)
 
-    pub length-told : (t : Shape) → t ≡ shapeOf u → (xs : List ℕ) (b c : Bool) → b ≡ lengthCheck t xs .found → b ≡ c → lengthCheck (shapeOf u) xs .found ≡ c
-    length-told t same xs b c h k = ap (λ (s : Shape). lengthCheck s xs .found) (sym same) ∙ sym h ∙ k
-
     module _ (read : Bool) (capture : List ℕ) where
       pub setup-unread : read ≡ false → (f : Ending) → f .verdict ≡ Refused Length → f .octets ≡ 0
           → Came (setupOutcome u (contents read capture) (length out)) out out f
@@ -138,15 +151,17 @@ module _ (u : Setup) (out : List ℕ) (x : Checked) (e : checkedOf x ≡ first (
           subst (λ (b : Bool). Came (setupOutcome u (contents b capture) (length out)) out out f) (sym h)
           (setup-passed none out f (came-refused Length out f a b))
 
-      pub setup-ill : read ≡ true → lengthCheck (shapeOf u) capture .found ≡ true → (f : Ending) → f .verdict ≡ Refused Length → f .octets ≡ 0
-          → Came (setupOutcome u (contents read capture) (length out)) out out f
-      setup-ill h l f a b =
+      pub setup-ill : read ≡ true → (r : Refusal) → (lengthCheck (shapeOf u) capture .found ≡ true) × (Length ≡ r)
+          → (f : Ending) → f .verdict ≡ Refused r → f .octets ≡ 0 → Came (setupOutcome u (contents read capture) (length out)) out out f
+      setup-ill h r i f a b =
           let w = sound-in u passes in
+          let l = i .0 in
+          let told : f .verdict ≡ Refused Length = a ∙ sym (ap {B = Verdict} Refused (i .1)) in
           let no : judgeAnswer (shapeOf u) (cyclesOf u capture) ≡ NotJudged Length =
           ap (judgeAnswer (shapeOf u)) (ill-filled (shapeOf u) (u .tlast) capture w l) ∙ ill-afterJudging (shapeOf u) capture w l in
           subst (λ (b : Bool). Came (setupOutcome u (contents b capture) (length out)) out out f) (sym h)
           (setup-passed (some capture) out f
-          (subst (λ (j : Judgement). Came (afterJudging j (convertedTransfers u (transfersOf u capture) (length out))) out out f) (sym no) (came-refused Length out f a b)))
+          (subst (λ (j : Judgement). Came (afterJudging j (convertedTransfers u (transfersOf u capture) (length out))) out out f) (sym no) (came-refused Length out f told b)))
 
       pub setup-read : read ≡ true → (out' : List ℕ) (f : Ending) → Came (captureOutcome u (some capture) (length out)) out out' f
           → Came (setupOutcome u (contents read capture) (length out)) out out' f

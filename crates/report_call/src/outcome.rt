@@ -60,10 +60,11 @@ fn of_setup(u: Setup, capture: &[u8], capture_read: bool, out: &mut [u8]) -> End
             if !capture_read {
                 return refuse(Refusal::Length);
             }
-            if stream_record::bad_length(shape_of(u), capture) {
-                return refuse(Refusal::Length);
+            let length = stream_record::check_length(shape_of(u), capture);
+            match length {
+                Checked::Refused(r) => refuse(r),
+                Checked::Passed => of_capture(u, capture, out),
             }
-            of_capture(u, capture, out)
         }
     }
 }

@@ -68,7 +68,7 @@ pub fn at_width(s: Shape, v: usize) -> Shape
 }
 
 // Whether a width is refused.
-pub fn bad_width(w: usize) -> bool
+fn bad_width(w: usize) -> bool
     ensures { λ r. ⌜ r ≡ widthCheck w .found ⌝ }
 {
     if w == 0 {
@@ -86,7 +86,7 @@ pub fn record_size(s: Shape) -> usize
 }
 
 // Whether the length of an input is refused. The width has passed its test.
-pub fn bad_length(s: Shape, input: &[u8]) -> bool
+fn bad_length(s: Shape, input: &[u8]) -> bool
     requires { ⌜ s .width ≤ widthMost ⌝ }
     ensures { λ r. ⌜ r ≡ lengthCheck s (now (input .entry)) .found ⌝ }
 {

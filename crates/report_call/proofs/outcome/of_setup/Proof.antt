@@ -1,9 +1,8 @@
 -- `report_call::outcome::of_setup` meets its contract: the sheet's numbers, then LENGTH, then the take. Assumes nothing.
-use mathlib.Core.Bool.{true, false}
 use borrow.Author.Tests.{not-true, not-false}
 use borrow.Author.Needs.{needs}
 use Rattle.report_spec.specs.Report.{contents}
-use Rattle.report_call.proofs.Steps.{setup-refused, passes, width-high, length-told, setup-unread, setup-ill, setup-read}
+use Rattle.report_call.proofs.Steps.{setup-refused, passes, width-high, length-passed, length-refused, setup-unread, setup-ill, setup-read}
 use Rattle.report_call.proofs.outcome.of_setup.Statement.{statement}
 use Rattle.report_call.proofs.outcome.of_setup.Tie as tie
 
@@ -34,8 +33,8 @@ returns c =
 shape-of-requires : tie.Need-shape-of-requires
 shape-of-requires c κs = search needs
 
-bad-length-requires : tie.Need-bad-length-requires
-bad-length-requires c κs =
+check-length-requires : tie.Need-check-length-requires
+check-length-requires c κs =
     let at-enum-told = c .before .before in
     let at-check-setup = at-enum-told .before .before in
     let call = at-check-setup .before .before .before in
@@ -45,31 +44,28 @@ bad-length-requires c κs =
 refuse-requires-3 : tie.Need-refuse-requires-3
 refuse-requires-3 c κs = search needs
 
-returns-2 : tie.Need-returns-2
-returns-2 c =
-    let at-bad-length = c .before .before in
-    let at-shape-of = at-bad-length .before in
-    let at-if = at-shape-of .before in
-    let at-enum-told = at-if .before in
-    let at-check-setup = at-enum-told .before .before in
-    let call = at-check-setup .before .before .before in
-    setup-ill (call .args .u) (call .args .out .now) (at-check-setup .check-setup .result) (at-check-setup .check-setup .ensures)
-    (at-enum-told .enum-told .given .1) (call .args .capture-read) (call .args .capture .now)
-    (not-false (call .args .capture-read) (at-if .if1 .left))
-    (length-told (call .args .u) (call .args .out .now) (at-check-setup .check-setup .result) (at-check-setup .check-setup .ensures) (at-enum-told .enum-told .given .1) (at-shape-of .shape-of .result) (at-shape-of .shape-of .ensures) (call .args .capture .now) (at-bad-length .bad-length .result) true (at-bad-length .bad-length .ensures) (c .before .if2 .taken))
-    (c .refuse3 .result) (c .refuse3 .ensures .0) (c .refuse3 .ensures .1)
+enum-known-length : tie.Need-enum-known-length
+enum-known-length c = search needs
+
+enum-told-2 : tie.Need-enum-told-2
+enum-told-2 c = search needs
 
 of-capture-requires : tie.Need-of-capture-requires
 of-capture-requires c κs =
-    let at-bad-length = c .before .before in
-    let at-shape-of = at-bad-length .before in
+    let at-enum-told-2 = c .before in
+    let at-check-length = at-enum-told-2 .before .before in
+    let at-shape-of = at-check-length .before in
     let at-enum-told = at-shape-of .before .before in
     let at-check-setup = at-enum-told .before .before in
-    let call = at-check-setup .before .before .before in
-    (passes (call .args .u) (call .args .out .now) (at-check-setup .check-setup .result) (at-check-setup .check-setup .ensures) (at-enum-told .enum-told .given .1), (length-told (call .args .u) (call .args .out .now) (at-check-setup .check-setup .result) (at-check-setup .check-setup .ensures) (at-enum-told .enum-told .given .1) (at-shape-of .shape-of .result) (at-shape-of .shape-of .ensures) (call .args .capture .now) (at-bad-length .bad-length .result) false (at-bad-length .bad-length .ensures) (c .before .if2 .left)))
+    let call = at-check-setup .before .before .before in (
+      passes (call .args .u) (call .args .out .now) (at-check-setup .check-setup .result) (at-check-setup .check-setup .ensures)
+          (at-enum-told .enum-told .given .1),
+      length-passed (call .args .u) (at-shape-of .shape-of .result) (at-shape-of .shape-of .ensures)
+          (call .args .capture .now) (at-check-length .check-length .result) (at-check-length .check-length .ensures) (at-enum-told-2 .enum-told2 .given .1),
+    )
 
-returns-3 : tie.Need-returns-3
-returns-3 c =
+returns-2 : tie.Need-returns-2
+returns-2 c =
     let at-checked = c .before .before in
     let at-check-setup = at-checked .before .before in
     let call = at-check-setup .before .before .before in
@@ -77,13 +73,30 @@ returns-3 c =
     (at-checked .checked .given .0 .0) (at-checked .checked .given .1) (contents (call .args .capture-read) (call .args .capture .now))
     (c .refuse .result) (c .refuse .ensures .0) (c .refuse .ensures .1)
 
+returns-3 : tie.Need-returns-3
+returns-3 c =
+    let at-length = c .before .before in
+    let at-check-length = at-length .before .before in
+    let at-shape-of = at-check-length .before in
+    let at-if = at-shape-of .before in
+    let at-enum-told = at-if .before in
+    let at-check-setup = at-enum-told .before .before in
+    let call = at-check-setup .before .before .before in
+    let r = at-length .length .given .0 .0 in
+    let ill =
+    length-refused (call .args .u) (at-shape-of .shape-of .result) (at-shape-of .shape-of .ensures) (call .args .capture .now)
+    (at-check-length .check-length .result) (at-check-length .check-length .ensures) r (at-length .length .given .1) in
+    setup-ill (call .args .u) (call .args .out .now) (at-check-setup .check-setup .result) (at-check-setup .check-setup .ensures)
+    (at-enum-told .enum-told .given .1) (call .args .capture-read) (call .args .capture .now)
+    (not-false (call .args .capture-read) (at-if .if1 .left)) r ill (c .refuse3 .result) (c .refuse3 .ensures .0) (c .refuse3 .ensures .1)
+
 same-length : tie.Need-same-length
 same-length c = search needs
 
 returns-4 : tie.Need-returns-4
 returns-4 c =
     let at-of-capture = c .before .before in
-    let at-if = at-of-capture .before .before .before .before .before in
+    let at-if = at-of-capture .before .before .before .before .before .before in
     let at-enum-told = at-if .before in
     let at-check-setup = at-enum-told .before .before in
     let call = at-check-setup .before .before .before in
@@ -103,10 +116,12 @@ of-setup-spec =
     refuse-requires-2
     returns
     shape-of-requires
-    bad-length-requires
+    check-length-requires
+    enum-known-length
     refuse-requires-3
-    returns-2
+    enum-told-2
     of-capture-requires
+    returns-2
     returns-3
     same-length
     returns-4)
