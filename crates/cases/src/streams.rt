@@ -1,7 +1,6 @@
 // The stream cases S1 to S7, the bounds of a take, and each finding. The output is lent 24 octets EE, and all of them
 // are printed, so that what is not written shows.
 use refusal::Refusal;
-use stream_spec::Shape;
 use stream_spec::Verdict;
 use stream_spec::Written;
 
@@ -40,7 +39,7 @@ fn written(w: Written) {
 // Repacks from width w to width v.
 fn repack_to(name: &[u8], w: usize, v: usize, input: &[u8]) {
     let mut out = [0xEEu8; 24];
-    let answer = stream_repack::repack(Shape { width: w }, v, input, &mut out);
+    let answer = stream_repack::repack(stream_record::shape_of(w), v, input, &mut out);
     io::write_all(1, name);
     written(answer);
     octets(&out);
@@ -50,7 +49,7 @@ fn repack_to(name: &[u8], w: usize, v: usize, input: &[u8]) {
 // Slices from width w to width v, lane by lane.
 fn downsize_to(name: &[u8], w: usize, v: usize, input: &[u8]) {
     let mut out = [0xEEu8; 24];
-    let answer = stream_downsize::downsize(Shape { width: w }, v, input, &mut out);
+    let answer = stream_downsize::downsize(stream_record::shape_of(w), v, input, &mut out);
     io::write_all(1, name);
     written(answer);
     octets(&out);
@@ -60,7 +59,7 @@ fn downsize_to(name: &[u8], w: usize, v: usize, input: &[u8]) {
 // Judges a take.
 fn judge(name: &[u8], w: usize, capture: &[u8]) {
     io::write_all(1, name);
-    match stream_judge::judge(Shape { width: w }, capture) {
+    match stream_judge::judge(stream_record::shape_of(w), capture) {
         Verdict::Clean(n) => number(b" clean=", n as u64),
         Verdict::Broken(cycle, rule) => {
             number(b" cycle=", cycle as u64);
@@ -98,7 +97,7 @@ pub fn three_pairs() {
     let mut v = 1;
     while v <= 16 {
         let mut out = [0xEEu8; 69];
-        let answer = stream_repack::repack(Shape { width: 1 }, v, input, &mut out);
+        let answer = stream_repack::repack(stream_record::shape_of(1), v, input, &mut out);
         number(b"S7 width=", v as u64);
         written(answer);
         io::write_all(1, b"\n");

@@ -211,7 +211,7 @@ fn shape_of(u: Setup) -> Shape
 fn out_shape(u: Setup) -> Shape
     ensures { λ r. ⌜ r ≡ outShape u ⌝ }
 {
-    Shape { width: u.width_out }
+    stream_record::at_width(shape_of(u), u.width_out)
 }
 
 // Nothing is written, and this is why.

@@ -13,6 +13,9 @@ abbrev μ-loop : tie.MeasureT-loop
 loop-holds : tie.Need-loop-holds Inv-loop μ-loop
 loop-holds c = search needs
 
+shape-of-requires : tie.Need-shape-of-requires Inv-loop μ-loop
+shape-of-requires c κs = search needs
+
 slice-aggregate-repack : tie.Need-slice-aggregate-repack Inv-loop μ-loop
 slice-aggregate-repack c = search needs
 
@@ -53,6 +56,7 @@ three-pairs-spec =
     Inv-loop
     μ-loop
     loop-holds
+    shape-of-requires
     slice-aggregate-repack
     repack-requires
     slice-aggregate-number
