@@ -12,7 +12,7 @@ ghost use Rattle.repack_scratch.specs.Codes.{stretchRoom, codesIn};
 ghost use Rattle.repack_plain.specs.Write.{StretchFits, StretchPut};
 ghost use Rattle.repack_emit.specs.Emit.{headOf, packedFrom, Held, TableFits, Counts, countOf, Emitted};
 
-// The records of a stretch of n items.
+// How many records a stretch of n items gives.
 fn records_of(n: u32, v: u32) -> u32
     requires { ⌜ (0 < v) × (n < 0x10000) ⌝ }
     ensures { λ r. ⌜ (r ≡ (n - 1) / v + 1) × (r ≤ 0x10000) ⌝ }
@@ -23,7 +23,7 @@ fn records_of(n: u32, v: u32) -> u32
     (n - 1) / v + 1
 }
 
-// The records of stretches of 0 to 16 items, into a table of 17 entries.
+// How many records stretches of 0 to 16 items give, into a table of 17 entries.
 fn list_counts(few: &mut [u32], v: u32)
     requires { ⌜ (0 < v) × (length (now few) ≡ 17) ⌝ }
     ensures { λ _. ⌜ Counts v 17 (now (few .exit)) ⌝ }
@@ -35,7 +35,7 @@ fn list_counts(few: &mut [u32], v: u32)
     }
 }
 
-// The records of a stretch of n items, by that table where they are few: packets shorter than a record or two are counted
+// How many records a stretch of n items gives, by that table where they are few: packets shorter than a record or two are counted
 // without a branch that looks at their length.
 fn counted(n: u32, v: u32, few: &[u32]) -> u32
     requires { ⌜ (0 < v) × (n < 0x10000) × (length (now few) ≡ 17) × Counts v 17 (now few) ⌝ }
@@ -47,7 +47,7 @@ fn counted(n: u32, v: u32, few: &[u32]) -> u32
     records_of(n, v)
 }
 
-// The records of all stretches of a table.
+// How many records all stretches of a table give.
 fn count(table: &[u32], v: u32) -> usize
     requires { ⌜ (0 < v) × (length (now table) ≤ stretchRoom) ⌝ }
     ensures { λ r. ⌜ (r ≡ countOf v (now (table .entry))) × (r ≤ 0x10000 * stretchRoom) ⌝ }
@@ -94,7 +94,7 @@ fn put_stretch(
     repack_marked::put_stretch(out, octets, marks, c, v, head)
 }
 
-// The records of all stretches of a table.
+// Writes the records of all stretches of a table.
 fn put_all(out: &mut [u8], octets: &[u8], marks: &[u8], plain: bool, table: &[u32], v: usize)
     requires { ⌜ TableFits v plain (now octets) (now marks) (now table) × (length (packedFrom v (now table) (codesIn (now octets) (now marks))) ≤ length (now out)) ⌝ }
     ensures { λ _. ⌜ now (out .exit) ≡ inFront (packedFrom v (now (table .entry)) (codesIn (now (octets .entry)) (now (marks .entry)))) (now (out .entry)) ⌝ }

@@ -2,6 +2,7 @@
 // lane by lane. Stretches of takes without a mark are repack_plain's, and which stretches there are repack_emit's.
 use repack_plain::Cursor;
 use repack_plain::Head;
+use stream_record::layout::HEAD_OCTETS;
 ghost use mathlib.Core.Path.{_≡_};
 ghost use mathlib.Core.Bool.{true};
 ghost use mathlib.Core.List.{_++_, map};
@@ -49,7 +50,7 @@ fn put_items(out: &mut [u8], octets: &[u8], marks: &[u8], from: usize, n: usize)
     while 0 < j {
         j -= 1;
         let d = strobe(mark(marks, from + j));
-        out[7 + j] = octets[from + j] * d;
+        out[HEAD_OCTETS + j] = octets[from + j] * d;
         strb = 2 * strb + (d as u32);
     }
     strb
@@ -80,7 +81,7 @@ fn put_lanes(
     );
 }
 
-// The same in groups, where no mark is near.
+// The same: in groups where no mark is near, else lane by lane.
 fn put_record(
     out: &mut [u8],
     octets: &[u8],
@@ -95,7 +96,7 @@ fn put_record(
 {
     if unmarked_near(marks, from) {
         stream_write::write_data_header(out, head.last, head.pair, n);
-        words::place(out, 7, &octets[from..], n, v);
+        words::place(out, HEAD_OCTETS, &octets[from..], n, v);
         return;
     }
     put_lanes(out, octets, marks, from, n, v, head);

@@ -49,7 +49,7 @@ sifted-some (suc w) k t ds h p e = go (eqb (k % 2) 1) refl (sifted-some w (k / 2
         let even : k % 2 ≡ 1 → ⊥ = eqb-false (k % 2) 1 o in
         ih (omega (arith, pow-suc 2 w)) (omega arith) (rw o at e)
 
--- what holds of items that begin with this pair holds of a record'w items, if it has one
+-- what holds of items that begin with this pair holds of a record's items, if it has one
 starts : (p : Pair) (bs : List Kept) (last : Bool) (rest : List (Item Kept)) → (length bs ≡ 0 → last ≡ false → ⊥)
     → (P : List (Item Kept) → Type 0) → ((i : Item Kept) (js : List (Item Kept)) → itemPair i ≡ p → P (i ∷ js))
     → P (itemsOf p bs last ++ rest)
@@ -63,11 +63,11 @@ pair-back tid tdest h =
     let high : (tid + 256 * tdest) / 256 ≡ tdest = omega arith in
     λ i. record { tid = low i; tdest = high i }
 
--- a record'w pair as one number
+-- a record's pair as one number
 abbrev pub codeOf : List ℕ → ℕ
 codeOf rec = pairCode (pairOf rec .tid) (pairOf rec .tdest)
 
--- the open stretch has the record'w pair, and stands as before
+-- the open stretch has the record's pair, and stands as before
 pub record Paired (w : ℕ) (rec codes table : List ℕ) (st : Open) (table1 : List ℕ) (o : Open) : Type 0 where
   pub same : length table1 ≡ length table
   pub items : o .items ≡ st .items
@@ -150,7 +150,7 @@ module _ (w : ℕ) (rec : List ℕ) (oct : Octets rec) (long : length rec ≡ si
 
   -- ---- its bytes and its end
 
-  -- the record'w items, its end apart
+  -- the record's items, its end apart
   apart-items : (p : ℕ) → p ≡ codeOf rec → (rest : List (Item Kept))
       → transferItems (transferOf (ofWidth w) rec) ++ rest
       ≡ map (byte (pairFrom p)) (map keptOf more) ++ (cond (tlast rec) (end (pairFrom p) ∷ []) [] ++ rest)

@@ -1,6 +1,7 @@
 // Writes a stretch of a take in which every item is data: all records but the last are full and go in a tight loop, that of
 // one lane in a loop of its own; then comes the last one. Stretches with position items are repack_marked's, and which
 // stretches there are repack_emit's.
+use stream_record::layout::HEAD_OCTETS;
 ghost use mathlib.Core.Path.{_≡_};
 ghost use mathlib.Core.List.{_++_, map};
 ghost use Prim.Native.Nat.{_≤_, _<_};
@@ -29,7 +30,7 @@ fn put_plain(out: &mut [u8], octets: &[u8], n: usize, v: usize, pair: u32, last:
     ensures { λ _. ⌜ now (out .exit) ≡ recordAt v pair last (map dataCode (now (octets .entry))) 0 n ++ drop (size (ofWidth v)) (now (out .entry)) ⌝ }
 {
     stream_write::write_data_header(out, last, pair, n);
-    words::place(out, 7, octets, n, v);
+    words::place(out, HEAD_OCTETS, octets, n, v);
 }
 
 // The full records of a stretch where records have one lane: each is one word.

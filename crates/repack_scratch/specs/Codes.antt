@@ -1,4 +1,4 @@
--- The codes of items and of stretches, as repack's scratch arrays hold them: an item's octet in one array, its mark in
+-- The codes of items and of stretches, as the converter's scratch arrays hold them: an item's octet in one array, its mark in
 -- another, a stretch's entry in a third.
 use mathlib.Core.Path.{_≡_}
 use mathlib.Core.Bool.{cond}

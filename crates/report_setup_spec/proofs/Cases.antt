@@ -11,7 +11,7 @@ abbrev told : Sheet → Told
 told s = record { answer = s; shows = sheetValues s }
 
 abbrev pub AllHold : List Case → Type 0
-AllHold cs = _≡_ {A = List Told} (map (λ (c : Case). told (sheetOf (text (c .sheet)))) cs) (map (λ (c : Case). c .says) cs)
+AllHold cs = _≡_ {A = List Told} (map (λ (c : Case). told (sheetOf (text (c .sheet)))) cs) (map (λ (c : Case). c .told) cs)
 
 pub worked : AllHold workedCases
 unfolding sheetOf workedCases

@@ -1,6 +1,6 @@
 -- Worked cases of the grammar: sheets, and what they say, typed from paper 01 and never computed. One statement covers the
 -- list (`worked` of proofs/Cases). A text ends where its quote does: every LF is written out.
--- Each has an id (W01 and on) that docs/PROMISES.md cites: a new case takes the next free one, and none is given twice.
+-- Each has an id (W01 and on) by which docs/PROMISES.md cites it: a new case takes the next free one, and none is given twice.
 use mathlib.Core.List.{List, [], _∷_}
 use Prim.Native.Nat.{ℕ}
 use Prim.Native.String.{String}
@@ -20,17 +20,17 @@ pub record Told : Type 0 where
 
 pub record Case : Type 0 where
   pub sheet : String
-  pub says : Told
+  pub told : Told
 
 abbrev shown : ℕ → ℕ → ℕ → String → String → Values
 shown number a b mode tlast = record { refusal = number; «width_in» = a; «width_out» = b; mode = text mode; tlast = text tlast }
 
 abbrev reads : String → ℕ → ℕ → Mode → String → Tlast → String → Case
 reads sheet a b m mode t tlast =
-    record { sheet = sheet; says = record { answer = Read (record { «width_in» = a; «width_out» = b; mode = m; tlast = t }); shows = shown 0 a b mode tlast } }
+    record { sheet = sheet; told = record { answer = Read (record { «width_in» = a; «width_out» = b; mode = m; tlast = t }); shows = shown 0 a b mode tlast } }
 
 abbrev refused : String → Case
-refused sheet = record { sheet = sheet; says = record { answer = Refused; shows = shown 15 0 0 "" "" } }
+refused sheet = record { sheet = sheet; told = record { answer = Refused; shows = shown 15 0 0 "" "" } }
 
 unfoldable pub workedCases : List Case
 workedCases =

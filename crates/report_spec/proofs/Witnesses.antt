@@ -39,13 +39,13 @@ pub clean-table : (t : Tally) (cycle rule : ℕ) (r : Refusal)
     → map isClean (Clean t ∷ Broken cycle rule ∷ Refused r ∷ []) ≡ true ∷ false ∷ false ∷ []
 clean-table t cycle rule r = refl
 
--- 1 to 19, as far as paper 01 and the requests count; 6 is the one that the mode decides
+-- 1 to 20, as far as paper 01 and the requests count; 6 is the one that the mode decides
 abbrev numbers : List ℕ
-numbers = 1 ∷ 2 ∷ 3 ∷ 4 ∷ 5 ∷ 6 ∷ 7 ∷ 8 ∷ 9 ∷ 10 ∷ 11 ∷ 12 ∷ 13 ∷ 14 ∷ 15 ∷ 16 ∷ 17 ∷ 18 ∷ 19 ∷ []
+numbers = 1 ∷ 2 ∷ 3 ∷ 4 ∷ 5 ∷ 6 ∷ 7 ∷ 8 ∷ 9 ∷ 10 ∷ 11 ∷ 12 ∷ 13 ∷ 14 ∷ 15 ∷ 16 ∷ 17 ∷ 18 ∷ 19 ∷ 20 ∷ []
 
 abbrev shownTable : Bool → List Bool
 shownTable six =
-    true ∷ true ∷ true ∷ false ∷ true ∷ six ∷ false ∷ false ∷ false ∷ false ∷ false ∷ false ∷ false ∷ false ∷ false ∷ false ∷ false ∷ false ∷ false ∷ []
+    true ∷ true ∷ true ∷ false ∷ true ∷ six ∷ false ∷ false ∷ false ∷ false ∷ false ∷ false ∷ false ∷ false ∷ false ∷ false ∷ false ∷ false ∷ false ∷ false ∷ []
 
 pub pack-table : map (mayShow Pack) numbers ≡ shownTable false
 pack-table = refl

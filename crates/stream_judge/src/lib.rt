@@ -1,5 +1,5 @@
-// Judging a take of cycle records against the handshake rules. A record's octets are read by the crate stream_record; what the
-// rules say is in stream_spec's Handshake.
+// Judging a take of cycle records against the handshake rules. A record's octets are read by stream_record and stream_head,
+// and compared here in words; what the rules say is in stream_spec's Handshake.
 use refusal::Refusal;
 use stream_head::Zeros;
 use stream_record::Checked;

@@ -18,7 +18,7 @@ use Rattle.stream_spec.specs.Layout.{bit, odd, size, tkeep, tstrb, atWid
 use Rattle.stream_spec.specs.Checks.{takeChecks, indexCheck}
 use Rattle.stream_spec.specs.Walk.{Passed}
 use Rattle.stream_spec.specs.Answers.{dataRefusal, dataPart}
-use Rattle.stream_spec.specs.Promises.{SetAbove, FieldBits, DataOctets, WidthExactly, LengthExactly, ByteTypes, RepackingKeeps, PackedLegal, PackedLength, PackedFull, PackedOnly, Hold, Joins, Canonical, LaneKeeping, Findings, HarvestLegal, HarvestRepacks}
+use Rattle.stream_spec.specs.Promises.{SetAbove, FieldBits, DataHandedOut, WidthExactly, LengthExactly, ByteTypes, RepackingKeeps, PackedLegal, PackedLength, PackedFull, PackedOnly, Holds, Joins, Canonical, LaneKeeping, Findings, HarvestLegal, HarvestRepacks}
 use Rattle.stream_spec.proofs.Bits.{bit-zero, bit-suc}
 use Rattle.stream_spec.proofs.Size.{data-long}
 use Rattle.stream_spec.proofs.Bools.{or-split}
@@ -105,9 +105,9 @@ data-there s xs k e =
     let i = first-none (indexCheck s xs k) [] (t .1) in
     (checks-passed s xs (t .0), leb-false (recordCount s xs) k (i .0))
 
-pub handsOut : DataOctets
+pub dataHandedOut : DataHandedOut
 unfolding dataPart
-handsOut s xs k = record { present = λ e. let h = data-there s xs k e in rw e (data-of s xs k (h .1), h .0 .low); refused = λ r e. rw e refl }
+dataHandedOut s xs k = record { present = λ e. let h = data-there s xs k e in rw e (data-of s xs k (h .1), h .0 .low); refused = λ r e. rw e refl }
 
 -- ---- repacking
 
@@ -126,7 +126,7 @@ packedFull = packed-full
 pub packedOnly : PackedOnly
 packedOnly = packed-only
 
-pub holds : Hold
+pub holds : Holds
 holds v h is js = hold v h is js
 
 pub joins : Joins

@@ -20,7 +20,7 @@ use Rattle.stream_spec.specs.Demand3.{acceptedAt, next, afterCalls, whol
 use Rattle.stream_spec.specs.Tables.{lanes, stream, isLegal}
 use Rattle.stream_spec.specs.Cases.{p1}
 use Rattle.stream_spec.specs.Witnesses.{first, firstItems, atOne, atFour, atSixteen, endless, endlessItems, lends, refusedCalls, mixedCalls, someParts, someNumbers, someJoined, packedOnes, onesBytes, onesEnds, onesItems, p1Slices, p1Items, p1Packed, wide, brokenTake, cleanTake, harvest}
-use Rattle.stream_spec.proofs.Promises.{fieldBits, byteTypes, handsOut, repackingKeeps, packedLegal, packedFull, packedOnly, holds, joins, canonical, laneKeeping, findings, harvestLegal, harvestRepacks}
+use Rattle.stream_spec.proofs.Promises.{fieldBits, byteTypes, dataHandedOut, repackingKeeps, packedLegal, packedFull, packedOnly, holds, joins, canonical, laneKeeping, findings, harvestLegal, harvestRepacks}
 use Rattle.stream_spec.proofs.Demand3.{calls, parts}
 use Rattle.stream_spec.proofs.Tables.{widthTested, octets-tested, legalTested, dividesTested}
 
@@ -79,11 +79,11 @@ lane-fifteen = byteTypes (lanes 16) wide 15 (lit< tt)
 -- a record that is there, behind another, and one that is not
 pub present : (length (dataPart (lanes 2) (first .octets) 1) ≡ 2) × (0 < 2)
 unfolding size dataPart
-present = handsOut (lanes 2) (first .octets) 1 .present refl
+present = dataHandedOut (lanes 2) (first .octets) 1 .present refl
 
 pub absent : dataPart (lanes 2) (first .octets) 2 ≡ []
 unfolding size
-absent = handsOut (lanes 2) (first .octets) 2 .refused Index refl
+absent = dataHandedOut (lanes 2) (first .octets) 2 .refused Index refl
 
 -- ---- repacking
 

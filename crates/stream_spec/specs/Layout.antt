@@ -79,7 +79,8 @@ octetValues = 256
 
 -- ---- a record's size and fields
 
--- "A record has 7 + w octets." Its laws are in proofs/Size, and nothing else takes it apart.
+-- "A record has 7 + w octets." Its laws are in proofs/Size; no other law takes it apart (worked
+-- cases, tables and witnesses compute with it).
 unfoldable pub size : Shape → ℕ
 size s = headOctets + s .width
 

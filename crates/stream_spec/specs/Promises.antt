@@ -56,8 +56,8 @@ pub record HandsOut (s : Shape) (xs : List ℕ) (k : ℕ) : Type 0 where
   pub present : dataRefusal s xs k ≡ none → (length (dataPart s xs k) ≡ s .width) × (0 < s .width)
   pub refused : (r : Refusal) → dataRefusal s xs k ≡ some r → dataPart s xs k ≡ []
 
-abbrev pub DataOctets : Type 0
-DataOctets = (s : Shape) (xs : List ℕ) (k : ℕ) → HandsOut s xs k
+abbrev pub DataHandedOut : Type 0
+DataHandedOut = (s : Shape) (xs : List ℕ) (k : ℕ) → HandsOut s xs k
 
 -- ---- repacking
 
@@ -104,8 +104,8 @@ PackedOnly = (v : ℕ) → 0 < v → (ts : List (Transfer Kept)) → Packs v ts 
 
 -- The hold law: once more items follow, the settled transfers of the packed form are certain, and what is held is packed
 -- again with what follows.
-abbrev pub Hold : Type 0
-Hold =
+abbrev pub Holds : Type 0
+Holds =
     (v : ℕ) → 0 < v → (is js : List (Item Kept))
     → pack v (is ++ js) ≡ settled (pack v is) ++ pack v (items (held (pack v is)) ++ js)
 

@@ -1,4 +1,4 @@
--- `cases::octets` meets its contract: prints each octet; `i` never passes the length. Assumes nothing.
+-- `cases::streams::octets` meets its contract: prints each octet; `i` never passes the length. Assumes nothing.
 use Prim.Native.Nat.{_≤_, _-_}
 use lib.ListN.{length}
 use borrow.Author.Needs.{needs}

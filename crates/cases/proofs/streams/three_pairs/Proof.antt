@@ -1,4 +1,4 @@
--- `cases::three_pairs` meets its contract: `v` runs from 1 to 16. Assumes nothing.
+-- `cases::streams::three_pairs` meets its contract: `v` runs from 1 to 16. Assumes nothing.
 use Prim.Native.Nat.{_≤_, _-_}
 use borrow.Author.Needs.{needs}
 use Rattle.cases.proofs.streams.three_pairs.Statement.{statement}
