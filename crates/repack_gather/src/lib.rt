@@ -6,6 +6,7 @@ ghost use mathlib.Core.Path.{_≡_};
 ghost use mathlib.Core.List.{[], _∷_};
 ghost use Prim.Native.Nat.{_+_, _-_, _*_, _/_, _%_, _^_, _≤_, _<_};
 ghost use lib.ListN.{length, getD, drop, set};
+ghost use Rattle.stream_spec.specs.Layout.{headOctets};
 ghost use Rattle.repack_scratch.specs.Codes.{markBits};
 ghost use Rattle.repack_scratch.specs.Lanes.{Wide};
 ghost use Rattle.repack_sieve.specs.Kept.{Collected};
@@ -74,7 +75,7 @@ pub fn gather(
     keep: u32,
     sieve: &[u64],
 ) -> usize
-    requires { ⌜ Wide lanes × (keep ≤ lanes .full) × (7 ≤ from) × (from + lanes .width ≤ length (now transfers)) ⌝ }
+    requires { ⌜ Wide lanes × (keep ≤ lanes .full) × (headOctets ≤ from) × (from + lanes .width ≤ length (now transfers)) ⌝ }
     requires { ⌜ (at + 16 ≤ length (now octets)) × (now sieve ≡ sieveRows) ⌝ }
     ensures { λ r. ⌜ Collected (lanes .width) keep (drop from (now (transfers .entry))) (now (octets .entry)) at (now (octets .exit)) r ⌝ }
 {

@@ -10,7 +10,7 @@ ghost use mathlib.Core.Path.{_≡_};
 ghost use mathlib.Core.Bool.{true};
 ghost use Prim.Native.Nat.{_+_, _≤_, _<_};
 ghost use lib.ListN.{length};
-ghost use Rattle.stream_spec.specs.Layout.{size, ofWidth};
+ghost use Rattle.stream_spec.specs.Layout.{headOctets, size, ofWidth};
 ghost use Rattle.repack_sieve.specs.Sieve.{sieveRows};
 ghost use Rattle.repack_scratch.specs.Codes.{pairLimit};
 ghost use Rattle.repack_scratch.specs.Lanes.{Wide};
@@ -25,7 +25,7 @@ pub struct Place {
 
 // Whether the record at octet `at` is told as usual.
 fn usual_at(transfers: &[u8], at: usize, pair: u32, full: u32) -> bool
-    requires { ⌜ (at + 7 ≤ length (now transfers)) × (pair < pairLimit) ⌝ }
+    requires { ⌜ (at + headOctets ≤ length (now transfers)) × (pair < pairLimit) ⌝ }
     ensures { λ r. ⌜ (r ≡ true → UsualAt (now (transfers .entry)) at pair full) ⌝ }
 {
     let lo = words::load4(transfers, at);

@@ -4,6 +4,7 @@
 ghost use mathlib.Core.Path.{_≡_};
 ghost use Prim.Native.Nat.{_+_, _-_, _*_, _^_, _≤_, _<_};
 ghost use lib.ListN.{length, drop};
+ghost use Rattle.stream_spec.specs.Layout.{headOctets};
 ghost use Rattle.words.specs.Words.{octetsOfWord, padded};
 ghost use Rattle.repack_sieve.specs.Kept.{Collected};
 ghost use Rattle.repack_sieve.specs.Sieve.{fourOctets, sieveRows, closing};
@@ -162,7 +163,7 @@ pub fn sift(
     keep: u32,
     sieve: &[u64],
 ) -> usize
-    requires { ⌜ (1 ≤ w) × (w ≤ 16) × (7 ≤ from) × (from + w ≤ length (now transfers)) × (at + 16 ≤ length (now octets)) × (keep < 2 ^ w) × (now sieve ≡ sieveRows) ⌝ }
+    requires { ⌜ (1 ≤ w) × (w ≤ 16) × (headOctets ≤ from) × (from + w ≤ length (now transfers)) × (at + 16 ≤ length (now octets)) × (keep < 2 ^ w) × (now sieve ≡ sieveRows) ⌝ }
     ensures { λ r. ⌜ Collected w keep (drop from (now (transfers .entry))) (now (octets .entry)) at (now (octets .exit)) r ⌝ }
 {
     let end = from + w;
