@@ -7,11 +7,11 @@ ghost use mathlib.Core.Path.{_≡_};
 ghost use mathlib.Core.Bool.{true};
 ghost use mathlib.Core.List.{_++_, map};
 ghost use Prim.Native.Nat.{ℕ, _+_, _*_, _-_, _≤_, _<_};
-ghost use lib.ListN.{length, getD, take, drop};
+ghost use lib.ListN.{length, getD, drop};
 ghost use Rattle.stream_spec.specs.Layout.{headOctets, size, maskOf, ofWidth};
 ghost use Rattle.repack_scratch.specs.Codes.{codesIn, markBits};
 ghost use Rattle.repack_plain.specs.Write.{itemOctet, itemStrobe, recordAt, HeadFits, StretchFits, StretchPut};
-ghost use Rattle.repack_marked.specs.Marked.{itemsFrom, RecordFits, RecordPut};
+ghost use Rattle.repack_marked.specs.Marked.{itemsFrom, lanesPut, RecordFits, RecordPut};
 
 // The mark of item i.
 fn mark(marks: &[u8], i: usize) -> u8
@@ -43,7 +43,7 @@ fn unmarked_near(marks: &[u8], from: usize) -> bool
 fn put_items(out: &mut [u8], octets: &[u8], marks: &[u8], from: usize, n: usize) -> u32
     requires { ⌜ (n ≤ 16) × (from + n ≤ length (now octets)) × (length (now octets) ≡ 8 * length (now marks)) × (headOctets + n ≤ length (now out)) ⌝ }
     ensures { λ r. ⌜ r ≡ maskOf (map itemStrobe (itemsFrom (now (octets .entry)) (now (marks .entry)) from n)) ⌝ }
-    ensures { λ _. ⌜ now (out .exit) ≡ take headOctets (now (out .entry)) ++ (map itemOctet (itemsFrom (now (octets .entry)) (now (marks .entry)) from n) ++ drop (headOctets + n) (now (out .entry))) ⌝ }
+    ensures { λ _. ⌜ now (out .exit) ≡ lanesPut n (map itemOctet (itemsFrom (now (octets .entry)) (now (marks .entry)) from n)) (now (out .entry)) ⌝ }
 {
     let mut strb = 0;
     let mut j = n;
