@@ -1,6 +1,6 @@
 -- Paper 01's cases B1 to B6 and worked entries for each refusal, each bound and the top of memory: what is asked of which
 -- burst, and the numbers that must be answered. One statement covers the whole list (proofs/Cases). Entries that are not
--- 01's have an id (W01 and on) by which docs/PROMISES.md cites it: a new one takes the next free id, and none is given twice.
+-- 01's have an id (W01 and on) by which docs/PROMISES.md may cite it: a new one takes the next free id, and none is given twice.
 -- B1 to B6 are typed from the paper, the other entries worked by hand; of the definitions only `burstOf` is used here.
 use mathlib.Core.List.{List, [], _∷_, _++_, map}
 use Prim.Native.Nat.{ℕ}

@@ -1,6 +1,6 @@
 -- Worked cases of the grammar: sheets, and what they say, typed from paper 01 and never computed. One statement covers the
 -- list (`worked` of proofs/Cases). A text ends where its quote does: every LF is written out.
--- Each has an id (W01 and on) by which docs/PROMISES.md cites it: a new case takes the next free one, and none is given twice.
+-- Each has an id (W01 and on) by which docs/PROMISES.md may cite it: a new case takes the next free one, and none is given twice.
 use mathlib.Core.List.{List, [], _∷_}
 use Prim.Native.Nat.{ℕ}
 use Prim.Native.String.{String}

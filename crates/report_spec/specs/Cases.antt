@@ -1,6 +1,6 @@
 -- Worked cases of the report: P1 of paper 01, and what pins the order of the refusals and each number of the text. What is
 -- told was typed by hand and never computed. One statement covers the list (`worked` of proofs/Cases).
--- Each has an id (W01 and on) by which docs/PROMISES.md cites it: a new case takes the next free one, and none is given twice.
+-- Each has an id (W01 and on) by which docs/PROMISES.md may cite it: a new case takes the next free one, and none is given twice.
 use mathlib.Core.List.{List, [], _∷_, _++_}
 use mathlib.Core.Option.{Option, none, some}
 use Prim.Native.Nat.{ℕ}

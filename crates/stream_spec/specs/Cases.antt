@@ -1,6 +1,6 @@
 -- Worked cases of the definitions: what is asked, and what is told, typed by hand and never computed. The list
 -- `benchCases` has the starred cases S1 to S5 of paper 01; `workedCases` pins what no starred case does, each with an id
--- (W01 and on) by which docs/PROMISES.md cites it: a new case takes the next free one, wherever it stands, and none is given twice.
+-- (W01 and on) by which docs/PROMISES.md may cite it: a new case takes the next free one, wherever it stands, and none is given twice.
 -- One statement covers each list (`bench` and `worked` of proofs/Cases).
 use mathlib.Core.Bool.{Bool, true, false}
 use mathlib.Core.List.{List, [], _∷_, _++_}
