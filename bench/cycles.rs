@@ -20,10 +20,11 @@ const TRANSFERS: u8 = ARESETN | TVALID | TREADY;
 /// The handshake flags of a cycle, without TLAST.
 fn flags(r: &[u8]) -> u8 { r[0] & TRANSFERS }
 
-/// The lowest rule that the cycle `now` breaks, 0 for none. At cycle 0 `before` is `now` itself: it breaks no hold.
+/// The lowest rule that the cycle `now` breaks, 0 for none. At cycle 0 `before` is `now` itself: it breaks no hold, and was
+/// in reset only if `now` is.
 fn broken(before: &[u8], now: &[u8]) -> u32 {
     let (flags_now, held) = (flags(now), flags(before) == WAITS);
-    if flags_now & WAITS == TVALID { return 1; }
+    if flags_now & TVALID != 0 && flags_now & flags(before) & ARESETN == 0 { return 1; }
     if held && flags_now & WAITS == ARESETN { return 2; }
     if flags_now & WAITS != WAITS { return 0; }
     if held && ((before[0] ^ now[0]) & 1 != 0 || before[1..] != now[1..]) { return 3; }

@@ -330,11 +330,15 @@ static void rule_is(const char *hex, uint32_t rule, uint64_t cycle, const char *
 static void findings(void)
 {
     rule_is(CYCLE("08") " " CYCLE("02"), 1, 1, "R1");
+    rule_is(CYCLE("00") " " CYCLE("0A"), 1, 1, "R1 in the first sample out of reset");
+    rule_is(CYCLE("00") " " CYCLE("08") " " CYCLE("0A"), 0, 0, "no R1 after one idle sample");
+    rule_is(CYCLE("00") " 0E 00 00 00 00 01 00 55", 1, 1, "R1 before R4");
     rule_is(CYCLE("0A") " " CYCLE("08"), 2, 1, "R2");
     rule_is(CYCLE("0A") " " CYCLE("0B"), 3, 1, "R3");
     rule_is("0E 00 00 00 00 01 00 55", 4, 0, "R4");
     rule_is(CYCLE("0A") " " CYCLE("00") " " CYCLE("08"), 0, 0, "no wait across reset");
     refuses(harvest, 1, 1, CYCLE("0A") " " CYCLE("0B"), URD_UNCLEAN, 3, 1, "UNCLEAN has the cycle and the rule");
+    refuses(harvest, 1, 1, CYCLE("00") " " CYCLE("0E"), URD_UNCLEAN, 1, 1, "UNCLEAN for the first sample out of reset");
 }
 
 #define GOOD "00 00 00 03 00 03 00 11 22"

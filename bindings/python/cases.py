@@ -185,11 +185,12 @@ def _():
 @case("findings and UNCLEAN")
 def _():
     cycle = " 00 00 01 00 01 00 55"
-    for flags, rule in ((("08", "02"), 1), (("0A", "08"), 2), (("0A", "0B"), 3)):
+    for flags, rule in ((("08", "02"), 1), (("00", "0E"), 1), (("0A", "08"), 2), (("0A", "0B"), 3)):
         take = octets(flags[0] + cycle + flags[1] + cycle)
         room = bytearray([TAIL] * 16)
         same(urd.judge(1, take), stream(rule=rule, place=1), f"R{rule}")
         same((urd.harvest(1, take, room), room), (stream(urd.UNCLEAN, rule, 1), bytes([TAIL] * 16)), f"harvest, R{rule}")
+    same(urd.judge(1, octets("00" + cycle + "08" + cycle + "0E" + cycle)), stream(count=1), "no R1 after one idle sample")
     same(urd.judge(1, octets("0E 00 00 00 00 01 00 55")), stream(rule=4), "R4")
 
 

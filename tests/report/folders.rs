@@ -177,19 +177,19 @@ fn record(r: &mut Random, w: usize, flags: u8) -> Vec<u8> {
     octets
 }
 
-/// n cycles that keep the handshake rules: transfers, waits, idle cycles, resets.
+/// n cycles that keep the handshake rules: transfers, waits, idle cycles, resets with a sample behind them that has TVALID low.
 fn cycles(r: &mut Random, w: usize, n: usize) -> Vec<u8> {
     let mut now = record(r, w, 8);
     let mut take = Vec::new();
     for _ in 0..n {
-        let waits = now[0] & 14 == 10;
+        let (waits, was_reset) = (now[0] & 14 == 10, now[0] & 8 == 0);
         if r.one_in(10) {
             let flags = r.pick(&[0, 1, 4, 5]);
             now = record(r, w, flags);
         } else if waits {
             now[0] ^= r.pick(&[0, 4]); // all as before, but TREADY is free
         } else {
-            let flags = r.pick(&[8, 9, 12, 10, 11, 14, 14, 15]);
+            let flags = if was_reset { r.pick(&[8, 9, 12]) } else { r.pick(&[8, 9, 12, 10, 11, 14, 14, 15]) };
             now = record(r, w, flags);
         }
         take.extend(&now);

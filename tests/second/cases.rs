@@ -126,14 +126,20 @@ pub fn streams(t: &mut Tally, c: &StreamCalls) {
         let out: Vec<String> = ["01", "02", "01"].iter().map(|id| format!("00 {id} 00 01 00 01 00 5A {nulls}")).collect();
         pack(t, 1, v, "00 01 00 01 00 01 00 5A 00 02 00 01 00 01 00 5A 00 01 00 01 00 01 00 5A", 3, &out.join(" "));
     });
-    // "Errors that look right": a wait is not carried across reset; R1 to R4.
+    // "Errors that look right": a wait is not carried across reset; R1 to R4, R1 as T-01 has it.
     t.group("handshake findings", |t| {
         let idle = "01 00 01 00 55"; // octets 3 on of a one-lane cycle
-        for (flags, place, rule) in [(["0A", "00", "08"], 0, 0), (["0A", "08", "08"], 1, 2), (["0A", "0B", "08"], 1, 3), (["08", "02", "08"], 1, 1)] {
+        for (flags, place, rule) in [(["0A", "00", "08"], 0, 0), (["0A", "08", "08"], 1, 2), (["0A", "0B", "08"], 1, 3), (["08", "02", "08"], 1, 1),
+            (["00", "0A", "0A"], 1, 1), (["00", "02", "08"], 1, 1), (["00", "08", "0A"], 0, 0), (["0A", "00", "0A"], 2, 1)] {
             let take: Vec<String> = flags.iter().map(|f| format!("{f} 00 00 {idle}")).collect();
             t.same((c.judge)(1, &hex(&take.join(" "))), StreamAnswer { rule, place, ..Default::default() }, || format!("{flags:?}"));
         }
-        t.same((c.judge)(1, &hex("0E 00 00 00 00 01 00 55")), StreamAnswer { rule: 4, ..Default::default() }, || "R4".to_string());
+        let (reset, reserved) = (format!("00 00 00 {idle}"), "0E 00 00 00 00 01 00 55");
+        t.same((c.judge)(1, &hex(reserved)), StreamAnswer { rule: 4, ..Default::default() }, || "R4".to_string());
+        let first = StreamAnswer { rule: 1, place: 1, ..Default::default() };
+        t.same((c.judge)(1, &hex(&format!("{reset} {reserved}"))), first, || "R1 before R4".to_string());
+        let unclean = StreamAnswer { refusal: 14, ..first };
+        t.same((c.harvest)(1, &hex(&format!("{reset} {reserved}")), &mut [0; 8]), unclean, || "14 with R1".to_string());
     });
     // Each refusal stands before all later ones: the input breaks those too.
     t.group("stream refusals in order", |t| {

@@ -124,14 +124,16 @@ fn transfers(r: &mut Random, w: usize, n: usize) -> Vec<u8> {
     (0..n).flat_map(|_| { let last = u8::from(r.one_in(ends)); record(r, w, last) }).collect()
 }
 
-/// Cycles that keep the handshake rules, with waits and resets.
+/// Cycles that keep the handshake rules, with waits and resets; in reset, and at the first sample out of it, TVALID is low.
 pub fn cycles(r: &mut Random, w: usize, n: usize) -> Vec<u8> {
     let mut take: Vec<u8> = Vec::new();
-    let mut waiting = false;
+    let mut before = 8; // the flags of the cycle before: at first none, which neither waits nor resets
     for _ in 0..n {
         let resets = r.one_in(9);
-        let flags = if resets { r.pick(&[0, 1, 4, 5]) } else { r.pick(&[8, 9, 12, 10, 11, 14, 15, 15]) };
-        if waiting && !resets {
+        let flags = if resets { r.pick(&[0, 1, 4, 5]) }
+            else if before & 8 == 0 { r.pick(&[8, 9, 12, 13]) }
+            else { r.pick(&[8, 9, 12, 10, 11, 14, 15, 15]) };
+        if before & 14 == 10 && !resets {
             let mut again = take[take.len() - 7 - w..].to_vec(); // all as before, but TREADY is free
             again[0] = (again[0] & !4) | r.pick(&[0, 4]);
             take.extend(&again);
@@ -140,8 +142,7 @@ pub fn cycles(r: &mut Random, w: usize, n: usize) -> Vec<u8> {
             if flags & 2 == 0 && r.one_in(3) { now[5] = now[3] ^ ((1u32 << w) - 1) as u8; } // reserved, but no valid cycle
             take.extend(&now);
         }
-        let now = take[take.len() - 7 - w];
-        waiting = now & 14 == 10;
+        before = take[take.len() - 7 - w];
     }
     take
 }
@@ -318,13 +319,13 @@ pub fn all(t: &mut Tally) {
             }
         }
     });
-    // All flags of three cycles, with payloads equal or different: every rule,
-    // and every way through reset.
+    // All flags of three cycles, with payloads equal or different and the middle
+    // lane reserved or not: every rule, and every way into reset and out of it.
     t.group("all flags of three cycles", |t| for flags in 0..4096u32 {
-        for payload in 0..4u8 {
+        for payload in 0..8u8 {
             let take: Vec<u8> = (0..3).flat_map(|c| {
-                let id = [0, payload & 1, payload >> 1][c];
-                [(flags >> (4 * c)) as u8 & 15, id, 0, 1, 0, 1, 0, 0x55]
+                let (id, keep) = [(0, 1), (payload & 1, 1 - payload / 4), (payload / 2 & 1, 1)][c];
+                [(flags >> (4 * c)) as u8 & 15, id, 0, keep, 0, 1, 0, 0x55]
             }).collect();
             compare_judge(t, 1, &take);
             write_into(t, &HARVEST, 1, 1, &take, 24);

@@ -204,9 +204,10 @@ fn waits(r: &[u8]) -> bool { aresetn(r) && tvalid(r) && !tready(r) }
 
 fn transfers(r: &[u8]) -> bool { aresetn(r) && tvalid(r) && tready(r) }
 
-/// The lowest rule that cycle `now` breaks, 0 for none.
+/// The lowest rule that cycle `now` breaks, 0 for none. R1 is T-01's: also in the record after one with ARESETn low.
 fn broken_rule(w: usize, before: Option<&[u8]>, now: &[u8]) -> u32 {
-    if tvalid(now) && !aresetn(now) { return 1; }
+    let after_reset = before.is_some_and(|before| !aresetn(before));
+    if tvalid(now) && (!aresetn(now) || after_reset) { return 1; }
     if let Some(before) = before {
         if waits(before) && aresetn(now) && !tvalid(now) { return 2; }
         let differs = before[1..] != now[1..] || tlast(before) != tlast(now);

@@ -105,12 +105,17 @@ pub fn three_pairs() {
     }
 }
 
-// R1 to R4, and a reset that ends a wait.
+// R1 to R4, R1 in reset and in the first sample out of it; a reset that ends a wait, and a transfer after one idle sample.
 pub fn findings() {
     judge(
         b"R1",
         1,
         b"\x08\x00\x00\x00\x00\x00\x00\x00\x02\x00\x00\x00\x00\x00\x00\x00",
+    );
+    judge(
+        b"R1",
+        1,
+        b"\x00\x00\x00\x00\x00\x00\x00\x00\x0E\x00\x00\x01\x00\x01\x00\x07",
     );
     judge(
         b"R2",
@@ -131,6 +136,11 @@ pub fn findings() {
         b"RESET",
         1,
         b"\x0A\x05\x00\x01\x00\x01\x00\x07\x00\x00\x00\x00\x00\x00\x00\x00\x08\x00\x00\x00\x00\x00\x00\x00",
+    );
+    judge(
+        b"RESET",
+        1,
+        b"\x00\x00\x00\x00\x00\x00\x00\x00\x08\x00\x00\x00\x00\x00\x00\x00\x0E\x00\x00\x01\x00\x01\x00\x07",
     );
 }
 

@@ -9,12 +9,21 @@ use lib.ListN.{length}
 use Rattle.stream_spec.specs.declared.Shape.{Shape}
 use Rattle.stream_spec.specs.Layout.{bit, tvalidBit, aresetnBit, flags, laneTypes, typesOf, anyReserved}
 use Rattle.stream_spec.specs.Checks.{cycleFlags}
-use Rattle.stream_spec.specs.Handshake.{waited, differs}
+use Rattle.stream_spec.specs.Handshake.{waited, wasReset, differs}
 use Rattle.stream_spec.proofs.Bools.{no-such}
 use Rattle.stream_spec.proofs.Fields.{fields-of}
 use Rattle.stream_spec.proofs.Size.{size-least, size-most}
 use Rattle.stream_record.specs.declared.Header.{Header}
 use Rattle.stream_judge.specs.Scan.{Alike, beforeOf, lowestRule, CycleAt}
+
+-- what `reset_before` finds, where there is no record before, and of the flags of one
+pub reset-none : (p : List ℕ) → length p ≡ 0 → false ≡ wasReset (beforeOf p)
+reset-none [] e = refl
+reset-none (f ∷ r) e = absurd (omega arith)
+
+pub reset-some : (p : List ℕ) → (length p ≡ 0 → ⊥) → (f : ℕ) → f ≡ flags p → (r : Bool) → r ≡ bit aresetnBit f → not r ≡ wasReset (beforeOf p)
+reset-some [] h f e r q = absurd (h refl)
+reset-some (g ∷ p) h f e r q = ap not (q ∙ ap (bit aresetnBit) e)
 
 left-rules : (t d r : Bool)
     → _≡_ {A = ℕ} (cond (t && true && not true) 2 (cond (t && true && true && d) 3 (cond (true && true && r) 4 0))) (cond (t && d) 3 (cond r 4 0))
@@ -50,18 +59,23 @@ module _ {s : Shape} {h : Header} {w : Bool} {prev rec : List ℕ} (c : CycleAt 
       go [] = refl
       go (f ∷ r) = refl
 
-  -- with ARESETn and TVALID high, R3 and R4 are left
-  both-high : bit aresetnBit (h .flags) ≡ true → bit tvalidBit (h .flags) ≡ true
-      → lowestRule s (beforeOf prev) rec ≡ cond (w && differs (some prev) rec) 3 (cond (anyReserved (laneTypes s rec)) 4 0)
-  both-high a v =
-      rw (flag aresetnBit true a, flag tvalidBit true v, moved-is) (left-rules (waited (beforeOf prev)) (differs (beforeOf prev) rec) (anyReserved (laneTypes s rec)))
+  module _ (a : bit aresetnBit (h .flags) ≡ true) (v : bit tvalidBit (h .flags) ≡ true) where
+    -- ARESETn was low in the record before
+    pub rule-1-after : wasReset (beforeOf prev) ≡ true → 1 ≡ lowestRule s (beforeOf prev) rec
+    rule-1-after r = rw (flag aresetnBit true a, flag tvalidBit true v, r) refl
 
-  pub rule-3 : bit aresetnBit (h .flags) ≡ true → bit tvalidBit (h .flags) ≡ true → (w && differs (some prev) rec) ≡ true → 3 ≡ lowestRule s (beforeOf prev) rec
-  rule-3 a v m = sym (both-high a v ∙ ap (λ (t : Bool). cond t 3 (cond (anyReserved (laneTypes s rec)) 4 0)) m)
+    module _ (n : wasReset (beforeOf prev) ≡ false) where
+      -- R3 and R4 are left
+      both-high : lowestRule s (beforeOf prev) rec ≡ cond (w && differs (some prev) rec) 3 (cond (anyReserved (laneTypes s rec)) 4 0)
+      both-high =
+          rw (flag aresetnBit true a, flag tvalidBit true v, n, moved-is)
+          (left-rules (waited (beforeOf prev)) (differs (beforeOf prev) rec) (anyReserved (laneTypes s rec)))
 
-  pub rule-4 : bit aresetnBit (h .flags) ≡ true → bit tvalidBit (h .flags) ≡ true → (w && differs (some prev) rec) ≡ false → (r : Bool)
-      → anyReserved (laneTypes s rec) ≡ r → cond r 4 0 ≡ lowestRule s (beforeOf prev) rec
-  rule-4 a v m r e = sym (both-high a v ∙ ap₂ (λ (t u : Bool). cond t 3 (cond u 4 0)) m e)
+      pub rule-3 : (w && differs (some prev) rec) ≡ true → 3 ≡ lowestRule s (beforeOf prev) rec
+      rule-3 m = sym (both-high ∙ ap (λ (t : Bool). cond t 3 (cond (anyReserved (laneTypes s rec)) 4 0)) m)
+
+      pub rule-4 : (w && differs (some prev) rec) ≡ false → (r : Bool) → anyReserved (laneTypes s rec) ≡ r → cond r 4 0 ≡ lowestRule s (beforeOf prev) rec
+      rule-4 m r e = sym (both-high ∙ ap₂ (λ (t u : Bool). cond t 3 (cond u 4 0)) m e)
 
   -- the code's mask finds a reserved lane just where the record has one
   pub reserved-is : (r : Bool) → ((n : ℕ) → h .strb < 2 ^ n → r ≡ anyReserved (typesOf n (h .keep) (h .strb))) → anyReserved (laneTypes s rec) ≡ r

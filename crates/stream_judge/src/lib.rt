@@ -19,7 +19,7 @@ ghost use lib.ListN.{length, take, drop};
 ghost use mathlib.Core.Bool.{_&&_, not, true};
 ghost use mathlib.Core.Option.{none, some};
 ghost use Rattle.stream_spec.specs.Layout.{records, bitOf};
-ghost use Rattle.stream_spec.specs.Handshake.{sameOctets, differs, finding};
+ghost use Rattle.stream_spec.specs.Handshake.{sameOctets, differs, wasReset, finding};
 ghost use Rattle.stream_spec.specs.Answers.{Judged};
 ghost use Rattle.stream_spec.specs.Walk.{Passed};
 ghost use Rattle.stream_judge.specs.Scan.{waitsBy, transfersBy, Alike, beforeOf, lowestRule, CycleAt};
@@ -114,6 +114,16 @@ fn moved(waited: bool, prev: &[u8], rec: &[u8]) -> bool
     false
 }
 
+// Whether ARESETn was low in the record before, `prev`, which is empty if there is none.
+fn reset_before(prev: &[u8]) -> bool
+    ensures { λ r. ⌜ r ≡ wasReset (beforeOf (now (prev .entry))) ⌝ }
+{
+    if prev.len() == 0 {
+        return false;
+    }
+    !aresetn(words::widen4(prev[FLAGS]))
+}
+
 // The lowest rule that the record breaks, or 0. `prev` is the record before it, empty if there is none.
 fn rule_of(s: Shape, h: Header, waited: bool, prev: &[u8], rec: &[u8]) -> u32
     requires { ⌜ CycleAt s h waited (now prev) (now rec) ⌝ }
@@ -131,6 +141,9 @@ fn rule_of(s: Shape, h: Header, waited: bool, prev: &[u8], rec: &[u8]) -> u32
             return 2;
         }
         return 0;
+    }
+    if reset_before(prev) {
+        return 1;
     }
     if moved(waited, prev, rec) {
         return 3;

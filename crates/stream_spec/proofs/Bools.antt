@@ -17,6 +17,11 @@ pub and-right : (a b : Bool) → (a && b) ≡ true → b ≡ true
 and-right true b e = e
 and-right false b e = no-such refl e
 
+-- a conjunction that is false, where the right side is true
+pub not-left : (a b : Bool) → (a && b) ≡ false → b ≡ true → a ≡ false
+not-left true b e h = no-such e h
+not-left false b e h = refl
+
 -- a disjunction that is false has two false sides
 pub neither : (a b : Bool) → (a || b) ≡ false → (a ≡ false) × (b ≡ false)
 neither true b e = no-such e refl

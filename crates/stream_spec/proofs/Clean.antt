@@ -1,5 +1,5 @@
--- What a clean verdict says of a take: width and length have passed, its number counts the transfers, and harvesting it is
--- refused for want of room and for nothing else. Assumes nothing.
+-- What a clean verdict says of a take: width and length have passed, no rule is broken, its number counts the transfers, and
+-- harvesting it is refused for want of room and for nothing else. Assumes nothing.
 use mathlib.Core.Path.{_≡_, refl, _∙_}
 use mathlib.Core.Bool.{Bool, true, false}
 use mathlib.Core.List.{List, [], _∷_, _++_, map}
@@ -46,6 +46,9 @@ module _ (s : Shape) (xs : List ℕ) (n : ℕ) (clean : judgeAnswer s xs ≡ Cle
 
   pub clean-count : n ≡ transferCount s xs
   clean-count = is .count
+
+  pub clean-sound : firstFinding s xs ≡ none
+  clean-sound = is .sound
 
   -- width and length have passed their tests
   pub clean-passed : Passed s xs

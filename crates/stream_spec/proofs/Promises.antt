@@ -1,7 +1,7 @@
 -- Every statement of specs/Promises, proved: mostly by citing the law that carries it. Assumes nothing.
 use mathlib.Core.Path.{_≡_, refl, sym, ap, _∙_}
 use mathlib.Core.Logic.{inl, inr, ⊎-elim}
-use mathlib.Core.Bool.{Bool, true, false, not, or-true}
+use mathlib.Core.Bool.{Bool, true, false, not, _||_, or-true}
 use mathlib.Core.List.{List, [], _∷_}
 use borrow.Author.Tests.{eqb-true, eqb-false, eq-eqb, ne-eqb, ltb-true, lt-ltb, leb-false, not-true}
 use lib.Dec.{eqb, ltb}
@@ -12,16 +12,18 @@ use native.Mathlib.Omega.{arith}
 use lib.ListN.{length, getD, drop, length-map, length-append, length-drop}
 use mathlib.Core.Option.{none}
 use Rattle.stream_spec.specs.declared.Shape.{Shape}
+use Rattle.stream_spec.specs.declared.Verdict.the-variants.{Clean}
 use Rattle.stream_spec.specs.Items.{Item, Transfer, items}
 use Rattle.stream_spec.specs.Packed.{pack, sliceTransfer, slices}
-use Rattle.stream_spec.specs.Layout.{bit, odd, size, tkeep, tstrb, atWidth, nullLane, laneType, typesOf, Kept, dataOctets, recordCount, records, transferOf, transfers, octets, streamItems, slicedTransfers}
+use Rattle.stream_spec.specs.Layout.{bit, odd, size, tvalid, aresetn, tkeep, tstrb, atWidth, nullLane, laneType, typesOf, Kept, dataOctets, recordCount, records, transferOf, transfers, octets, streamItems, slicedTransfers}
 use Rattle.stream_spec.specs.Checks.{takeChecks, indexCheck}
+use Rattle.stream_spec.specs.Handshake.{wasReset}
 use Rattle.stream_spec.specs.Walk.{Passed}
-use Rattle.stream_spec.specs.Answers.{dataRefusal, dataPart}
-use Rattle.stream_spec.specs.Promises.{SetAbove, FieldBits, DataHandedOut, WidthExactly, LengthExactly, ByteTypes, RepackingKeeps, PackedLegal, PackedLength, PackedFull, PackedOnly, Holds, Joins, Canonical, LaneKeeping, Findings, HarvestLegal, HarvestRepacks}
+use Rattle.stream_spec.specs.Answers.{judgeAnswer, dataRefusal, dataPart}
+use Rattle.stream_spec.specs.Promises.{SetAbove, cycleBefore, FieldBits, DataHandedOut, WidthExactly, LengthExactly, ByteTypes, RepackingKeeps, PackedLegal, PackedLength, PackedFull, PackedOnly, Holds, Joins, Canonical, LaneKeeping, Findings, ResetQuiet, HarvestLegal, HarvestRepacks}
 use Rattle.stream_spec.proofs.Bits.{bit-zero, bit-suc}
 use Rattle.stream_spec.proofs.Size.{data-long}
-use Rattle.stream_spec.proofs.Bools.{or-split}
+use Rattle.stream_spec.proofs.Bools.{or-split, not-left}
 use Rattle.refusal.proofs.First.{first-none, append-none}
 use Rattle.stream_spec.proofs.Passed.{checks-passed}
 use Rattle.stream_spec.proofs.Pack.{pack-parted, length-spread, items-slices, wide-slices}
@@ -31,6 +33,7 @@ use Rattle.stream_spec.proofs.Legal.{packed-legal, sliced-legal, wide-t
 use Rattle.stream_spec.proofs.Full.{packed-full}
 use Rattle.stream_spec.proofs.Only.{packed-only}
 use Rattle.stream_spec.proofs.Findings.{judges}
+use Rattle.stream_spec.proofs.Clean.{clean-sound}
 use Rattle.stream_spec.proofs.Harvest.{harvestLegal as harvest-legal, harvestRepacks as harvest-repacks}
 
 -- ---- refusals
@@ -176,6 +179,20 @@ laneKeeping s v xs w d l =
 
 pub findings : Findings
 findings = judges
+
+-- no cycle of a clean take breaks R1: with ARESETn low there or at the cycle before, TVALID is low
+quiet-at : (s : Shape) (xs : List ℕ) (n k : ℕ) → judgeAnswer s xs ≡ Clean n → k < length (records s xs)
+    → (not (aresetn (getD (records s xs) k [])) || wasReset (cycleBefore (records s xs) k)) ≡ true → tvalid (getD (records s xs) k []) ≡ false
+quiet-at s xs n k clean there low =
+    let c = getD (records s xs) k [] in
+    not-left (tvalid c) (not (aresetn c) || wasReset (cycleBefore (records s xs) k)) (judges s xs .clean (clean-sound s xs n clean) k 1 there) low
+
+pub resetQuiet : ResetQuiet
+resetQuiet s xs n k clean there low =
+    record {
+      inReset = quiet-at s xs n k clean there (rw low refl);
+      afterReset = λ h. quiet-at s xs n (suc k) clean h (rw low (or-true (not (aresetn (getD (records s xs) (suc k) [])))));
+    }
 
 pub harvestLegal : HarvestLegal
 harvestLegal = harvest-legal

@@ -10,17 +10,19 @@ use native.Mathlib.Omega.{arith}
 use lib.Dec.{lit<, lit≤}
 use lib.ListN.{length, getD}
 use Rattle.refusal.specs.declared.Refusal.the-variants.{Room, Index}
+use Rattle.stream_spec.specs.declared.Verdict.the-variants.{Clean}
 use Rattle.stream_spec.specs.Packed.{pack}
 use Rattle.stream_spec.specs.Layout.{size, dataLane, nullLane, laneTypes, records, streamItems, packedTransfers, packed, slicedTransfers}
 use Rattle.stream_spec.specs.Checks.{widthCheck}
-use Rattle.stream_spec.specs.Answers.{repackRefusal, repackAnswer, repackAfter, dataPart}
+use Rattle.stream_spec.specs.Answers.{judgeAnswer, repackRefusal, repackAnswer, repackAfter, dataPart}
 use Rattle.stream_spec.specs.Legal.{Legal}
-use Rattle.stream_spec.specs.Promises.{Width, SetAbove, Packs, breaks, IsEarliest}
+use Rattle.stream_spec.specs.Promises.{Width, SetAbove, Packs, breaks, IsEarliest, Quiet}
 use Rattle.stream_spec.specs.Demand3.{acceptedAt, next, afterCalls, whole}
 use Rattle.stream_spec.specs.Tables.{lanes, stream, isLegal}
 use Rattle.stream_spec.specs.Cases.{p1}
-use Rattle.stream_spec.specs.Witnesses.{first, firstItems, atOne, atFour, atSixteen, endless, endlessItems, lends, refusedCalls, mixedCalls, someParts, someNumbers, someJoined, packedOnes, onesBytes, onesEnds, onesItems, p1Slices, p1Items, p1Packed, wide, brokenTake, cleanTake, harvest}
-use Rattle.stream_spec.proofs.Promises.{fieldBits, byteTypes, dataHandedOut, repackingKeeps, packedLegal, packedFull, packedOnly, holds, joins, canonical, laneKeeping, findings, harvestLegal, harvestRepacks}
+use Rattle.stream_spec.specs.Witnesses.{first, firstItems, atOne, atFour, atSixteen, endless, endlessItems, lends, refusedCalls, mixedCalls, someParts, someNumbers, someJoined, packedOnes, onesBytes, onesEnds, onesItems, p1Slices, p1Items, p1Packed, wide, brokenTake, cleanTake, resetTake, earlyTake, loudTake, harvest}
+use Rattle.stream_spec.proofs.Bools.{no-such}
+use Rattle.stream_spec.proofs.Promises.{fieldBits, byteTypes, dataHandedOut, repackingKeeps, packedLegal, packedFull, packedOnly, holds, joins, canonical, laneKeeping, findings, resetQuiet, harvestLegal, harvestRepacks}
 use Rattle.stream_spec.proofs.Demand3.{calls, parts}
 use Rattle.stream_spec.proofs.Tables.{widthTested, octets-tested, legalTested, dividesTested}
 
@@ -150,6 +152,20 @@ others = (earliest .others 1 4 (lit< tt) refl, earliest .others 2 1 (lit< tt) re
 pub clean : breaks (lanes 1) (records (lanes 1) cleanTake) 2 3 ≡ false
 unfolding size
 clean = findings (lanes 1) cleanTake .clean refl 2 3 (lit< tt)
+
+-- quiet in reset and after it; and in a reset at the take's end, which no cycle follows
+pub reset-quiet : Quiet (records (lanes 1) resetTake) 0 × Quiet (records (lanes 1) resetTake) 3
+unfolding size judgeAnswer
+reset-quiet = (resetQuiet (lanes 1) resetTake 1 0 refl (lit< tt) refl, resetQuiet (lanes 1) resetTake 1 3 refl (lit< tt) refl)
+
+-- so a take that is not quiet there is never judged clean
+pub early : (n : ℕ) → judgeAnswer (lanes 1) earlyTake ≡ Clean n → ⊥
+unfolding size
+early n e = no-such (resetQuiet (lanes 1) earlyTake n 0 e (lit< tt) refl .afterReset (lit< tt)) refl
+
+pub loud : (n : ℕ) → judgeAnswer (lanes 1) loudTake ≡ Clean n → ⊥
+unfolding size
+loud n e = no-such (resetQuiet (lanes 1) loudTake n 0 e (lit< tt) refl .inReset) refl
 
 -- harvested with exactly the room it needs
 pub harvests : Legal (lanes 1) harvest × (16 ≤ 24)

@@ -303,4 +303,18 @@ workedCases =
     -- W75: an end of another pair than the item before it is a packet of its own
     ∷ gives (repack (lanes 1) 2 (one 0 1 0 1 1 7 ++ one 1 2 0 0 0 0) (eight ++ eight ++ ee)) 2
     (0 ∷ 1 ∷ 0 ∷ 1 ∷ 0 ∷ 1 ∷ 0 ∷ 7 ∷ 0 ∷ 1 ∷ 2 ∷ 0 ∷ 0 ∷ 0 ∷ 0 ∷ 0 ∷ 0 ∷ 0 ∷ 0xEE ∷ 0xEE ∷ [])
+    -- W76: T-01: the first record is judged on its own ARESETn only
+    ∷ gives (judge (lanes 1) (one 0x0E 0 0 1 1 7)) 1 []
+    -- W77: T-01: R1 in the first sample out of reset
+    ∷ breaks (judge (lanes 1) (one 0x00 0 0 0 0 0 ++ one 0x0E 0 0 1 1 7)) 1 1
+    -- W78: T-01: the same where ARESETn is still low
+    ∷ breaks (judge (lanes 1) (one 0x00 0 0 0 0 0 ++ one 0x02 0 0 0 0 0)) 1 1
+    -- W79: T-01: one sample with ARESETn high and TVALID low is enough
+    ∷ gives (judge (lanes 1) (one 0x00 0 0 0 0 0 ++ one 0x08 0 0 0 0 0 ++ one 0x0E 0 0 1 1 7)) 1 []
+    -- W80: T-01: a reserved lane there is 1 and not 4
+    ∷ breaks (judge (lanes 1) (one 0x00 0 0 0 0 0 ++ one 0x0E 0 0 0 1 0)) 1 1
+    -- W81: T-01: a transfer that waited is not taken up again straight out of reset, which R3 does not read
+    ∷ breaks (judge (lanes 1) (one 0x0A 5 0 1 1 7 ++ one 0x04 6 0 0 0 0 ++ one 0x0A 5 0 1 1 7)) 2 1
+    -- W82: T-01: 14 of harvesting, with that cycle and rule; there is room
+    ∷ record { asked = harvest (lanes 1) (one 0x00 0 0 0 0 0 ++ one 0x0E 0 0 1 1 7) eight; told = tells (values 14 1 1 0) eight }
     ∷ []

@@ -1,6 +1,6 @@
--- Handshake findings (paper 01, 'Handshake findings'; Arm IHI 0051A 2.2.1, 2.4.3, 2.7.2): rules R1 to R4 on a cycle and
--- the cycle before it, the first finding of a take, its transfers, and fill-in of TLAST.
-use mathlib.Core.Bool.{Bool, true, false, not, _&&_, cond, Bool·beq}
+-- Handshake findings (paper 01, 'Handshake findings', with paper 02's T-01; Arm IHI 0051A 2.2.1, 2.4.3, 2.7.2): rules R1 to
+-- R4 on a cycle and the cycle before it, the first finding of a take, its transfers, and fill-in of TLAST.
+use mathlib.Core.Bool.{Bool, true, false, not, _&&_, _||_, cond, Bool·beq}
 use mathlib.Core.List.{List, [], _∷_, _++_, map}
 use mathlib.Core.Option.{Option, none, some}
 use Prim.Native.Nat.{ℕ, suc}
@@ -31,10 +31,15 @@ abbrev pub differs : Option (List ℕ) → List ℕ → Bool
 differs none c = false
 differs (some b) c = not (sameOctets (body b) (body c) && Bool·beq (tlast b) (tlast c))
 
--- "R1: TVALID high while ARESETn is low." (2.7.2, which also forbids TVALID in the first sample with ARESETn high: there
--- 01 knowingly says less)
+-- T-01: "the record before it in the take had ARESETn low". "A take's first record is judged on its own ARESETn only."
+abbrev pub wasReset : Option (List ℕ) → Bool
+wasReset none = false
+wasReset (some b) = not (aresetn b)
+
+-- T-01: "R1 becomes: TVALID high while ARESETn is low, or while the record before it in the take had ARESETn low." (2.7.2,
+-- figure 2-4: TVALID begins only at an edge after one where ARESETn was high)
 abbrev pub r1 : Option (List ℕ) → List ℕ → Bool
-r1 before c = tvalid c && not (aresetn c)
+r1 before c = tvalid c && (not (aresetn c) || wasReset before)
 
 -- "R2: the cycle before waited, ARESETn is high now, TVALID is low." (2.2.1)
 abbrev pub r2 : Option (List ℕ) → List ℕ → Bool

@@ -11,12 +11,13 @@ use lib.ListN.{length, getD}
 use Rattle.refusal.specs.declared.Refusal.{Refusal}
 use Rattle.refusal.specs.declared.Refusal.the-variants.{Room}
 use Rattle.stream_spec.specs.declared.Shape.{Shape}
+use Rattle.stream_spec.specs.declared.Verdict.the-variants.{Clean}
 use Rattle.stream_spec.specs.Items.{samePair, Transfer, Item, kept, items}
 use Rattle.stream_spec.specs.Packed.{fitted, pack, settled, held, parted}
-use Rattle.stream_spec.specs.Layout.{bit, widthMost, tkeep, tstrb, size, atWidth, nullLane, laneType, laneTypes, Kept, records, streamItems, packedTransfers, packed, slicedTransfers, sliced}
+use Rattle.stream_spec.specs.Layout.{bit, widthMost, tvalid, aresetn, tkeep, tstrb, size, atWidth, nullLane, laneType, laneTypes, Kept, records, streamItems, packedTransfers, packed, slicedTransfers, sliced}
 use Rattle.stream_spec.specs.Checks.{widthCheck, lengthCheck}
 use Rattle.stream_spec.specs.Handshake.{r1, r2, r3, r4, Finding, firstFinding, harvested}
-use Rattle.stream_spec.specs.Answers.{repackRefusal, harvestRefusal, dataRefusal, dataPart}
+use Rattle.stream_spec.specs.Answers.{judgeAnswer, repackRefusal, harvestRefusal, dataRefusal, dataPart}
 use Rattle.stream_spec.specs.Legal.{Octets, Legal}
 
 -- a width that is not refused
@@ -164,6 +165,16 @@ pub record FindsEarliest (s : Shape) (xs : List ℕ) : Type 0 where
 
 abbrev pub Findings : Type 0
 Findings = (s : Shape) (xs : List ℕ) → FindsEarliest s xs
+
+-- What T-01's R1 comes to: in a take that is judged clean, where ARESETn is low at cycle k, TVALID is low at k and at k + 1.
+pub record Quiet (cs : List (List ℕ)) (k : ℕ) : Type 0 where
+  pub inReset : tvalid (getD cs k []) ≡ false
+  pub afterReset : suc k < length cs → tvalid (getD cs (suc k) []) ≡ false
+
+abbrev pub ResetQuiet : Type 0
+ResetQuiet =
+    (s : Shape) (xs : List ℕ) (n k : ℕ) → judgeAnswer s xs ≡ Clean n → k < length (records s xs)
+    → aresetn (getD (records s xs) k []) ≡ false → Quiet (records s xs) k
 
 -- ---- harvest
 

@@ -120,5 +120,16 @@ brokenTake = one 0x0A 5 0 1 1 7 ++ (one 0x0E 6 0 0 1 7 ++ one 0x02 0 0 0 0 0)
 abbrev pub cleanTake : List ℕ
 cleanTake = one 0x0F 1 2 1 0 7 ++ (one 0x0A 1 2 1 1 8 ++ one 0x0E 1 2 1 1 8)
 
+-- reset, one sample with ARESETn high and TVALID low, and a transfer; ARESETn falls again at the last cycle
+abbrev pub resetTake : List ℕ
+resetTake = one 0x00 0 0 0 0 0 ++ (one 0x08 0 0 0 0 0 ++ (one 0x0E 1 2 1 1 8 ++ one 0x04 0 0 0 0 0))
+
+-- TVALID in the first sample out of reset, and TVALID in reset
+abbrev pub earlyTake : List ℕ
+earlyTake = one 0x00 0 0 0 0 0 ++ one 0x0E 1 2 1 1 8
+
+abbrev pub loudTake : List ℕ
+loudTake = one 0x02 0 0 0 0 0
+
 abbrev pub harvest : List ℕ
 harvest = one 1 1 2 1 0 7 ++ one 0 1 2 1 1 8

@@ -1,11 +1,12 @@
 -- `stream_judge::rule_of` meets its contract: each way through the flags gives the lowest rule. Assumes nothing.
 use mathlib.Core.Path.{_≡_, sym, _∙_}
-use mathlib.Core.Bool.{Bool, true, false, _&&_}
+use mathlib.Core.Bool.{Bool, true, false, _&&_, cond}
 use mathlib.Core.Option.{some}
 use borrow.Author.Tests.{not-true, not-false}
 use Rattle.stream_spec.specs.Layout.{bit, tvalidBit, aresetnBit, laneTypes, anyReserved}
-use Rattle.stream_spec.specs.Handshake.{differs}
-use Rattle.stream_judge.proofs.Rules.{rule-1, rule-0-reset, rule-2, rule-0-idle, rule-3, rule-4, reserved-is, moved-needs}
+use Rattle.stream_spec.specs.Handshake.{wasReset, differs}
+use Rattle.stream_judge.specs.Scan.{beforeOf, lowestRule}
+use Rattle.stream_judge.proofs.Rules.{rule-1, rule-0-reset, rule-2, rule-0-idle, rule-1-after, rule-3, rule-4, reserved-is, moved-needs}
 use borrow.Author.Needs.{needs}
 use Rattle.stream_judge.proofs.rule_of.Statement.{statement}
 use Rattle.stream_judge.proofs.rule_of.Tie as tie
@@ -36,14 +37,24 @@ valid c = let r = c .before .before in valid-told r true (not-false (r .before .
 abbrev high : tie.Else3 → tie.Start
 high c = entry (c .before .before)
 
+-- whether ARESETn was low in the record before, where the test gave t
+before-told : (c : tie.After-reset-before) (t : Bool) → c .reset-before .result ≡ t → wasReset (beforeOf (high (c .before) .args .prev .now)) ≡ t
+before-told c t e = sym (c .reset-before .ensures) ∙ e
+
+abbrev calm : tie.Else5 → tie.Else3
+calm c = c .before .before
+
+no-reset : (c : tie.Else5) → wasReset (beforeOf (high (calm c) .args .prev .now)) ≡ false
+no-reset c = before-told (c .before) false (c .if5 .left)
+
 -- whether the record moved, where the test gave t
 moved-told : (c : tie.After-moved) (t : Bool) → c .moved .result ≡ t
-    → (high (c .before) .args .waited && differs (some (high (c .before) .args .prev .now)) (high (c .before) .args .rec .now)) ≡ t
+    → (high (calm (c .before)) .args .waited && differs (some (high (calm (c .before)) .args .prev .now)) (high (calm (c .before)) .args .rec .now)) ≡ t
 moved-told c t e = sym (c .moved .ensures) ∙ e
 
 -- whether a lane is reserved, where the test gave t
 abbrev still : tie.After-reserved → tie.Start
-still c = high (c .before .before .before)
+still c = high (calm (c .before .before .before))
 
 reserved-told : (c : tie.After-reserved) (t : Bool) → c .reserved .result ≡ t → anyReserved (laneTypes (still c .args .s) (still c .args .rec .now)) ≡ t
 reserved-told c t e = reserved-is (still c .pre) (c .reserved .result) (c .reserved .ensures) ∙ e
@@ -70,28 +81,39 @@ returns-3 c = let i = c .before in rule-2 (entry (i .before .before) .pre) (out-
 returns-4 : tie.Need-returns-4
 returns-4 c = let i = c .before in rule-0-idle (entry (i .before .before) .pre) (out-of-reset (i .before)) (idle i) (c .if4 .left)
 
-moved-requires : tie.Need-moved-requires
-moved-requires c κs = moved-needs (high c .pre)
+reset-before-requires : tie.Need-reset-before-requires
+reset-before-requires c κs = search needs
 
 returns-5 : tie.Need-returns-5
 returns-5 c =
     let h = c .before .before in
-    rule-3 (high h .pre) (out-of-reset (h .before)) (valid h) (moved-told (c .before) true (c .if5 .taken))
+    rule-1-after (high h .pre) (out-of-reset (h .before)) (valid h) (before-told (c .before) true (c .if5 .taken))
 
-reserved-requires : tie.Need-reserved-requires
-reserved-requires c κs = search needs
+moved-requires : tie.Need-moved-requires
+moved-requires c κs = moved-needs (high (calm c) .pre)
 
 returns-6 : tie.Need-returns-6
 returns-6 c =
     let n = c .before .before in
-    let h = n .before .before in
-    rule-4 (high h .pre) (out-of-reset (h .before)) (valid h) (moved-told (n .before) false (n .if5 .left)) true (reserved-told (c .before) true (c .if6 .taken))
+    let h = calm n in
+    rule-3 (high h .pre) (out-of-reset (h .before)) (valid h) (no-reset n) (moved-told (c .before) true (c .if6 .taken))
+
+reserved-requires : tie.Need-reserved-requires
+reserved-requires c κs = search needs
+
+-- R4 is left: it is told where a lane is reserved
+last : (c : tie.After-reserved) (t : Bool) → c .reserved .result ≡ t → cond t 4 0 ≡ lowestRule (still c .args .s) (beforeOf (still c .args .prev .now)) (still c .args .rec .now)
+last c t e =
+    let m = c .before in
+    let n = m .before .before in
+    let h = calm n in
+    rule-4 (high h .pre) (out-of-reset (h .before)) (valid h) (no-reset n) (moved-told (m .before) false (m .if6 .left)) t (reserved-told c t e)
 
 returns-7 : tie.Need-returns-7
-returns-7 c =
-    let n = c .before .before in
-    let h = n .before .before in
-    rule-4 (high h .pre) (out-of-reset (h .before)) (valid h) (moved-told (n .before) false (n .if5 .left)) false (reserved-told (c .before) false (c .if6 .left))
+returns-7 c = last (c .before) true (c .if7 .taken)
+
+returns-8 : tie.Need-returns-8
+returns-8 c = last (c .before) false (c .if7 .left)
 
 pub rule-of-spec : {M : Type 1} → statement M
 rule-of-spec =
@@ -103,8 +125,10 @@ rule-of-spec =
     returns-2
     returns-3
     returns-4
-    moved-requires
+    reset-before-requires
     returns-5
-    reserved-requires
+    moved-requires
     returns-6
-    returns-7)
+    reserved-requires
+    returns-7
+    returns-8)
