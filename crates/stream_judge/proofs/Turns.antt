@@ -20,7 +20,7 @@ use Rattle.stream_spec.specs.declared.Verdict.the-variants.{Clean, Broken, Refu
 use Rattle.stream_spec.specs.Layout.{bitOf, widthMost, size, records}
 use Rattle.refusal.specs.Checks.{Check, first}
 use Rattle.stream_spec.specs.Checks.{fieldFault, cycleFlags, cycleChecks, takeChecks}
-use Rattle.stream_spec.specs.Handshake.{waited, waits, r1, r2, r3, r4, transferred, handshakes, Finding, finding, ruleChecks, findings}
+use Rattle.stream_spec.specs.Handshake.{r1, r2, r3, r4, transferred, handshakes, Finding, finding, ruleChecks, findings}
 use Rattle.stream_spec.specs.Answers.{verdict, verdictValues, judgeAnswer, Judged}
 use Rattle.stream_spec.specs.Walk.{Passed, recordAt}
 use Rattle.stream_spec.proofs.Bits.{bit-one}
@@ -34,7 +34,7 @@ use Rattle.stream_record.specs.Header.{headerOf, headerFault}
 use Rattle.stream_record.specs.Checked.{checkedOf}
 use Rattle.stream_head.specs.Zeros.{zerosOf}
 use Rattle.stream_record.proofs.Tests.{refused-front, passed-front}
-use Rattle.stream_judge.specs.Scan.{waitsBy, transfersBy, beforeOf, lowestRule, CycleAt, verdictFrom, Turning, verdictBehind, Behind, Looking}
+use Rattle.stream_judge.specs.Scan.{transfersBy, beforeOf, flagsBefore, lowestRule, CycleAt, verdictFrom, Turning, verdictBehind, Behind, Looking}
 
 -- ---- one cycle more of a verdict
 
@@ -129,15 +129,15 @@ module _ (s : Shape) (xs : List ℕ) (from j at k : ℕ) (w : Finding) (h : Look
 pub at-most-one : (n f : ℕ) → n ≡ bitOf (transfersBy f) → n ≤ 1
 at-most-one n f e = rw e (bit-one (transfersBy f))
 
-pub turning-start : (s : Shape) (xs : List ℕ) → Passed s xs → Turning s xs 0 0 0 0 false
+pub turning-start : (s : Shape) (xs : List ℕ) → Passed s xs → Turning s xs 0 0 0 0 (flagsBefore none)
 turning-start s xs p =
     record {
       left = left-start s xs (p .whole);
       behind = omega arith;
-      before = λ h. absurd (omega arith);
+      prevWhole = λ h. absurd (omega arith);
       counted = omega arith;
       few = omega arith;
-      waits = refl;
+      flagged = refl;
       same = refl;
     }
 
@@ -146,7 +146,7 @@ before-some : (r : List ℕ) → 0 < length r → beforeOf r ≡ some r
 before-some [] h = absurd (omega arith)
 before-some (f ∷ r) h = refl
 
-module _ (s : Shape) (xs : List ℕ) (from at k count : ℕ) (wait : Bool) (h : Turning s xs from at k count wait) where
+module _ (s : Shape) (xs : List ℕ) (from at k count prevFlags : ℕ) (h : Turning s xs from at k count prevFlags) where
   -- the record before
   abbrev prev : List ℕ
   prev = take (at - from) (drop from xs)
@@ -176,7 +176,7 @@ module _ (s : Shape) (xs : List ℕ) (from at k count : ℕ) (wait : Bool) (h : 
     turn-bad f = from-bad s k rec later (beforeOf prev) count f ∙ left-from
 
     -- what a call of `rule_of` asks
-    pub asks : Passed s xs → (d : Header) → d ≡ headerOf rec → fieldFault cycleFlags s rec ≡ false → CycleAt s d wait prev rec
+    pub asks : Passed s xs → (d : Header) → d ≡ headerOf rec → fieldFault cycleFlags s rec ≡ false → CycleAt s d prevFlags prev rec
     asks p d e f =
         record {
           low = p .low;
@@ -184,8 +184,8 @@ module _ (s : Shape) (xs : List ℕ) (from at k count : ℕ) (wait : Bool) (h : 
           header = e;
           sound = f;
           whole = record-long s xs at (h .left) l z q;
-          before = λ n. prev-long ∙ h .before (omega (arith, prev-long));
-          waits = h .waits;
+          prevWhole = λ n. prev-long ∙ h .prevWhole (omega (arith, prev-long));
+          flagged = h .flagged;
         }
 
     -- what a call of `broken` asks
@@ -209,19 +209,18 @@ module _ (s : Shape) (xs : List ℕ) (from at k count : ℕ) (wait : Bool) (h : 
 
       -- no rule is broken, and a cycle more
       pub goes-on : rule ≡ 0 → (d : Header) → d ≡ headerOf rec → (n : ℕ) → n ≡ bitOf (transfersBy (d .flags))
-          → (w : Bool) → w ≡ waitsBy (d .flags) → Turning s xs at (at + z) (k + 1) (count + n) w
-      goes-on none' d is n counted w waiting =
+          → Turning s xs at (at + z) (k + 1) (count + n) (d .flags)
+      goes-on none' d is n counted =
           let long : at + z - at ≡ size s = omega arith in
           let some-rec : 0 < length rec = omega (arith, record-long s xs at (h .left) l z q, size-pos s) in
           let same-count : n ≡ bitOf (transferred rec) = counted ∙ ap (λ (g : Header). bitOf (transfersBy (g .flags))) is in
-          let same-wait : w ≡ waits rec = waiting ∙ ap (λ (g : Header). waitsBy (g .flags)) is in
           record {
             left = left-next s xs at (h .left) l z q;
             behind = omega arith;
-            before = λ t. long;
+            prevWhole = λ t. long;
             counted = omega (arith, h .counted, at-most-one n (d .flags) counted);
             few = few-next s xs at (h .left) l z q k (h .few);
-            waits = same-wait ∙ sym (ap waited (before-some rec some-rec));
+            flagged = ap (λ (g : Header). g .flags) is ∙ sym (ap flagsBefore (before-some rec some-rec));
             same =
                 ap₂ (λ (b : Option (List ℕ)) (i : ℕ). verdictFrom s b i later (count + n)) (before-some rec some-rec) (add-one k)
                 ∙ ap (λ (m : ℕ). verdictFrom s (some rec) (suc k) later (count + m)) same-count

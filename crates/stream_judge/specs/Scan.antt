@@ -3,15 +3,15 @@
 use mathlib.Core.Bool.{Bool, false, not, _&&_, cond}
 use mathlib.Core.List.{List, [], _∷_}
 use mathlib.Core.Option.{Option, none, some}
-use Prim.Native.Nat.{ℕ, _+_, _-_, _≤_, _<_}
+use Prim.Native.Nat.{ℕ, _+_, _-_, _^_, _≤_, _<_}
 use mathlib.Core.Path.{_≡_}
 use lib.ListN.{length, take, drop}
 use Rattle.refusal.specs.Checks.{first}
 use Rattle.stream_spec.specs.declared.Shape.{Shape}
 use Rattle.stream_spec.specs.declared.Verdict.{Verdict}
-use Rattle.stream_spec.specs.Layout.{bit, tvalidBit, treadyBit, aresetnBit, widthMost, size, sizeLeast, records}
+use Rattle.stream_spec.specs.Layout.{bit, tvalidBit, treadyBit, aresetnBit, flags, widthMost, size, sizeLeast, records}
 use Rattle.stream_spec.specs.Checks.{fieldFault, cycleFlags, cycleChecks}
-use Rattle.stream_spec.specs.Handshake.{waited, r1, r2, r3, r4, handshakes, Finding, findings}
+use Rattle.stream_spec.specs.Handshake.{r1, r2, r3, r4, handshakes, Finding, findings}
 use Rattle.stream_spec.specs.Answers.{verdict}
 use Rattle.stream_spec.specs.Walk.{Passed, Left}
 use Rattle.stream_record.specs.declared.Header.{Header}
@@ -44,20 +44,26 @@ abbrev pub beforeOf : List ℕ → Option (List ℕ)
 beforeOf [] = none
 beforeOf (f ∷ r) = some (f ∷ r)
 
+-- the flags of the cycle before. Where there is none they are those of an idle cycle, ARESETn alone: it neither waits nor is
+-- in reset, and no rule reads more of it.
+abbrev pub flagsBefore : Option (List ℕ) → ℕ
+flagsBefore none = 2 ^ aresetnBit
+flagsBefore (some b) = flags b
+
 -- the lowest rule that a cycle breaks, or 0
 abbrev pub lowestRule : Shape → Option (List ℕ) → List ℕ → ℕ
 lowestRule s b c = cond (r1 b c) 1 (cond (r2 b c) 2 (cond (r3 b c) 3 (cond (r4 s c) 4 0)))
 
 -- what is known where a cycle is judged: its record is whole with no bad field, the header is its, `prev` is the record
--- before it, whole too, or empty, and `wait` tells whether that one waited
-pub record CycleAt (s : Shape) (h : Header) (wait : Bool) (prev rec : List ℕ) : Type 0 where
+-- before it, whole too, or empty, and `prevFlags` are that one's flags
+pub record CycleAt (s : Shape) (h : Header) (prevFlags : ℕ) (prev rec : List ℕ) : Type 0 where
   pub low : 1 ≤ s .width
   pub high : s .width ≤ widthMost
   pub header : h ≡ headerOf rec
   pub sound : fieldFault cycleFlags s rec ≡ false
   pub whole : length rec ≡ size s
-  pub before : 0 < length prev → length prev ≡ size s
-  pub waits : wait ≡ waited (beforeOf prev)
+  pub prevWhole : 0 < length prev → length prev ≡ size s
+  pub flagged : prevFlags ≡ flagsBefore (beforeOf prev)
 
 -- ---- the pass
 
@@ -66,14 +72,14 @@ abbrev pub verdictFrom : Shape → Option (List ℕ) → ℕ → List (List ℕ)
 verdictFrom s b k cs n = verdict (first (cycleChecks s k cs)) (first (findings s k b cs)) (n + length (handshakes cs))
 
 -- what is known at the start of each turn, with no finding yet: at `at` begins the record of cycle k, the record before it
--- begins at `from`, and `wait` tells whether that one waits
-pub record Turning (s : Shape) (xs : List ℕ) (from at k count : ℕ) (wait : Bool) : Type 0 where
+-- begins at `from`, and `prevFlags` are that one's flags
+pub record Turning (s : Shape) (xs : List ℕ) (from at k count prevFlags : ℕ) : Type 0 where
   pub left : Left s xs at
   pub behind : from ≤ at
-  pub before : 0 < at - from → at - from ≡ size s
+  pub prevWhole : 0 < at - from → at - from ≡ size s
   pub counted : count ≤ k
   pub few : k ≤ at
-  pub waits : wait ≡ waited (beforeOf (take (at - from) (drop from xs)))
+  pub flagged : prevFlags ≡ flagsBefore (beforeOf (take (at - from) (drop from xs)))
   pub same :
       verdictFrom s (beforeOf (take (at - from) (drop from xs))) k (records s (drop at xs)) count
       ≡ verdictFrom s none 0 (records s xs) 0

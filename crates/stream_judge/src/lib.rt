@@ -4,6 +4,7 @@ use refusal::Refusal;
 use stream_head::Zeros;
 use stream_record::Checked;
 use stream_record::Header;
+use stream_record::layout::ARESETN;
 use stream_record::layout::CYCLE_FLAGS;
 use stream_record::layout::FLAGS;
 use stream_record::layout::SIZE_LEAST;
@@ -18,8 +19,8 @@ ghost use Prim.Native.Nat.{_+_, _≤_};
 ghost use lib.ListN.{length, take, drop};
 ghost use mathlib.Core.Bool.{_&&_, not, true};
 ghost use mathlib.Core.Option.{none, some};
-ghost use Rattle.stream_spec.specs.Layout.{records, bitOf};
-ghost use Rattle.stream_spec.specs.Handshake.{sameOctets, differs, wasReset, finding};
+ghost use Rattle.stream_spec.specs.Layout.{bit, aresetnBit, records, bitOf};
+ghost use Rattle.stream_spec.specs.Handshake.{sameOctets, differs, finding};
 ghost use Rattle.stream_spec.specs.Answers.{Judged};
 ghost use Rattle.stream_spec.specs.Walk.{Passed};
 ghost use Rattle.stream_judge.specs.Scan.{waitsBy, transfersBy, Alike, beforeOf, lowestRule, CycleAt};
@@ -114,36 +115,35 @@ fn moved(waited: bool, prev: &[u8], rec: &[u8]) -> bool
     false
 }
 
-// Whether ARESETn was low in the record before, `prev`, which is empty if there is none.
-fn reset_before(prev: &[u8]) -> bool
-    ensures { λ r. ⌜ r ≡ wasReset (beforeOf (now (prev .entry))) ⌝ }
+// Whether ARESETn is high in a cycle with these flags, and was in the cycle before.
+fn out_of_reset(flags: u32, prev_flags: u32) -> bool
+    ensures { λ r. ⌜ r ≡ (bit aresetnBit flags && bit aresetnBit «prev_flags») ⌝ }
 {
-    if prev.len() == 0 {
+    if !aresetn(flags) {
         return false;
     }
-    !aresetn(words::widen4(prev[FLAGS]))
+    aresetn(prev_flags)
 }
 
-// The lowest rule that the record breaks, or 0. `prev` is the record before it, empty if there is none.
-fn rule_of(s: Shape, h: Header, waited: bool, prev: &[u8], rec: &[u8]) -> u32
-    requires { ⌜ CycleAt s h waited (now prev) (now rec) ⌝ }
+// The lowest rule that the record breaks, or 0. `prev` is the record before it, with its flags; if there is none, `prev` is
+// empty and the flags are an idle cycle's.
+fn rule_of(s: Shape, h: Header, prev_flags: u32, prev: &[u8], rec: &[u8]) -> u32
+    requires { ⌜ CycleAt s h «prev_flags» (now prev) (now rec) ⌝ }
     ensures { λ r. ⌜ r ≡ lowestRule s (beforeOf (now (prev .entry))) (now (rec .entry)) ⌝ }
 {
     let valid = tvalid(h.flags);
-    if !aresetn(h.flags) {
+    if !out_of_reset(h.flags, prev_flags) {
         if valid {
             return 1;
         }
         return 0;
     }
+    let waited = waiting(prev_flags);
     if !valid {
         if waited {
             return 2;
         }
         return 0;
-    }
-    if reset_before(prev) {
-        return 1;
     }
     if moved(waited, prev, rec) {
         return 3;
@@ -182,7 +182,7 @@ fn broken(
     Verdict::Broken(cycle, rule)
 }
 
-// Judges the cycles of a take whose width and length have passed their tests.
+// Judges the cycles of a take whose width and length have passed their tests, the first as if behind an idle cycle.
 fn judge_cycles(s: Shape, capture: &[u8]) -> Verdict
     requires { ⌜ Passed s (now capture) ⌝ }
     ensures { λ r. ⌜ r ≡ verdictFrom s none 0 (records s (now (capture .entry))) 0 ⌝ }
@@ -190,7 +190,7 @@ fn judge_cycles(s: Shape, capture: &[u8]) -> Verdict
     let size = stream_record::record_size(s);
     let z = stream_head::must_be_zero(CYCLE_FLAGS, s);
     let mut count = 0;
-    let mut waited = false;
+    let mut prev_flags = ARESETN;
     let mut from = 0;
     let mut at = 0;
     let mut k = 0;
@@ -200,12 +200,12 @@ fn judge_cycles(s: Shape, capture: &[u8]) -> Verdict
             return Verdict::Refused(Refusal::Field(k));
         }
         let h = stream_record::read_header(&capture[at..next]);
-        let rule = rule_of(s, h, waited, &capture[from..at], &capture[at..next]);
+        let rule = rule_of(s, h, prev_flags, &capture[from..at], &capture[at..next]);
         if rule != 0 {
             return broken(s, z, capture, next, k + 1, k, rule);
         }
         count += transfers(h.flags);
-        waited = waiting(h.flags);
+        prev_flags = h.flags;
         from = at;
         at = next;
         k += 1;

@@ -41,7 +41,7 @@ const TVALID: u32 = 0x2;
 
 const TREADY: u32 = 0x4;
 
-const ARESETN: u32 = 0x8;
+pub const ARESETN: u32 = 0x8;
 
 // TLAST as a number, 1 where it is high.
 pub fn tlast(flags: u32) -> u32

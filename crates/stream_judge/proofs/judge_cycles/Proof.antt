@@ -19,10 +19,10 @@ use Rattle.stream_judge.proofs.judge_cycles.Statement.{statement}
 use Rattle.stream_judge.proofs.judge_cycles.Tie as tie
 
 abbrev Inv-loop : tie.InvT-loop
-Inv-loop s capture size z count₀ waited₀ from₀ at₀ k₀ count waited from at k = Turning s capture from at k count waited
+Inv-loop s capture size z count₀ prev-flags₀ from₀ at₀ k₀ count prev-flags from at k = Turning s capture from at k count prev-flags
 
 abbrev μ-loop : tie.MeasureT-loop
-μ-loop s capture size z count₀ waited₀ from₀ at₀ k₀ count waited from at k = length capture - at
+μ-loop s capture size z count₀ prev-flags₀ from₀ at₀ k₀ count prev-flags from at k = length capture - at
 
 -- ---- what is known in a turn, and what is known behind the loop's end
 
@@ -106,7 +106,7 @@ returns : tie.Need-returns Inv-loop μ-loop
 returns c =
     let turn = c .before .before .before in
     let t = turn .before in
-    turn-bad (shape t) (octets t) (t .loop .from) (t .loop .at) (t .loop .k) (t .loop .count) (t .loop .waited) (t .loop .inv)
+    turn-bad (shape t) (octets t) (t .loop .from) (t .loop .at) (t .loop .k) (t .loop .count) (t .loop .prev-flags) (t .loop .inv)
     (turn .loop-test .taken) (long t) (t .before .before .record-size .ensures) (fault-told (c .before) true (c .if1 .taken))
 
 sub-read-header : tie.Need-sub-read-header Inv-loop μ-loop
@@ -144,7 +144,7 @@ rule-of-requires c κs =
     let read = c .before .before in
     let turn = sound-turn read in
     let t = turn .before in
-    asks (shape t) (octets t) (t .loop .from) (t .loop .at) (t .loop .k) (t .loop .count) (t .loop .waited) (t .loop .inv)
+    asks (shape t) (octets t) (t .loop .from) (t .loop .at) (t .loop .k) (t .loop .count) (t .loop .prev-flags) (t .loop .inv)
     (turn .loop-test .taken) (long t) (t .before .before .record-size .ensures)
     (entry t .pre) (read .read-header .result) (read .read-header .ensures) (sound read)
 
@@ -160,7 +160,7 @@ broken-requires c κs =
     let told = c .before in
     let turn = sound-turn (read-of told) in
     let t = turn .before in
-    asks-behind (shape t) (octets t) (t .loop .from) (t .loop .at) (t .loop .k) (t .loop .count) (t .loop .waited) (t .loop .inv)
+    asks-behind (shape t) (octets t) (t .loop .from) (t .loop .at) (t .loop .k) (t .loop .count) (t .loop .prev-flags) (t .loop .inv)
     (turn .loop-test .taken) (long t) (t .before .before .record-size .ensures) (entry t .pre) (t .before .must-be-zero .result) (t .before .must-be-zero .ensures)
 
 returns-2 : tie.Need-returns-2 Inv-loop μ-loop
@@ -168,7 +168,7 @@ returns-2 c =
     let told = c .before .before in
     let turn = sound-turn (read-of told) in
     let t = turn .before in
-    finds (shape t) (octets t) (t .loop .from) (t .loop .at) (t .loop .k) (t .loop .count) (t .loop .waited) (t .loop .inv)
+    finds (shape t) (octets t) (t .loop .from) (t .loop .at) (t .loop .k) (t .loop .count) (t .loop .prev-flags) (t .loop .inv)
     (turn .loop-test .taken) (long t) (t .before .before .record-size .ensures) (sound (read-of told))
     (told .rule-of .result) (told .rule-of .ensures) (c .before .if2 .taken) (c .broken .result) (c .broken .ensures)
 
@@ -181,12 +181,9 @@ add-count c =
     let t = sound-turn read .before in
     omega (arith, t .loop .inv .counted, counts t, at-most-one (c .transfers .result) (read .read-header .result .flags) (c .transfers .ensures))
 
-waiting-requires : tie.Need-waiting-requires Inv-loop μ-loop
-waiting-requires c κs = search needs
-
 -- the turn, from its end
-abbrev turn-of : tie.After-waiting Inv-loop μ-loop → Turn
-turn-of c = sound-turn (read-of (c .before .before .before))
+abbrev turn-of : tie.After-transfers Inv-loop μ-loop → Turn
+turn-of c = sound-turn (read-of (c .before .before))
 
 add-k : tie.Need-add-k Inv-loop μ-loop
 add-k c = omega (arith, counts (turn-of c .before))
@@ -198,19 +195,19 @@ loop-less c =
 
 loop-again : tie.Need-loop-again Inv-loop μ-loop
 loop-again c =
-    let told = c .before .before .before in
+    let told = c .before .before in
     let read = read-of told in
     let turn = turn-of c in
     let t = turn .before in
-    goes-on (shape t) (octets t) (t .loop .from) (t .loop .at) (t .loop .k) (t .loop .count) (t .loop .waited) (t .loop .inv)
+    goes-on (shape t) (octets t) (t .loop .from) (t .loop .at) (t .loop .k) (t .loop .count) (t .loop .prev-flags) (t .loop .inv)
     (turn .loop-test .taken) (long t) (t .before .before .record-size .ensures) (sound read)
-    (told .rule-of .result) (told .rule-of .ensures) (c .before .before .if2 .left) (read .read-header .result) (read .read-header .ensures)
-    (c .before .transfers .result) (c .before .transfers .ensures) (c .waiting .result) (c .waiting .ensures)
+    (told .rule-of .result) (told .rule-of .ensures) (c .before .if2 .left) (read .read-header .result) (read .read-header .ensures)
+    (c .transfers .result) (c .transfers .ensures)
 
 returns-3 : tie.Need-returns-3 Inv-loop μ-loop
 returns-3 c =
     let t = c .before in
-    turns-end (shape t) (octets t) (t .loop .from) (t .loop .at) (t .loop .k) (t .loop .count) (t .loop .waited) (t .loop .inv) (c .loop-test .left)
+    turns-end (shape t) (octets t) (t .loop .from) (t .loop .at) (t .loop .k) (t .loop .count) (t .loop .prev-flags) (t .loop .inv) (c .loop-test .left)
 
 pub judge-cycles-spec : {M : Type 1} → statement M
 judge-cycles-spec =
@@ -243,7 +240,6 @@ judge-cycles-spec =
     returns-2
     transfers-requires
     add-count
-    waiting-requires
     add-k
     loop-less
     loop-again
