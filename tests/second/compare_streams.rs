@@ -331,6 +331,23 @@ pub fn all(t: &mut Tally) {
             write_into(t, &HARVEST, 1, 1, &take, 24);
         }
     });
+    // T-01 at each width: cycles before or none, none to two in reset, none to
+    // two idle samples out of it, then TVALID, with a lane reserved or not.
+    t.seeded_group("out of reset", |t, r| for w in 1..=16 {
+        for (before, way) in [0, 1, 5].into_iter().flat_map(|before| (0..18).map(move |way| (before, way))) {
+            let mut take = cycles(r, w, before);
+            for _ in 0..way % 3 { let flags = r.pick(&[0, 1, 4, 5]); take.extend(record(r, w, flags)); }
+            for _ in 0..way / 3 % 3 { let flags = r.pick(&[8, 9, 12, 13]); take.extend(record(r, w, flags)); }
+            let (flags, lane) = (r.pick(&[2, 10, 11, 14, 15]), r.below(w));
+            let mut valid = record(r, w, flags);
+            if way >= 9 {
+                valid[3 + lane / 8] &= !(1 << (lane % 8));
+                valid[5 + lane / 8] |= 1 << (lane % 8);
+            }
+            take.extend(valid);
+            cycle_calls(t, w, &take);
+        }
+    });
     // Waiting, then one bit of the waiting cycle differs: each octet, TLAST too.
     t.seeded_group("each bit while waiting", |t, r| for w in 1..=16 {
         let mut wait = record(r, w, 10);

@@ -6,7 +6,7 @@ use crate::tally::Least;
 pub const SELF_TEST: Least = &[
     ("case B1", 8), ("case B2", 8), ("case B3", 10), ("case B4", 12), ("case B5", 2), ("case B6", 4),
     ("burst refusals in order", 8), ("burst up to 2^32", 6), ("case P1", 5), ("case S1", 1), ("case S2", 1),
-    ("case S3", 1), ("case S4", 1), ("case S5", 1), ("case S6", 16), ("case S7", 16), ("handshake findings", 5),
+    ("case S3", 1), ("case S4", 1), ("case S5", 1), ("case S6", 16), ("case S7", 16), ("handshake findings", 11),
     ("stream refusals in order", 12), ("pseudo code and formulas agree", 646_508),
     ("packing twice, and downsizing first, change nothing", 4384), ("every group ran", 1),
 ];
@@ -17,9 +17,10 @@ pub const COMPARE: Least = &[
     ("burst refusals in order", 8), ("burst up to 2^32", 6), ("fixed random", 350_000), ("incr random", 700_000),
     ("wrap random", 315_000), ("damaged", 800_000), ("all arguments wild", 140_000), ("exact bounds", 738_232),
     ("4KB edge", 570_000), ("every start of the last block", 188_000), ("case P1", 5), ("case S1", 1), ("case S2", 1),
-    ("case S3", 1), ("case S4", 1), ("case S5", 1), ("case S6", 16), ("case S7", 16), ("handshake findings", 5),
+    ("case S3", 1), ("case S4", 1), ("case S5", 1), ("case S6", 16), ("case S7", 16), ("handshake findings", 11),
     ("stream refusals in order", 12), ("widths", 43_375), ("longest takes", 5688), ("wrong lengths", 34_000),
-    ("each field bit", 150_000), ("all flags of three cycles", 81_920), ("each bit while waiting", 11_904),
+    ("each field bit", 150_000), ("all flags of three cycles", 163_840), ("out of reset", 23_000),
+    ("each bit while waiting", 11_904),
     ("random cycles", 330_000), ("random transfers", 280_000), ("random shapes", 565_000),
     ("lists of repacking calls", 28_500), ("parts after packet ends", 19_500),
     ("parts after ends and at pair changes", 31_500), ("reports", 40_000), ("reports on longest takes", 240),
