@@ -98,8 +98,9 @@ typedef struct urd_part_answer {
     uint64_t length;  /* how many there are: width */
 } urd_part_answer;
 
-/* Judges cycle records. Clean: rule 0, count of transfers. Broken: the lowest rule at cycle `place`, the earliest one: 1 TVALID high in
- * reset or in the cycle after it, 2 TVALID gone while it waited for TREADY, 3 something else changed then, 4 a reserved lane.
+/* Judges cycle records. Clean: rule 0, count of transfers. Broken: the lowest rule at cycle `place`, the earliest one: 1 TVALID high with
+ * ARESETn low now or in the cycle before, 2 TVALID gone while it waited for TREADY, 3 TLAST or an octet from 1 on changed while it waited,
+ * 4 a reserved lane.
  * Refusals: 1, 2, 3 (place: the record).
  * Lent memory: read only. */
 urd_stream_answer urd_judge(size_t width, const uint8_t *capture, size_t capture_length);

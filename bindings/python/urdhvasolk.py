@@ -109,9 +109,9 @@ def burst_step(start, len_, size, kind, bus, k):
 
 
 def judge(width, capture):
-    """Clean: rule 0 and the count of transfers. Broken: the lowest rule at cycle `place`, the earliest one: 1 TVALID high in
-    reset or in the cycle after it, 2 TVALID gone while it waited, 3 something else changed then, 4 a reserved lane.
-    Refusals 1, 2, 3."""
+    """Clean: rule 0 and the count of transfers. Broken: the lowest rule at cycle `place`, the earliest one: 1 TVALID high with
+    ARESETn low now or in the cycle before, 2 TVALID gone while it waited for TREADY, 3 TLAST or an octet from 1 on changed
+    while it waited, 4 a reserved lane. Refusals 1, 2, 3."""
     capture = _read(capture)
     return _plain(StreamAnswer, _judge(_held(width, _size), capture, len(capture)))
 

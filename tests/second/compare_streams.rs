@@ -127,7 +127,7 @@ fn transfers(r: &mut Random, w: usize, n: usize) -> Vec<u8> {
 /// Cycles that keep the handshake rules, with waits and resets; in reset, and at the first sample out of it, TVALID is low.
 pub fn cycles(r: &mut Random, w: usize, n: usize) -> Vec<u8> {
     let mut take: Vec<u8> = Vec::new();
-    let mut before = 8; // the flags of the cycle before: at first none, which neither waits nor resets
+    let mut before = 8; // the flags of the cycle before; at first an idle cycle's, since there is none
     for _ in 0..n {
         let resets = r.one_in(9);
         let flags = if resets { r.pick(&[0, 1, 4, 5]) }
@@ -319,8 +319,8 @@ pub fn all(t: &mut Tally) {
             }
         }
     });
-    // All flags of three cycles, with payloads equal or different and the middle
-    // lane reserved or not: every rule, and every way into reset and out of it.
+    // All flags of three cycles, with payloads equal or different and the lane of
+    // the middle one reserved or not: every rule, and every way into reset and out.
     t.group("all flags of three cycles", |t| for flags in 0..4096u32 {
         for payload in 0..8u8 {
             let take: Vec<u8> = (0..3).flat_map(|c| {

@@ -55,7 +55,7 @@ abbrev pub lowestRule : Shape → Option (List ℕ) → List ℕ → ℕ
 lowestRule s b c = cond (r1 b c) 1 (cond (r2 b c) 2 (cond (r3 b c) 3 (cond (r4 s c) 4 0)))
 
 -- what is known where a cycle is judged: its record is whole with no bad field, the header is its, `prev` is the record
--- before it, whole too, or empty, and `prevFlags` are that one's flags
+-- before it, whole too, or empty, and `prevFlags` are its flags, or an idle cycle's
 pub record CycleAt (s : Shape) (h : Header) (prevFlags : ℕ) (prev rec : List ℕ) : Type 0 where
   pub low : 1 ≤ s .width
   pub high : s .width ≤ widthMost

@@ -116,7 +116,7 @@ fn moved(waited: bool, prev: &[u8], rec: &[u8]) -> bool
 }
 
 // Whether ARESETn is high in a cycle with these flags, and was in the cycle before.
-fn out_of_reset(flags: u32, prev_flags: u32) -> bool
+fn clear_of_reset(flags: u32, prev_flags: u32) -> bool
     ensures { λ r. ⌜ r ≡ (bit aresetnBit flags && bit aresetnBit «prev_flags») ⌝ }
 {
     if !aresetn(flags) {
@@ -132,7 +132,7 @@ fn rule_of(s: Shape, h: Header, prev_flags: u32, prev: &[u8], rec: &[u8]) -> u32
     ensures { λ r. ⌜ r ≡ lowestRule s (beforeOf (now (prev .entry))) (now (rec .entry)) ⌝ }
 {
     let valid = tvalid(h.flags);
-    if !out_of_reset(h.flags, prev_flags) {
+    if !clear_of_reset(h.flags, prev_flags) {
         if valid {
             return 1;
         }

@@ -1,4 +1,4 @@
--- Every worked case holds: antt computes what the definitions tell, and compares it with what was typed from paper 01. The
+-- Every worked case holds: antt computes what the definitions tell, and compares it with what was typed from the papers. The
 -- cases that 01's 'Errors that look right' names, and the reset that ends a wait, stand once more by themselves, so that what
 -- refuses the error has the case's name. Assumes nothing.
 use mathlib.Core.Path.{_≡_, refl}

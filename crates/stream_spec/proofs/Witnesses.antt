@@ -159,9 +159,9 @@ unfolding size judgeAnswer
 reset-quiet = (resetQuiet (lanes 1) resetTake 1 0 refl (lit< tt) refl, resetQuiet (lanes 1) resetTake 1 3 refl (lit< tt) refl)
 
 -- so a take that is not quiet there is never judged clean
-pub early : (n : ℕ) → judgeAnswer (lanes 1) earlyTake ≡ Clean n → ⊥
+pub early : (n : ℕ) → judgeAnswer (lanes 2) earlyTake ≡ Clean n → ⊥
 unfolding size
-early n e = no-such (resetQuiet (lanes 1) earlyTake n 0 e (lit< tt) refl .afterReset (lit< tt)) refl
+early n e = no-such (resetQuiet (lanes 2) earlyTake n 0 e (lit< tt) refl .afterReset (lit< tt)) refl
 
 pub loud : (n : ℕ) → judgeAnswer (lanes 1) loudTake ≡ Clean n → ⊥
 unfolding size

@@ -313,7 +313,7 @@ workedCases =
     ∷ gives (judge (lanes 1) (one 0x00 0 0 0 0 0 ++ one 0x08 0 0 0 0 0 ++ one 0x0E 0 0 1 1 7)) 1 []
     -- W80: T-01: a reserved lane there is 1 and not 4
     ∷ breaks (judge (lanes 1) (one 0x00 0 0 0 0 0 ++ one 0x0E 0 0 0 1 0)) 1 1
-    -- W81: T-01: a transfer that waited is not taken up again straight out of reset, which R3 does not read
+    -- W81: T-01: also where a transfer that waited before the reset is taken up again straight out of it
     ∷ breaks (judge (lanes 1) (one 0x0A 5 0 1 1 7 ++ one 0x04 6 0 0 0 0 ++ one 0x0A 5 0 1 1 7)) 2 1
     -- W82: T-01: 14 of harvesting, with that cycle and rule; there is room
     ∷ record { asked = harvest (lanes 1) (one 0x00 0 0 0 0 0 ++ one 0x0E 0 0 1 1 7) eight; told = tells (values 14 1 1 0) eight }

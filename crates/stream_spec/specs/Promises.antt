@@ -166,7 +166,8 @@ pub record FindsEarliest (s : Shape) (xs : List ℕ) : Type 0 where
 abbrev pub Findings : Type 0
 Findings = (s : Shape) (xs : List ℕ) → FindsEarliest s xs
 
--- What T-01's R1 comes to: in a take that is judged clean, where ARESETn is low at cycle k, TVALID is low at k and at k + 1.
+-- What T-01's R1 comes to: in a take that is judged clean, where ARESETn is low at cycle k, TVALID is low at k, and
+-- at k + 1 where there is such a cycle.
 pub record Quiet (cs : List (List ℕ)) (k : ℕ) : Type 0 where
   pub inReset : tvalid (getD cs k []) ≡ false
   pub afterReset : suc k < length cs → tvalid (getD cs (suc k) []) ≡ false

@@ -124,9 +124,9 @@ cleanTake = one 0x0F 1 2 1 0 7 ++ (one 0x0A 1 2 1 1 8 ++ one 0x0E 1 2 1 1 8)
 abbrev pub resetTake : List ℕ
 resetTake = one 0x00 0 0 0 0 0 ++ (one 0x08 0 0 0 0 0 ++ (one 0x0E 1 2 1 1 8 ++ one 0x04 0 0 0 0 0))
 
--- TVALID in the first sample out of reset, and TVALID in reset
+-- TVALID in the first sample out of reset, at width 2; and TVALID in reset
 abbrev pub earlyTake : List ℕ
-earlyTake = one 0x00 0 0 0 0 0 ++ one 0x0E 1 2 1 1 8
+earlyTake = 0x00 ∷ 0 ∷ 0 ∷ 0 ∷ 0 ∷ 0 ∷ 0 ∷ 0 ∷ 0 ∷ 0x0E ∷ 1 ∷ 2 ∷ 3 ∷ 0 ∷ 3 ∷ 0 ∷ 8 ∷ 9 ∷ []
 
 abbrev pub loudTake : List ℕ
 loudTake = one 0x02 0 0 0 0 0

@@ -11,26 +11,26 @@ use borrow.Author.Needs.{needs}
 use Rattle.stream_judge.proofs.rule_of.Statement.{statement}
 use Rattle.stream_judge.proofs.rule_of.Tie as tie
 
-abbrev entry : tie.After-out-of-reset → tie.Start
+abbrev entry : tie.After-clear-of-reset → tie.Start
 entry c = c .before .before .before .before
 
 -- what the flags say, where their tests gave t
-reset-told : (c : tie.After-out-of-reset) (t : Bool) → c .out-of-reset .result ≡ t
+reset-told : (c : tie.After-clear-of-reset) (t : Bool) → c .clear-of-reset .result ≡ t
     → (bit aresetnBit (entry c .args .h .flags) && bit aresetnBit (entry c .args .prev-flags)) ≡ t
-reset-told c t e = sym (c .out-of-reset .ensures) ∙ e
+reset-told c t e = sym (c .clear-of-reset .ensures) ∙ e
 
-valid-told : (c : tie.After-out-of-reset) (t : Bool) → c .before .tvalid .result ≡ t → bit tvalidBit (entry c .args .h .flags) ≡ t
+valid-told : (c : tie.After-clear-of-reset) (t : Bool) → c .before .tvalid .result ≡ t → bit tvalidBit (entry c .args .h .flags) ≡ t
 valid-told c t e = sym (c .before .tvalid .ensures) ∙ e
 
 low : (c : tie.Then1) → (bit aresetnBit (entry (c .before) .args .h .flags) && bit aresetnBit (entry (c .before) .args .prev-flags)) ≡ false
-low c = let r = c .before in reset-told r false (not-true (r .out-of-reset .result) (c .if1 .taken))
+low c = let r = c .before in reset-told r false (not-true (r .clear-of-reset .result) (c .if1 .taken))
 
 -- the call, where ARESETn is high and was
 abbrev out : tie.After-waiting → tie.Start
 out c = entry (c .before .before)
 
 high : (c : tie.After-waiting) → (bit aresetnBit (out c .args .h .flags) && bit aresetnBit (out c .args .prev-flags)) ≡ true
-high c = let r = c .before .before in reset-told r true (not-false (r .out-of-reset .result) (c .before .if1 .left))
+high c = let r = c .before .before in reset-told r true (not-false (r .clear-of-reset .result) (c .before .if1 .left))
 
 idle : (c : tie.Then3) → bit tvalidBit (out (c .before) .args .h .flags) ≡ false
 idle c = let r = c .before .before .before in valid-told r false (not-true (r .before .tvalid .result) (c .if3 .taken))
@@ -53,8 +53,8 @@ reserved-told c t e = reserved-is (still c .pre) (c .reserved .result) (c .reser
 tvalid-requires : tie.Need-tvalid-requires
 tvalid-requires c κs = search needs
 
-out-of-reset-requires : tie.Need-out-of-reset-requires
-out-of-reset-requires c κs = search needs
+clear-of-reset-requires : tie.Need-clear-of-reset-requires
+clear-of-reset-requires c κs = search needs
 
 returns : tie.Need-returns
 returns c = let r = c .before .before in rule-1 (entry r .pre) (low (c .before)) (valid-told r true (c .if2 .taken))
@@ -106,7 +106,7 @@ rule-of-spec =
     tie.close
     (tie.spec
     tvalid-requires
-    out-of-reset-requires
+    clear-of-reset-requires
     returns
     returns-2
     waiting-requires
