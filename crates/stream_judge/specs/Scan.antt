@@ -72,7 +72,7 @@ abbrev pub verdictFrom : Shape → Option (List ℕ) → ℕ → List (List ℕ)
 verdictFrom s b k cs n = verdict (first (cycleChecks s k cs)) (first (findings s k b cs)) (n + length (handshakes cs))
 
 -- what is known at the start of each turn, with no finding yet: at `at` begins the record of cycle k, the record before it
--- begins at `from`, and `prevFlags` are that one's flags
+-- begins at `from`, and `prevFlags` are that one's flags, or an idle cycle's
 pub record Turning (s : Shape) (xs : List ℕ) (from at k count prevFlags : ℕ) : Type 0 where
   pub left : Left s xs at
   pub behind : from ≤ at
