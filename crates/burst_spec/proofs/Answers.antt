@@ -32,11 +32,11 @@ use Rattle.burst_spec.proofs.Known.{clash}
 
 -- ---- an answer, and the first refusal that it is made of
 
-accepted-none : (o : Option Refusal) → judgementFor o ≡ judged.Accepted → o ≡ none
+pub accepted-none : (o : Option Refusal) → judgementFor o ≡ judged.Accepted → o ≡ none
 accepted-none (some r) e = absurd (clash cc)
 accepted-none none e = refl
 
-refused-some : (o : Option Refusal) (r : Refusal) → judgementFor o ≡ judged.Refused r → o ≡ some r
+pub refused-some : (o : Option Refusal) (r : Refusal) → judgementFor o ≡ judged.Refused r → o ≡ some r
 refused-some (some q) r e = cc
 refused-some none r e = absurd (clash cc)
 

@@ -1,0 +1,1 @@
+-- The laws that the functions' proofs cite; those of the definitions are in axi3_spec.

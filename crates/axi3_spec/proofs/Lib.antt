@@ -1,0 +1,8 @@
+-- The laws of cutting a burst. Read in this order.
+pub mod Runs
+
+pub mod Pieces
+pub mod Answers
+pub mod Rows
+pub mod Promises
+pub mod Once

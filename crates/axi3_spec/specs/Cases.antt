@@ -1,0 +1,2 @@
+-- Worked cases.
+use mathlib.Core.List.{List, [], _∷_, _++_, map}
