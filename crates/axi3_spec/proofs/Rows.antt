@@ -1,7 +1,7 @@
 -- A row while a cut is written to it, and afterwards. Assumes nothing.
 use mathlib.Core.List.{List, [], _∷_, _++_, append-assoc}
 use mathlib.Core.Option.{Option, none, some}
-use mathlib.Core.Path.{_≡_, refl, sym, ap, _∙_}
+use mathlib.Core.Path.{_≡_, refl, sym, ap, subst, _∙_}
 use Prim.Native.Nat.{ℕ, zero, suc, _+_, _-_, _≤_, _<_, min}
 use native.Mathlib.Numerals.{add-one}
 use native.Mathlib.Omega.{arith}
@@ -59,6 +59,14 @@ module _ (x : Burst) (row : List Burst) where
       go none e l =
           let f = none-refused x (length row) e in
           record { accepted = accepted-exactly x .0 (f .0); counted = l; below = omega (arith, f .1) }
+
+  -- and there is room for all of them
+  pub written-most : (r : CutAnswer) → Answered x (length row) r → usedOf r ≤ length row
+  written-most r a = subst (λ q. usedOf q ≤ length row) (sym (a .is)) (go (cutRefusal x (length row)) refl)
+    where
+      go : (o : Option Refusal) → cutRefusal x (length row) ≡ o → usedOf (cutFor o (pieceCount x)) ≤ length row
+      go (some q) e = omega arith
+      go none e = none-refused x (length row) e .1
 
   filled-by : (o : Option Refusal) → filled x (usedOf (cutFor o (pieceCount x))) row ≡ rowFor o (pieces x) row
   unfolding filled

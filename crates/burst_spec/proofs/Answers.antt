@@ -13,7 +13,7 @@ use borrow.Author.Tests.{not-false, le-leb, lt-leb, leb-true, leb-false}
 use Rattle.refusal.specs.declared.Refusal.{Refusal}
 use Rattle.refusal.specs.declared.Refusal.the-variants.{Bus, Size, Kind, Count, Align, Boundary, Index}
 use Rattle.refusal.specs.Checks.{check, first}
-use Rattle.refusal.proofs.First.{cond-none, append-none, append-found, append-passed}
+use Rattle.refusal.proofs.First.{cond-none, append-none, none-append, append-found, append-passed}
 use Rattle.burst_spec.specs.declared.Beat.{Beat}
 use Rattle.burst_spec.specs.declared.Burst.{Burst}
 use Rattle.burst_spec.specs.declared.Kind.the-variants.{Reserved}
@@ -161,6 +161,24 @@ module _ (x : Burst) (k : ℕ) where
   has-beat e =
       let h = accepted-there x (leb (beats x) k) (accepted-none (first (checksOfBeat x k)) e) in
       (h .0, leb-false (beats x) k (h .1))
+
+  -- a beat that an accepted burst has is answered, and never refused
+  present-beat : Accepted x → k < beats x → beatAnswer x k ≡ beat.At (beatOf x k)
+  present-beat y h =
+      ap (λ o. beatFor o (beatOf x k))
+      (none-append (checks x) (check (leb (beats x) k) Index ∷ []) (none-exactly x .1 y) (rw (lt-leb (beats x) k h)))
+
+  pub present-is : Accepted x → k < beats x → (y : Beat) → beatAnswer x k ≡ beat.At y → beatOf x k ≡ y
+  present-is a h y e = same (beatOf x k) (sym (present-beat a h) ∙ e)
+    where
+      same : (z : Beat) → beat.At z ≡ beat.At y → z ≡ y
+      same z f = cc
+
+  pub present-never : Accepted x → k < beats x → (r : Refusal) → beatAnswer x k ≡ beat.Refused r → ⊥
+  present-never a h r e = apart (beatOf x k) (sym (present-beat a h) ∙ e)
+    where
+      apart : (z : Beat) → beat.At z ≡ beat.Refused r → ⊥
+      apart z f = clash cc
 
   pub refused-beat : (r : Refusal) → judgementFor (first (checksOfBeat x k)) ≡ judged.Refused r → BeatGiven x k (beat.Refused r)
   refused-beat r e =
