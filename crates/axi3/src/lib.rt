@@ -10,15 +10,19 @@ use burst_spec::Judgement;
 use burst_spec::Kind;
 use refusal::Refusal;
 ghost use mathlib.Core.Path.{_≡_};
-ghost use Prim.Native.Nat.{_*_, _≤_, _<_, min};
+ghost use Prim.Native.Nat.{_+_, _*_, _≤_, _<_, min};
 ghost use lib.ListN.{length};
 ghost use Rattle.burst_spec.specs.Address.{beats, beatAddress};
 ghost use Rattle.burst_spec.specs.Legal.{Accepted};
 ghost use Rattle.axi3_spec.specs.Cut.{beatsMost, pieceCount, piece};
-ghost use Rattle.axi3_spec.specs.Answers.{usedOf, kindNumber, Answered, Cut, CutLent, CutAlone, CutNumbers};
+ghost use Rattle.axi3_spec.specs.Answers.{rowLength, blankRow, kindNumber, numbersEach, Answered, Cut, CutAlone, CutNumbers};
+ghost use Rattle.axi3.specs.Rows.{usedOf, described, laid, CutLent};
 
 // "Older boards take at most 16 beats".
 const BEATS_MOST: u32 = 16;
+
+// The numbers of a description.
+const NUMBERS_EACH: usize = 5;
 
 // Cuts a burst into bursts of at most 16 beats, written to the front of a lent row: how many; or a refusal, 7 to 12 in order,
 // then 5 where the row is too short.
@@ -35,7 +39,34 @@ pub fn cut(b: Burst, row: &mut [Burst]) -> CutAnswer
     plan
 }
 
-// The same into a row by value, which is lent to `cut` and comes back.
+// The same into a row of its own, of at most `room` descriptions. What is not used of it is blank.
+pub fn cut_row(b: Burst, room: usize) -> CutRow
+    ensures { λ r. ⌜ CutAlone b room r ⌝ }
+{
+    let cut = cut_into(b, blank_row());
+    let answer = cut.answer;
+    if room < used(answer) {
+        return CutRow {
+            answer: CutAnswer::Refused(Refusal::Room),
+            bursts: blank_row(),
+        };
+    }
+    cut
+}
+
+// The same into a lent row of plain numbers, five to a description: start address, AxLEN, AxSIZE, AxBURST, bus. A rest of
+// fewer than five is no room.
+pub fn cut_numbers(b: Burst, row: &mut [u64]) -> CutAnswer
+    ensures { λ r. ⌜ CutNumbers b (now (row .entry)) r (now (row .exit)) ⌝ }
+{
+    let cut = cut_row(b, row.len() / NUMBERS_EACH);
+    let answer = cut.answer;
+    let bursts = cut.bursts;
+    put_bursts(bursts, used(answer), row);
+    answer
+}
+
+// The cut into a row by value, which is lent to `cut` and comes back.
 fn cut_into(b: Burst, row: [Burst; 16]) -> CutRow
     ensures { λ r. ⌜ CutLent b row r ⌝ }
 {
@@ -112,4 +143,55 @@ fn at_most(most: u32, x: u32) -> u32
         return x;
     }
     most
+}
+
+// A row of descriptions that say nothing. 16 are room for every cut.
+fn blank_row() -> [Burst; 16]
+    ensures { λ r. ⌜ r ≡ blankRow ⌝ }
+{
+    let blank = Burst {
+        start: 0,
+        len: 0,
+        size: 0,
+        kind: Kind::Fixed,
+        bus: 0,
+    };
+    [blank; 16]
+}
+
+// AxBURST of a kind.
+fn kind_number(kind: Kind) -> u64
+    ensures { λ r. ⌜ r ≡ kindNumber kind ⌝ }
+{
+    match kind {
+        Kind::Fixed => 0,
+        Kind::Incr => 1,
+        Kind::Wrap => 2,
+        Kind::Reserved => 3,
+    }
+}
+
+// Writes a description, to the five numbers of the row from `at` on.
+fn put_burst(row: &mut [u64], at: usize, b: Burst)
+    requires { ⌜ at + numbersEach ≤ length (now row) ⌝ }
+    ensures { λ _. ⌜ now (row .exit) ≡ described at b (now (row .entry)) ⌝ }
+{
+    let kind = b.kind;
+    row[at] = b.start as u64;
+    row[at + 1] = b.len as u64;
+    row[at + 2] = b.size as u64;
+    row[at + 3] = kind_number(kind);
+    row[at + 4] = b.bus as u64;
+}
+
+// Writes the first n descriptions.
+fn put_bursts(bursts: [Burst; 16], n: usize, row: &mut [u64])
+    requires { ⌜ (length bursts ≡ rowLength) × (n ≤ rowLength) × (numbersEach * n ≤ length (now row)) ⌝ }
+    ensures { λ _. ⌜ now (row .exit) ≡ laid bursts n (now (row .entry)) ⌝ }
+{
+    let mut j = 0;
+    while j < n {
+        put_burst(row, NUMBERS_EACH * j, bursts[j]);
+        j += 1;
+    }
 }

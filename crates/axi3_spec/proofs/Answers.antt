@@ -21,7 +21,7 @@ use Rattle.burst_spec.proofs.Known.{clash}
 use Rattle.axi3_spec.specs.declared.CutAnswer.{CutAnswer}
 use Rattle.axi3_spec.specs.declared.CutAnswer.the-variants.{Bursts, Refused}
 use Rattle.axi3_spec.specs.Cut.{pieceCount}
-use Rattle.axi3_spec.specs.Answers.{cutRefusal, cutFor, cutAnswer, usedOf, cutValues, valuesFor, Answered}
+use Rattle.axi3_spec.specs.Answers.{cutRefusal, cutFor, cutAnswer, cutValues, valuesFor, Answered}
 use Rattle.axi3_spec.specs.Promises.{IsAccepted}
 
 cut-shows : (o : Option Refusal) (n : ℕ) → cutValues (cutFor o n) ≡ valuesFor o n

@@ -3,6 +3,5 @@ pub mod Runs
 
 pub mod Pieces
 pub mod Answers
-pub mod Rows
 pub mod Promises
 pub mod Once

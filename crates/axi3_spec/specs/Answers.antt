@@ -46,11 +46,6 @@ cutAnswer x room = cutFor (cutRefusal x room) (pieceCount x)
 abbrev pub cutAfter : Burst → List Burst → List Burst
 cutAfter x row = rowFor (cutRefusal x (length row)) (pieces x) row
 
--- how many descriptions an answer says are written
-abbrev pub usedOf : CutAnswer → ℕ
-usedOf (Bursts n) = n
-usedOf (Refused r) = 0
-
 -- ---- the same into a row of its own, of `room` descriptions at most: what is not used of it is blank
 
 -- as many descriptions as a cut can need: 256 beats are 16 bursts
@@ -122,11 +117,6 @@ pub record Answered (x : Burst) (room : ℕ) (r : CutAnswer) : Type 0 where
 pub record Cut (x : Burst) (row : List Burst) (r : CutAnswer) (after : List Burst) : Type 0 where
   pub answers : Answered x (length row) r
   pub leaves : after ≡ cutAfter x row
-
--- the same of a row by value, which comes back in r
-pub record CutLent (x : Burst) (row : List Burst) (r : CutRow) : Type 0 where
-  pub answers : Answered x (length row) (r .answer)
-  pub leaves : r .bursts ≡ cutAfter x row
 
 pub record CutAlone (x : Burst) (room : ℕ) (r : CutRow) : Type 0 where
   pub answers : Answered x room (r .answer)

@@ -50,8 +50,9 @@ use denote.Triple.Table.{entered, cited}
 use denote.Triple.Walked.{says, needs, Stays, stay-slice, stay-none, walkOf, goes-slice, goes-none, Walks, ends-at, walked, walk-meets}
 use Rattle.burst_spec.specs.declared.Burst.{Burst}
 use Rattle.axi3_spec.specs.Cut.{piece as pieceOf}
-use Rattle.axi3_spec.specs.Answers.{cutAfter, usedOf, Answered, Cut}
-use Rattle.axi3_spec.proofs.Rows.{filled, filled-none, filled-next, filled-length, filled-all, Written, written, written-most}
+use Rattle.axi3_spec.specs.Answers.{cutAfter, Answered, Cut}
+use Rattle.axi3.specs.Rows.{usedOf, filled}
+use Rattle.axi3.proofs.Rows.{filled-none, filled-next, filled-length, filled-all, Written, written, written-most}
 use Rattle.burst_spec.proofs.Burst as T
 use Rattle.burst_spec.proofs.Burst.Laws as T′
 use Rattle.axi3.proofs.piece as piece

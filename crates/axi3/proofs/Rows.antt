@@ -1,4 +1,4 @@
--- A row while a cut is written to it, and afterwards. Assumes nothing.
+-- A row of bursts while a cut is written to it, and when it is written. Assumes nothing.
 use mathlib.Core.List.{List, [], _∷_, _++_, append-assoc}
 use mathlib.Core.Option.{Option, none, some}
 use mathlib.Core.Path.{_≡_, refl, sym, ap, subst, _∙_}
@@ -11,16 +11,18 @@ use Rattle.refusal.specs.declared.Refusal.{Refusal}
 use Rattle.burst_spec.specs.declared.Burst.{Burst}
 use Rattle.burst_spec.specs.Legal.{Accepted}
 use Rattle.burst_spec.proofs.Answers.{accepted-exactly}
 use Rattle.axi3_spec.specs.declared.CutAnswer.{CutAnswer}
 use Rattle.axi3_spec.specs.declared.CutAnswer.the-variants.{Bursts, Refused}
 use Rattle.axi3_spec.specs.Cut.{pieceCount, piece, run, pieces}
-use Rattle.axi3_spec.specs.Answers.{cutRefusal, cutFor, cutAnswer, cutAfter, rowFor, usedOf, Answered, Cut}
+use Rattle.axi3_spec.specs.Answers.{cutRefusal, cutFor, cutAnswer, cutAfter, rowFor, Answered}
+use Rattle.axi3.specs.Rows.{usedOf, filled}
 use Rattle.axi3_spec.proofs.Runs.{run-length, run-last}
 use Rattle.axi3_spec.proofs.Answers.{none-refused}
 
--- the row with the first n bursts of the cut in front
-unfoldable pub filled : Burst → ℕ → List Burst → List Burst
-filled x n row = run (piece x) 0 n ++ drop n row
+-- what an answer counts, by the first refusal
+pub used-is : (x : Burst) (room : ℕ) (r : CutAnswer) → Answered x room r → (o : Option Refusal) → cutRefusal x room ≡ o
+    → usedOf r ≡ usedOf (cutFor o (pieceCount x))
+used-is x room r a o e = ap usedOf (a .is) ∙ ap (λ q. usedOf (cutFor q (pieceCount x))) e
 
 module _ (x : Burst) (row : List Burst) where
   pub filled-none : filled x 0 row ≡ row
@@ -52,21 +54,22 @@ module _ (x : Burst) (row : List Burst) where
     pub below : j < length row
 
   pub written : (r : CutAnswer) → Answered x (length row) r → (j : ℕ) → j < usedOf r → Written j
-  written r a j h = go (cutRefusal x (length row)) refl (rw (a .is) at h)
+  written r a j h = go (cutRefusal x (length row)) refl
     where
-      go : (o : Option Refusal) → cutRefusal x (length row) ≡ o → j < usedOf (cutFor o (pieceCount x)) → Written j
-      go (some q) e l = absurd (omega arith)
-      go none e l =
+      go : (o : Option Refusal) → cutRefusal x (length row) ≡ o → Written j
+      go (some q) e = absurd (omega (arith, used-is x (length row) r a (some q) e))
+      go none e =
           let f = none-refused x (length row) e in
-          record { accepted = accepted-exactly x .0 (f .0); counted = l; below = omega (arith, f .1) }
+          let counted : j < pieceCount x = omega (arith, used-is x (length row) r a none e) in
+          record { accepted = accepted-exactly x .0 (f .0); counted = counted; below = omega (arith, f .1) }
 
   -- and there is room for all of them
   pub written-most : (r : CutAnswer) → Answered x (length row) r → usedOf r ≤ length row
-  written-most r a = subst (λ q. usedOf q ≤ length row) (sym (a .is)) (go (cutRefusal x (length row)) refl)
+  written-most r a = go (cutRefusal x (length row)) refl
     where
-      go : (o : Option Refusal) → cutRefusal x (length row) ≡ o → usedOf (cutFor o (pieceCount x)) ≤ length row
-      go (some q) e = omega arith
-      go none e = none-refused x (length row) e .1
+      go : (o : Option Refusal) → cutRefusal x (length row) ≡ o → usedOf r ≤ length row
+      go (some q) e = omega (arith, used-is x (length row) r a (some q) e)
+      go none e = omega (arith, used-is x (length row) r a none e, none-refused x (length row) e .1)
 
   filled-by : (o : Option Refusal) → filled x (usedOf (cutFor o (pieceCount x))) row ≡ rowFor o (pieces x) row
   unfolding filled
