@@ -216,10 +216,10 @@ unfolding crossesBy piece
 incr-inside x y j h =
     none-below (beats (piece x j)) (λ k. beatOutside (piece x j .start) (bytes x) (beatAddress (piece x j) k))
     (λ k b.
-      let counted : beatsMost * j + k < beats x = omega (arith, first-beat x (y .legal) j h, beats-are x (y .legal) j h) in
-      ap (beatOutside (piece x j .start) (bytes x)) (piece-address x (y .legal) j h k)
-      ∙ within (piece x j .start) (beatAddress x (beatsMost * j + k)) (bytes x) (pow-pos (x .size))
-      (λ c from to. one-block x y (beatsMost * j + k) c counted from to ∙ sym (address-block x y (beatsMost * j) (first-beat x (y .legal) j h))))
+    let counted : beatsMost * j + k < beats x = omega (arith, first-beat x (y .legal) j h, beats-are x (y .legal) j h) in
+    ap (beatOutside (piece x j .start) (bytes x)) (piece-address x (y .legal) j h k)
+    ∙ within (piece x j .start) (beatAddress x (beatsMost * j + k)) (bytes x) (pow-pos (x .size))
+    (λ c from to. one-block x y (beatsMost * j + k) c counted from to ∙ sym (address-block x y (beatsMost * j) (first-beat x (y .legal) j h))))
 
 pub piece-accepted : (x : Burst) → Accepted x → (j : ℕ) → j < pieceCount x → Accepted (piece x j)
 piece-accepted x y j h =

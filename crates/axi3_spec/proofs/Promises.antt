@@ -57,10 +57,10 @@ in-sixteens x l c e =
       before = c;
       last = beats (piece x c);
       counts =
-        run-map beats (piece x) 0 (pieceCount x)
-        ∙ ap (run (λ j. beats (piece x j)) 0) e
-        ∙ run-last (λ j. beats (piece x j)) c
-        ∙ ap (λ ns. ns ++ (beats (piece x c) ∷ [])) (run-constant (λ j. beats (piece x j)) 16 0 c full);
+          run-map beats (piece x) 0 (pieceCount x)
+          ∙ ap (run (λ j. beats (piece x j)) 0) e
+          ∙ run-last (λ j. beats (piece x j)) c
+          ∙ ap (λ ns. ns ++ (beats (piece x c) ∷ [])) (run-constant (λ j. beats (piece x j)) 16 0 c full);
       some = omega arith;
       most = omega arith;
       number = run-length (piece x) 0 (pieceCount x) ∙ count-is x l;
@@ -190,7 +190,7 @@ rowStands x row n after c = stood (bursts-none x (length row) n (c .answers .is)
           kept = ap beatsOfAll front ∙ beatsKept x (f .0);
           beyond = ap₂ drop (sym many) is ∙ drop-append-seam (pieces x) (drop (length (pieces x)) row) ∙ ap (λ k. drop k row) many;
           long = ap length is ∙ length-append (pieces x) (drop (length (pieces x)) row)
-            ∙ omega (arith, many, length-drop (length (pieces x)) row, h .1, f .1);
+              ∙ omega (arith, many, length-drop (length (pieces x)) row, h .1, f .1);
         }
 
 pub rowKept : RowKept

@@ -1,20 +1,22 @@
 -- The contracts of the C calls leave no choice: two answers that meet one of them on the same arguments are equal in each
--- number, and so is the memory lent to a report; that lent to a stream call is an equation in the contract itself. A field
+-- number, and so is the memory lent to a report; that lent to a cut or a stream call is an equation in the contract itself. A field
 -- that says nothing breaks one of these proofs. Assumes nothing.
 use mathlib.Core.Path.{_≡_}
 use mathlib.Core.List.{List}
 use Prim.Native.Nat.{ℕ}
+use Rattle.axi3_spec.specs.Answers as axi3
 use Rattle.burst_spec.specs.Answers as burst
 use Rattle.stream_spec.specs.declared.Shape.{Shape}
 use Rattle.stream_spec.specs.Answers.{Values}
 use Rattle.report_spec.specs.declared.Verdict.{Verdict}
 use Rattle.report_spec.specs.Report.{Whole}
 use Rattle.report_spec.proofs.Once.{both}
+use Rattle.capi.specs.declared.axi3_calls.CutAnswer.{CutAnswer}
 use Rattle.capi.specs.declared.burst_calls.BurstAnswer.{BurstAnswer}
 use Rattle.capi.specs.declared.stream_calls.PartAnswer.{PartAnswer}
 use Rattle.capi.specs.declared.stream_calls.StreamAnswer.{StreamAnswer}
 use Rattle.capi.specs.declared.report_calls.ReportAnswer.{ReportAnswer}
-use Rattle.capi.specs.Shows.{ShowsBurst, ShowsStream, ShowsPart}
+use Rattle.capi.specs.Shows.{ShowsBurst, ShowsCut, ShowsStream, ShowsPart}
 use Rattle.capi.specs.Reports.{ShowsVerdict, ShowsWhole}
 
 pub burst-once : {a b : BurstAnswer} {values : burst.Values} → ShowsBurst a values → ShowsBurst b values → a ≡ b
@@ -25,6 +27,9 @@ burst-once p q = λ i. record {
   step = both (p .step) (q .step) i;
   address = both (p .address) (q .address) i;
 }
+
+pub cut-once : {a b : CutAnswer} {values : axi3.Values} → ShowsCut a values → ShowsCut b values → a ≡ b
+cut-once p q = λ i. record { refusal = both (p .refusal) (q .refusal) i; count = both (p .count) (q .count) i }
 
 pub stream-once : {a b : StreamAnswer} {values : Values} → ShowsStream a values → ShowsStream b values → a ≡ b
 stream-once p q = λ i. record {

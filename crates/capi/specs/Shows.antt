@@ -1,15 +1,17 @@
--- The numbers of a burst's and of a stream's answer as C sees them, against paper 01's numbers that the calls' definitions
+-- The numbers of a burst's, a cut's and a stream's answer as C sees them, against paper 01's numbers that the calls' definitions
 -- give. The report is in Reports.
 use mathlib.Core.Path.{_≡_}
 use mathlib.Core.List.{List}
 use Prim.Native.Nat.{ℕ}
 use lib.ListN.{length}
+use Rattle.axi3_spec.specs.Answers as axi3
 use Rattle.burst_spec.specs.Answers as burst
 use Rattle.stream_spec.specs.declared.Shape.{Shape}
 use Rattle.stream_spec.specs.Answers.{Values, lookupValues, dataAnswer, dataStart, dataPart}
 use Rattle.capi.specs.declared.stream_calls.PartAnswer.{PartAnswer}
 use Rattle.capi.specs.declared.stream_calls.StreamAnswer.{StreamAnswer}
 use Rattle.capi.specs.declared.burst_calls.BurstAnswer.{BurstAnswer}
+use Rattle.capi.specs.declared.axi3_calls.CutAnswer.{CutAnswer}
 
 -- A burst refusal's place and rule are always 0, so the struct has no field for them.
 pub record ShowsBurst (a : BurstAnswer) (values : burst.Values) : Type 0 where
@@ -18,6 +20,11 @@ pub record ShowsBurst (a : BurstAnswer) (values : burst.Values) : Type 0 where
   pub upper : a .upper ≡ values .upper
   pub step : a .step ≡ values .step
   pub address : a .address ≡ values .address
+
+-- nor have those of a cut
+pub record ShowsCut (a : CutAnswer) (values : axi3.Values) : Type 0 where
+  pub refusal : a .refusal ≡ values .refusal
+  pub count : a .count ≡ values .count
 
 pub record ShowsStream (a : StreamAnswer) (values : Values) : Type 0 where
   pub refusal : a .refusal ≡ values .refusal

@@ -1,9 +1,11 @@
 // The library for other languages: each call as a C function on plain numbers and slices (a pointer, then a length), with
 // the answer as a struct of paper 01's numbers. Nothing is decided here; the calls are in the crates below.
+mod axi3_calls;
 mod burst_calls;
 mod report_calls;
 mod stream_calls;
 
+pub use axi3_calls::urd_axi3_cut;
 pub use burst_calls::urd_burst_beat;
 pub use burst_calls::urd_burst_judge;
 pub use burst_calls::urd_burst_step;

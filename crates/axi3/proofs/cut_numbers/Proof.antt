@@ -43,9 +43,9 @@ returns c =
     record {
       answers = cut .ensures .answers;
       leaves =
-        c .before .before .put-bursts .ensures
-        ∙ ap (λ n. laid (cut .result .bursts) n row) (c .before .before .before .before .used .ensures)
-        ∙ laid-all (s .args .b) (length row / numbersEach) (cut .result) (cut .ensures) row refl;
+          c .before .before .put-bursts .ensures
+          ∙ ap (λ n. laid (cut .result .bursts) n row) (c .before .before .before .before .used .ensures)
+          ∙ laid-all (s .args .b) (length row / numbersEach) (cut .result) (cut .ensures) row refl;
     }
 
 pub cut-numbers-spec : {M : Type 1} → statement M

@@ -10,7 +10,6 @@ use Rattle.axi3_spec.proofs.Pieces.{first-beat, beats-most}
 use Rattle.axi3.proofs.piece.Statement.{statement}
 use Rattle.axi3.proofs.piece.Tie as tie
 
-
 -- beat 16*j is one of the burst's, and they are 256 at most
 there : (c : tie.Start) → (beatsMost * c .args .j < beats (c .args .b)) × (beats (c .args .b) ≤ 256)
 there c = (first-beat (c .args .b) (c .pre .0 .legal) (c .args .j) (c .pre .1), beats-most (c .args .b) (c .pre .0 .legal))
