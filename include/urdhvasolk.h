@@ -5,12 +5,12 @@
  * returns, keeps nothing of its own between calls, allocates nothing, calls nothing back, prints nothing and reads no file.
  *
  * What the caller takes care of:
- *   - each pointer points to that many readable octets as the length after it says (for `out`, for `text`, and for
- *     `capture` of urd_fill_in: writable ones), and is not NULL, even where its length is 0;
+ *   - each pointer points to that many readable octets (`row`: numbers of 64 bits) as the length after it says (for `out`, `row`,
+ *     `text`, and for `capture` of urd_fill_in: writable ones), and is not NULL, even where its length is 0;
  *   - `out` and `text` share no octet with each other, nor with the input of the same call;
  *   - nothing else writes those octets until the call has returned. Calls on other octets may run at the same time;
- *   - so much stack is free: 216 KB for urd_report, 88 KB for urd_repack, 1 KB for any other call. (tests/bindings
- *     measures each of them; here they use 211.4, 83.1 and less than 0.4 KB, most of it arrays.)
+ *   - so much stack is free: 216 KB for urd_report, 88 KB for urd_repack, 2 KB for any other call. (tests/bindings
+ *     measures each of them; here they use 211.4, 83.1 and at most 1.2 KB, most of it arrays.)
  *
  * Octets. A capture (paper 01: a take) is records of 7 + width octets, width 1 to 16, at most 65,536 octets in all:
  *   octet 0     bit 0 TLAST, bit 1 TVALID, bit 2 TREADY, bit 3 ARESETn; in a transfer record bit 0 alone
@@ -35,7 +35,7 @@ extern "C" {
 #define URD_LENGTH 2   /* input is over 65,536 octets or no whole number of records */
 #define URD_FIELD 3    /* a bit that must be zero is set, or TDEST is above 15 */
 #define URD_RESERVED 4 /* a transfer record has a lane with TKEEP low and TSTRB high */
-#define URD_ROOM 5     /* the lent output is shorter than the answer */
+#define URD_ROOM 5     /* the lent output, or the lent row, is shorter than the answer */
 #define URD_RATIO 6    /* downsizing: v does not divide width */
 #define URD_BUS 7      /* bus is none of 1, 2, 4, 8, 16, 32, 64, 128 */
 #define URD_SIZE 8     /* AxSIZE is above 7, or a beat is wider than the bus */
@@ -80,6 +80,28 @@ urd_burst_answer urd_burst_beat(uint32_t start, uint32_t len, uint32_t size, uin
  * Refusals: 7, 8, 9, 10, 11, 12, then 13 where the burst has no beat k + 1.
  * Lent memory: none. */
 urd_burst_answer urd_burst_step(uint32_t start, uint32_t len, uint32_t size, uint32_t kind, uint32_t bus, uint32_t k);
+
+/* A burst as urd_axi3_cut writes it: five numbers, in this order. */
+typedef struct urd_burst {
+    uint64_t start; /* the address */
+    uint64_t len;   /* AxLEN, 0 to 15 */
+    uint64_t size;  /* AxSIZE */
+    uint64_t kind;  /* one of the three above */
+    uint64_t bus;   /* the bytes of the data bus */
+} urd_burst;
+
+/* What urd_axi3_cut answers. The place and the rule of its refusals are always 0, so they have no field. */
+typedef struct urd_cut_answer {
+    uint32_t refusal; /* the refusal's number, or 0 */
+    uint64_t count;   /* the bursts written: 1 to 16 */
+} urd_cut_answer;
+
+/* Cuts a burst for AXI3 boards, which take at most 16 beats. An INCR of more becomes bursts of 16 beats, and a last one of those that
+ * are left; any other burst stays as it is. The beats of the bursts, one burst after another, are the beats of the old one.
+ * `row_length` counts numbers, five a burst: 80 are always enough. Lend an array of n bursts as (uint64_t *)array and 5 * n.
+ * Refusals: 7, 8, 9, 10, 11, 12, then 5 where the row is too short.
+ * Lent memory: `row` gets the bursts and is unchanged after them; refused, it is unchanged. */
+urd_cut_answer urd_axi3_cut(uint32_t start, uint32_t len, uint32_t size, uint32_t kind, uint32_t bus, uint64_t *row, size_t row_length);
 
 /* ---- streams ---- */
 

@@ -258,6 +258,58 @@ static void b6(void)
     judged(0x32, 4, 2, URD_WRAP, 4, URD_ALIGN, "WRAP 0x32");
 }
 
+/* ---- bursts cut for AXI3 boards (paper 02, T-02) ---- */
+
+#define ROW 17
+
+/* A cut into a row of `room` bursts and `rest` numbers more: its numbers, the bursts expected, and the row beyond as it was. */
+static void cut_is(uint32_t start, uint32_t beats, uint32_t size, uint32_t kind, uint32_t bus, size_t room, size_t rest, uint32_t refusal, const urd_burst *bursts, size_t count, const char *what)
+{
+    urd_burst row[ROW], expected[ROW];
+    memset(row, TAIL, sizeof row);
+    memset(expected, TAIL, sizeof expected);
+    memcpy(expected, bursts, count * sizeof *bursts);
+    urd_cut_answer a = urd_axi3_cut(start, beats - 1, size, kind, bus, (uint64_t *)row, 5 * room + rest);
+    check(a.refusal == refusal && a.count == count, what);
+    check(memcmp(row, expected, sizeof row) == 0, what);
+}
+
+static void cuts(void)
+{
+    static const urd_burst two[] = {{0x1002, 15, 2, URD_INCR, 4}, {0x1040, 0, 2, URD_INCR, 4}};
+    static const urd_burst top[] = {{0xFFFFF001, 15, 7, URD_INCR, 128}, {0xFFFFF800, 15, 7, URD_INCR, 128}};
+    cut_is(0x1002, 17, 2, URD_INCR, 4, 16, 4, 0, two, 2, "17 beats from an unaligned start");
+    cut_is(0x1002, 17, 2, URD_INCR, 4, 2, 0, 0, two, 2, "a row of two");
+    cut_is(0x1002, 17, 2, URD_INCR, 4, 1, 4, URD_ROOM, NULL, 0, "nine numbers");
+    cut_is(0x1002, 16, 2, URD_INCR, 4, 1, 0, 0, two, 1, "16 beats are one burst");
+    cut_is(0xFFFFF001, 32, 7, URD_INCR, 128, 2, 0, 0, top, 2, "up to the last byte of memory");
+}
+
+static void cut_longest(void)
+{
+    urd_burst all[16];
+    for (uint64_t j = 0; j < 16; j++)
+        all[j] = (urd_burst){j == 0 ? 0x1001 : 0x1000 + 0x100 * j, 15, 4, URD_INCR, 16};
+    cut_is(0x1001, 256, 4, URD_INCR, 16, 16, 0, 0, all, 16, "256 beats");
+    cut_is(0x1001, 256, 4, URD_INCR, 16, 15, 4, URD_ROOM, NULL, 0, "a row of 15");
+    all[15].len = 14;
+    cut_is(0x1001, 255, 4, URD_INCR, 16, 17, 0, 0, all, 16, "255 beats");
+}
+
+static void cut_others(void)
+{
+    static const urd_burst fixed = {0x1002, 15, 2, URD_FIXED, 4}, wrap = {0x34, 15, 2, URD_WRAP, 8};
+    cut_is(0x1002, 16, 2, URD_FIXED, 4, 2, 0, 0, &fixed, 1, "FIXED as itself");
+    cut_is(0x34, 16, 2, URD_WRAP, 8, 2, 0, 0, &wrap, 1, "WRAP as itself");
+    cut_is(5, 1, 0, URD_FIXED, 1, 0, 4, URD_ROOM, NULL, 0, "FIXED and four numbers");
+    cut_is(0x1FFF, 257, 8, 3, 3, 0, 0, URD_BUS, NULL, 0, "7 first");
+    cut_is(0x1FFF, 257, 8, 3, 4, 0, 0, URD_SIZE, NULL, 0, "8 before 9");
+    cut_is(0x1FFF, 257, 2, 3, 4, 0, 0, URD_TYPE, NULL, 0, "9 before 10");
+    cut_is(0xFF1, 257, 2, URD_INCR, 4, 0, 0, URD_COUNT, NULL, 0, "10 before 12");
+    cut_is(0x32, 4, 2, URD_WRAP, 4, 0, 0, URD_ALIGN, NULL, 0, "11 before 5");
+    cut_is(0x1010, 256, 4, URD_INCR, 16, 0, 0, URD_FENCE, NULL, 0, "12 before 5");
+}
+
 /* ---- what no bench case shows ---- */
 
 /* A field's offset and its octets. */
@@ -270,11 +322,19 @@ static void layout(void)
     memset(&ones, 0xFF, sizeof ones);
     check((int64_t)ones.step == -1, "step is signed");
     check(sizeof(size_t) == 8 && sizeof(urd_burst_answer) == 24 && sizeof(urd_stream_answer) == 24 && sizeof(urd_part_answer) == 24 && sizeof(urd_report_answer) == 64, "sizes");
+    check(sizeof(urd_burst) == 5 * sizeof(uint64_t) && sizeof(urd_cut_answer) == 16, "sizes of a row's burst and of a cut's answer");
     IS(urd_burst_answer, refusal, 0, 4);
     IS(urd_burst_answer, lower, 4, 4);
     IS(urd_burst_answer, upper, 8, 4);
     IS(urd_burst_answer, step, 12, 4);
     IS(urd_burst_answer, address, 16, 8);
+    IS(urd_burst, start, 0, 8);
+    IS(urd_burst, len, 8, 8);
+    IS(urd_burst, size, 16, 8);
+    IS(urd_burst, kind, 24, 8);
+    IS(urd_burst, bus, 32, 8);
+    IS(urd_cut_answer, refusal, 0, 4);
+    IS(urd_cut_answer, count, 8, 8);
     IS(urd_stream_answer, refusal, 0, 4);
     IS(urd_stream_answer, rule, 4, 4);
     IS(urd_stream_answer, place, 8, 8);
@@ -404,6 +464,9 @@ int main(void)
     run("B4", b4);
     run("B5", b5);
     run("B6", b6);
+    run("T-02, cuts", cuts);
+    run("T-02, the longest", cut_longest);
+    run("T-02, others and refusals", cut_others);
     run("layout of the structs", layout);
     run("fill-in", fill_in);
     run("data octets", data_octets);

@@ -1,4 +1,5 @@
-/* A short tour in C: judge a capture, harvest it, repack it to another width, walk through a burst, and make a report.
+/* A short tour in C: judge a capture, harvest it, repack it to another width, walk through a burst,
+ * cut one for an older board, and make a report.
  * It prints bindings/example.out. `make lib` first, then: gcc -std=c99 -Iinclude bindings/c/example.c build/lib/liburdhvasolk.a -o build/example */
 #include "urdhvasolk.h"
 
@@ -47,6 +48,16 @@ static void burst(void)
     }
 }
 
+/* The same for an older board, which takes at most 16 beats: a burst of 20 is cut in two. */
+static void axi3(void)
+{
+    urd_burst row[16];
+
+    urd_cut_answer cut = urd_axi3_cut(0x1002, 19, 2, URD_INCR, 4, (uint64_t *)row, 5 * 16);
+    for (uint64_t j = 0; j < cut.count; j++)
+        printf("%" PRIu64 " beats from 0x%" PRIx64 "\n", row[j].len + 1, row[j].start);
+}
+
 /* All of it in one call: a setup sheet and a take give the report's lines and the result. */
 static void report(void)
 {
@@ -62,6 +73,7 @@ int main(void)
 {
     stream();
     burst();
+    axi3();
     report();
     return 0;
 }

@@ -182,6 +182,28 @@ def _():
     same(urd.burst_judge(0x32, 3, 2, urd.WRAP, 4), burst(urd.ALIGN), "WRAP 0x32")
 
 
+def cut(refusal=0, bursts=()):
+    return urd.CutAnswer(refusal, [urd.Burst(*b) for b in bursts])
+
+
+@case("T-02, cuts")
+def _():
+    two = [(0x1002, 15, 2, urd.INCR, 4), (0x1040, 0, 2, urd.INCR, 4)]
+    same(urd.axi3_cut(0x1002, 16, 2, urd.INCR, 4), cut(bursts=two), "17 beats from an unaligned start")
+    same(urd.axi3_cut(0x1002, 16, 2, urd.INCR, 4, 2), cut(bursts=two), "a row of two")
+    same(urd.axi3_cut(0x1002, 16, 2, urd.INCR, 4, 1), cut(urd.ROOM), "a row of one")
+    same(urd.axi3_cut(0x1002, 15, 2, urd.INCR, 4, 1), cut(bursts=two[:1]), "16 beats are one burst")
+    longest = [(max(0x1001, 0x1000 + 0x100 * j), 15, 4, urd.INCR, 16) for j in range(16)]
+    same(urd.axi3_cut(0x1001, 255, 4, urd.INCR, 16, 2**64), cut(bursts=longest), "256 beats")
+    same(urd.axi3_cut(0x1001, 255, 4, urd.INCR, 16, 15), cut(urd.ROOM), "a row of 15")
+    same(urd.axi3_cut(0x34, 15, 2, urd.WRAP, 8), cut(bursts=[(0x34, 15, 2, urd.WRAP, 8)]), "WRAP as itself")
+    same(urd.axi3_cut(5, 0, 0, urd.FIXED, 1, 0), cut(urd.ROOM), "FIXED and an empty row")
+    same(urd.axi3_cut(5, 0, 0, urd.FIXED, 1, -1), cut(urd.ROOM), "less than none")
+    same(urd.axi3_cut(0x1010, 255, 4, urd.INCR, 16, 0), cut(urd.FENCE), "12 before 5")
+    same(urd.axi3_cut(0, 0, 0, urd.INCR, -1), cut(urd.BUS), "a bus of -1")
+    same(urd.axi3_cut(2**32, 0, 0, urd.INCR, 1), None, "no 32-bit start")
+
+
 @case("findings and UNCLEAN")
 def _():
     cycle = " 00 00 01 00 01 00 55"

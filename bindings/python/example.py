@@ -29,6 +29,12 @@ def burst():
         print(line if following.refusal else f"{line}, next {following.step:+}")
 
 
+def axi3():
+    """The same for an older board, which takes at most 16 beats: a burst of 20 is cut in two."""
+    for b in urd.axi3_cut(0x1002, 19, 2, urd.INCR, 4).bursts:
+        print(f"{b.len_ + 1} beats from {b.start:#x}")
+
+
 def report():
     """All of it in one call: a setup sheet and a take give the report's lines and the result."""
     print(urd.report(b"width_in=4\nwidth_out=2\nmode=pack\ntlast=wired\n", CAPTURE).text, end="")
@@ -36,4 +42,5 @@ def report():
 
 stream()
 burst()
+axi3()
 report()

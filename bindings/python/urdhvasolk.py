@@ -16,6 +16,8 @@ FIXED, INCR, WRAP = range(3)
 CLEAN, BROKEN, REFUSED = range(3)
 
 BurstAnswer = namedtuple("BurstAnswer", "refusal lower upper step address")
+Burst = namedtuple("Burst", "start len_ size kind bus")
+CutAnswer = namedtuple("CutAnswer", "refusal bursts")
 StreamAnswer = namedtuple("StreamAnswer", "refusal rule place count")
 PartAnswer = namedtuple("PartAnswer", "refusal start length")
 ReportAnswer = namedtuple("ReportAnswer", "verdict refusal rule place transfers packets records text result")
@@ -25,6 +27,10 @@ _u32, _i32, _u64, _size = ctypes.c_uint32, ctypes.c_int32, ctypes.c_uint64, ctyp
 
 class _Burst(ctypes.Structure):
     _fields_ = [("refusal", _u32), ("lower", _u32), ("upper", _u32), ("step", _i32), ("address", _u64)]
+
+
+class _Cut(ctypes.Structure):
+    _fields_ = [("refusal", _u32), ("count", _u64)]
 
 
 class _Stream(ctypes.Structure):
@@ -57,6 +63,7 @@ _burst = (_u32,) * 5
 _burst_judge = _call("urd_burst_judge", _Burst, *_burst)
 _burst_beat = _call("urd_burst_beat", _Burst, *_burst, _u32)
 _burst_step = _call("urd_burst_step", _Burst, *_burst, _u32)
+_axi3_cut = _call("urd_axi3_cut", _Cut, *_burst, ctypes.POINTER(_u64), _size)
 _judge = _call("urd_judge", _Stream, _size, *_input)
 _harvest = _call("urd_harvest", _Stream, _size, *_input, *_lent)
 _fill_in = _call("urd_fill_in", _Stream, _size, *_lent)
@@ -106,6 +113,17 @@ def burst_beat(start, len_, size, kind, bus, k):
 def burst_step(start, len_, size, kind, bus, k):
     """The step from beat k to the next. Refusals 7 to 12, then 13."""
     return _ask_burst(_burst_step, start, (len_, size, kind, bus, k))
+
+
+def axi3_cut(start, len_, size, kind, bus, room=16):
+    """The burst cut for AXI3 boards, which take at most 16 beats: a list of 1 to 16 `Burst`s, whose beats, one burst after another,
+    are its own. Refusals 7 to 12, then 5 where there is room for fewer; 16 are always enough."""
+    if not 0 <= start < 2**32:
+        return None
+    numbers = len(Burst._fields)
+    row = (_u64 * (numbers * min(max(room, 0), 16)))()
+    a = _axi3_cut(start, *(_held(n, _u32) for n in (len_, size, kind, bus)), row, len(row))
+    return CutAnswer(a.refusal, [Burst(*row[numbers * j : numbers * (j + 1)]) for j in range(a.count)])
 
 
 def judge(width, capture):

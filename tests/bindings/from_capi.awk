@@ -11,6 +11,7 @@ function parameter(text,    name, type) {
     type = text; sub(/^[^:]*: */, "", type)
     if (type == "&[u8]") return "const uint8_t *" name ", size_t " name "_length"
     if (type == "&mut [u8]") return "uint8_t *" name ", size_t " name "_length"
+    if (type == "&mut [u64]") return "uint64_t *" name ", size_t " name "_length"
     return (type in c ? c[type] : type) " " name
 }
 

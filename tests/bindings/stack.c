@@ -20,7 +20,8 @@
 
 enum { DATA, POSITIONS, MIXED, ENDS, KINDS }; /* what is in its lanes */
 
-static uint8_t take[MOST], transfers[MOST], out[16 * MOST], text[128], sheet[64];
+static uint8_t take[MOST], transfers[MOST], text[128], sheet[64];
+static union { uint8_t octets[16 * MOST]; uint64_t numbers[2 * MOST]; } lent;
 static size_t w, v, length, sheet_length; /* widths in and out, octets of take and transfers */
 
 static void put_record(uint8_t *r, size_t i, int kind)
@@ -57,21 +58,22 @@ static void write_sheet(int lanes, int none)
 /* ---- the calls; each answers its refusal ---- */
 
 static uint32_t judge(void) { return urd_judge(w, take, length).refusal; }
-static uint32_t harvest(void) { return urd_harvest(w, take, length, out, sizeof out).refusal; }
+static uint32_t harvest(void) { return urd_harvest(w, take, length, lent.octets, sizeof lent.octets).refusal; }
 static uint32_t fill_in(void) { return urd_fill_in(w, take, length).refusal; }
 static uint32_t data_octets(void) { return urd_data_octets(w, take, length, v).refusal; }
-static uint32_t repack(void) { return urd_repack(w, v, transfers, length, out, sizeof out).refusal; }
-static uint32_t downsize(void) { return urd_downsize(w, v, transfers, length, out, sizeof out).refusal; }
-static uint32_t report(void) { return urd_report(sheet, sheet_length, 1, take, length, 1, out, sizeof out, text, sizeof text).refusal; }
+static uint32_t repack(void) { return urd_repack(w, v, transfers, length, lent.octets, sizeof lent.octets).refusal; }
+static uint32_t downsize(void) { return urd_downsize(w, v, transfers, length, lent.octets, sizeof lent.octets).refusal; }
+static uint32_t report(void) { return urd_report(sheet, sheet_length, 1, take, length, 1, lent.octets, sizeof lent.octets, text, sizeof text).refusal; }
 static uint32_t burst_judge(void) { return urd_burst_judge(64, 15, 2, (uint32_t)v % 3, 4).refusal; }
 static uint32_t burst_beat(void) { return urd_burst_beat(64, 15, 2, (uint32_t)v % 3, 4, (uint32_t)w - 1).refusal; }
 static uint32_t burst_step(void) { return urd_burst_step(64, 15, 2, (uint32_t)v % 3, 4, (uint32_t)w - 1).refusal; }
+static uint32_t axi3_cut(void) { return urd_axi3_cut(64, 16 * (uint32_t)w - 1, 0, URD_INCR, 4, lent.numbers, 5 * v).refusal; }
 
 /* limit: which argument of the program is the call's. */
 static const struct { const char *name; uint32_t (*call)(void); int limit; } calls[] = {
     {"urd_report", report, 1}, {"urd_repack", repack, 2}, {"urd_downsize", downsize, 3}, {"urd_judge", judge, 3},
     {"urd_harvest", harvest, 3}, {"urd_fill_in", fill_in, 3}, {"urd_data_octets", data_octets, 3},
-    {"urd_burst_judge", burst_judge, 3}, {"urd_burst_beat", burst_beat, 3}, {"urd_burst_step", burst_step, 3},
+    {"urd_burst_judge", burst_judge, 3}, {"urd_burst_beat", burst_beat, 3}, {"urd_burst_step", burst_step, 3}, {"urd_axi3_cut", axi3_cut, 3},
 };
 
 /* ---- measuring ---- */

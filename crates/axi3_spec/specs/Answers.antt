@@ -38,6 +38,10 @@ abbrev pub rowFor : {A : Type 0} → Option Refusal → List A → List A → Li
 rowFor (some r) written lent = lent
 rowFor none written lent = written ++ drop (length written) lent
 
+-- a description that says nothing
+abbrev pub blank : Burst
+blank = record { start = 0; len = 0; size = 0; kind = Fixed; bus = 0 }
+
 -- ---- a burst cut into a lent row of descriptions
 
 abbrev pub cutAnswer : Burst → ℕ → CutAnswer
@@ -51,9 +55,6 @@ cutAfter x row = rowFor (cutRefusal x (length row)) (pieces x) row
 -- as many descriptions as a cut can need: 256 beats are 16 bursts
 abbrev pub rowLength : ℕ
 rowLength = 16
-
-abbrev pub blank : Burst
-blank = record { start = 0; len = 0; size = 0; kind = Fixed; bus = 0 }
 
 abbrev pub blankRow : List Burst
 blankRow = replicate rowLength blank
