@@ -5,12 +5,12 @@ use burst_spec::Judgement;
 use burst_spec::StepAnswer;
 use refusal::Refusal;
 
-fn number(key: &[u8], n: u64) {
+pub fn number(key: &[u8], n: u64) {
     io::write_all(1, key);
     io::print_decimal(1, n);
 }
 
-fn refused(r: Refusal) {
+pub fn refused(r: Refusal) {
     let code = refusal::code_of(r);
     number(b" refusal=", code.0 as u64);
 }

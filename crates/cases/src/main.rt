@@ -1,6 +1,7 @@
 // Runs the papers' bench cases through the library's calls and prints what each answers, a line an answer. What it must
 // print is in the file stdout, typed from the papers. The starred cases are also proved of the definitions (specs/Starred).
 mod bursts;
+mod cuts;
 mod streams;
 
 fn main() {
@@ -13,4 +14,6 @@ fn main() {
     bursts::boundary();
     bursts::counts();
     bursts::top();
+    cuts::incr();
+    cuts::others();
 }
