@@ -1,6 +1,7 @@
-//! Paper 01's bench cases, typed literally. They run against any set of calls:
-//! the model in the self test, and the library in the compare programs.
+//! Paper 01's bench cases, and cases of a change request, typed literally. They run against
+//! any set of calls: the model in the self test, and the library in the compare programs.
 use crate::model::{Burst, BurstAnswer, StreamAnswer};
+use crate::model_axi3::CutAnswer;
 use crate::tally::Tally;
 
 pub struct BurstCalls {
@@ -17,6 +18,9 @@ pub struct StreamCalls {
     pub repack: fn(usize, usize, &[u8], &mut [u8]) -> StreamAnswer,
     pub downsize: fn(usize, usize, &[u8], &mut [u8]) -> StreamAnswer,
 }
+
+/// A burst, and the lent row as numbers, five a description.
+pub type CutCall = fn(Burst, &mut [u64]) -> CutAnswer;
 
 fn burst(start: u32, beats: u32, size: u32, kind: u32, bus: u32) -> Burst {
     Burst { start, len: beats - 1, size, kind, bus }
@@ -79,6 +83,78 @@ pub fn bursts(t: &mut Tally, c: &BurstCalls) {
     });
     // A burst may end exactly at 2^32.
     t.group("burst up to 2^32", |t| beats_are(t, c, burst(0xFFFF_FFFB, 2, 2, 1, 8), &[(0xFFFF_FFFB, 3, 3), (0xFFFF_FFFC, 4, 7)], &[1]));
+}
+
+const UNTOUCHED: u64 = 0xC3C3_C3C3_C3C3_C3C3;
+
+/// The answer, and the row with these numbers at its front; all else, and one number on either side, unchanged.
+fn cut_leaves(t: &mut Tally, cut: CutCall, b: Burst, room: usize, answer: CutAnswer, front: &[u64]) {
+    let mut lent = vec![UNTOUCHED; room + 2];
+    let mut expected = lent.clone();
+    expected[1..=front.len()].copy_from_slice(front);
+    let got = cut(b, &mut lent[1..=room]);
+    t.same((got, lent), (answer, expected), || format!("cut {b:?}, row of {room}"));
+}
+
+fn cut_refused(t: &mut Tally, cut: CutCall, b: Burst, refusal: u32, room: usize) {
+    cut_leaves(t, cut, b, room, CutAnswer { refusal, count: 0 }, &[]);
+}
+
+/// An accepted cut: its bursts as (start, AxLEN), all else as in the old one. With one number less it is ROOM.
+fn cuts_into(t: &mut Tally, cut: CutCall, b: Burst, bursts: &[(u64, u64)]) {
+    let (size, kind, bus) = (u64::from(b.size), u64::from(b.kind), u64::from(b.bus));
+    let front: Vec<u64> = bursts.iter().flat_map(|&(start, len)| [start, len, size, kind, bus]).collect();
+    let answer = CutAnswer { refusal: 0, count: bursts.len() as u64 };
+    for more in [0, 1, 4, 5, 13] { cut_leaves(t, cut, b, front.len() + more, answer, &front); }
+    cut_refused(t, cut, b, 5, front.len() - 1);
+}
+
+/// Change request T-02, worked out by hand from its text.
+pub fn cuts(t: &mut Tally, cut: CutCall) {
+    t.group("T-02 by hand", |t| {
+        cuts_into(t, cut, burst(0x1002, 17, 2, 1, 4), &[(0x1002, 15), (0x1040, 0)]);
+        cuts_into(t, cut, burst(0x1002, 16, 2, 1, 4), &[(0x1002, 15)]);
+        cuts_into(t, cut, burst(0x1002, 15, 2, 1, 4), &[(0x1002, 14)]);
+        cuts_into(t, cut, burst(0x1FFF, 1, 2, 1, 4), &[(0x1FFF, 0)]);
+        cuts_into(t, cut, burst(0x1003, 31, 0, 1, 1), &[(0x1003, 15), (0x1013, 14)]);
+        cuts_into(t, cut, burst(0x1000, 32, 2, 1, 8), &[(0x1000, 15), (0x1040, 15)]);
+        cuts_into(t, cut, burst(0x1007, 33, 3, 1, 64), &[(0x1007, 15), (0x1080, 15), (0x1100, 0)]);
+        cuts_into(t, cut, burst(0x1036, 18, 2, 1, 32), &[(0x1036, 15), (0x1074, 1)]);
+        cuts_into(t, cut, burst(0x2045, 32, 7, 1, 128), &[(0x2045, 15), (0x2800, 15)]);
+        cuts_into(t, cut, burst(0xFFFF_FF05, 32, 3, 1, 8), &[(0xFFFF_FF05, 15), (0xFFFF_FF80, 15)]); // up to 2^32
+        cuts_into(t, cut, burst(0x1001, 256, 4, 1, 16), &[
+            (0x1001, 15), (0x1100, 15), (0x1200, 15), (0x1300, 15), (0x1400, 15), (0x1500, 15), (0x1600, 15), (0x1700, 15),
+            (0x1800, 15), (0x1900, 15), (0x1A00, 15), (0x1B00, 15), (0x1C00, 15), (0x1D00, 15), (0x1E00, 15), (0x1F00, 15),
+        ]);
+        cuts_into(t, cut, burst(0x1002, 16, 2, 0, 4), &[(0x1002, 15)]); // FIXED and WRAP come out as themselves
+        cuts_into(t, cut, burst(0x34, 4, 2, 2, 8), &[(0x34, 3)]);
+        cuts_into(t, cut, burst(0x34, 16, 2, 2, 8), &[(0x34, 15)]);
+    });
+    cut_refusals(t, cut);
+}
+
+/// Each burst also breaks later rules; the last one is good, and only some rows are too short for it.
+fn cut_refusals(t: &mut Tally, cut: CutCall) {
+    t.group("T-02 refusals in order", |t| for room in [0, 4, 9, 80] {
+        let mut b = Burst { start: 0x1FFF, len: 256, size: 8, kind: 3, bus: 3 };
+        cut_refused(t, cut, b, 7, room);
+        b.bus = 2;
+        cut_refused(t, cut, b, 8, room);
+        b.size = 2;
+        cut_refused(t, cut, b, 8, room);
+        b.bus = 4;
+        cut_refused(t, cut, b, 9, room);
+        for (kind, len) in [(0, 16), (1, 256), (2, 31)] { // none of them is cut
+            (b.kind, b.len) = (kind, len);
+            cut_refused(t, cut, b, 10, room);
+        }
+        b.len = 15;
+        cut_refused(t, cut, b, 11, room);
+        (b.kind, b.len) = (1, 16);
+        cut_refused(t, cut, b, 12, room);
+        b.start = 0x1FBD; // 17 beats up to the last byte of the block: two bursts, ten numbers
+        if room < 10 { cut_refused(t, cut, b, 5, room); } else { cuts_into(t, cut, b, &[(0x1FBD, 15), (0x1FFC, 0)]); }
+    });
 }
 
 const TAIL: u8 = 0xC3;

@@ -1,11 +1,14 @@
-//! The self test: the model against paper 01's own cases and formulas.
+//! The self test: the model against the papers' own cases and formulas.
 #![allow(dead_code)]
 mod cases;
 mod least;
 mod model;
+mod model_axi3;
 mod tally;
-use model::{Burst, FIXED, INCR, WRAP};
+use model::{Beat, Burst, FIXED, INCR, WRAP};
 use tally::{Random, Tally};
+
+const AXI3_BEATS: u32 = 16; // at most, as T-02 says
 
 /// Paper 01's formulas for beat k, to set against A3.4.2's pseudo code.
 fn formula(b: Burst, k: u64) -> (u64, u64, u64) {
@@ -21,6 +24,29 @@ fn formula(b: Burst, k: u64) -> (u64, u64, u64) {
     (address, address % bus, (address - address % bytes + bytes - 1) % bus)
 }
 
+/// T-02's words and closed formulas, to set against the model's cut of an INCR.
+fn cut_is_right(t: &mut Tally, b: Burst, list: &[Burst]) {
+    let joined: Vec<Beat> = list.iter().flat_map(|p| model::judge_burst(*p).beats).collect();
+    t.same(joined, model::judge_burst(b).beats, || format!("beats of {b:?} cut into {list:?}"));
+    let (beats, bytes) = (b.len + 1, 1 << b.size);
+    let count = beats.div_ceil(AXI3_BEATS);
+    t.same(list.len() as u32, count, || format!("{b:?} cut into {list:?}"));
+    for (j, p) in (0..count).zip(list) {
+        let start = if j == 0 { b.start } else { b.start - b.start % bytes + AXI3_BEATS * j * bytes };
+        let expected = Burst { start, len: (beats - AXI3_BEATS * j).min(AXI3_BEATS) - 1, ..b };
+        t.same((*p, model::judge_burst(*p).refusal), (expected, 0), || format!("burst {j} of {b:?}"));
+    }
+}
+
+fn cut_bursts(t: &mut Tally, r: &mut Random) {
+    t.group("cut bursts have the old beats", |t| for _ in 0..20_000 {
+        let (size, block) = (r.below(8) as u32, r.next() as u32 & 0xFFFF_F000);
+        let start = block + if r.one_in(2) { r.below(1 << size) } else { r.below(4096) } as u32;
+        let b = Burst { start, len: r.below(256.min(4096 >> size)) as u32, size, kind: INCR, bus: 128 >> r.below(8 - size as usize) };
+        if let Ok(list) = model_axi3::cut_plan(b) { cut_is_right(t, b, &list); }
+    });
+}
+
 fn main() {
     let mut t = Tally::default();
     t.least = least::SELF_TEST;
@@ -31,6 +57,7 @@ fn main() {
         beat: |b, k| model::beat(&model::judge_burst(b), k),
         step: |b, k| model::step(&model::judge_burst(b), k),
     });
+    cases::cuts(&mut t, model_axi3::cut);
     cases::streams(&mut t, &cases::StreamCalls {
         judge: model::judge,
         harvest: model::harvest,
@@ -67,6 +94,7 @@ fn main() {
             t.same(model::items(v, &sliced), list, || format!("items after downsizing {w} to {v} {stream:02x?}"));
         }
     });
+    cut_bursts(&mut t, &mut r);
     t.every_group_ran();
     t.finish()
 }

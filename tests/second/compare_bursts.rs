@@ -29,7 +29,7 @@ fn random_start(r: &mut Random) -> u32 {
     }
 }
 
-fn random_of_kind(r: &mut Random, kind: u32) -> Burst {
+pub fn random_of_kind(r: &mut Random, kind: u32) -> Burst {
     let size = r.below(8) as u32;
     let bus = 1 << (size as usize + r.below(8 - size as usize));
     let len = match kind {
@@ -43,7 +43,7 @@ fn random_of_kind(r: &mut Random, kind: u32) -> Burst {
 }
 
 /// One argument of a good burst replaced, or several.
-fn damaged(r: &mut Random) -> Burst {
+pub fn damaged(r: &mut Random) -> Burst {
     let kind = r.below(3) as u32;
     let mut b = random_of_kind(r, kind);
     for _ in 0..1 + r.below(3) {
@@ -58,7 +58,7 @@ fn damaged(r: &mut Random) -> Burst {
     b
 }
 
-fn wild(r: &mut Random) -> Burst {
+pub fn wild(r: &mut Random) -> Burst {
     let mut number = || { let n = r.next() as u32; n >> r.below(32) };
     Burst { len: number(), size: number(), kind: number(), bus: number(), start: r.next() as u32 }
 }

@@ -5,14 +5,17 @@
 #![allow(dead_code)]
 mod calls;
 mod cases;
+mod compare_axi3;
 mod compare_bursts;
 mod compare_report;
 mod compare_streams;
 mod least;
+mod library_axi3;
 mod library_burst;
 mod library_report;
 mod library_stream;
 mod model;
+mod model_axi3;
 #[path = "../report/model.rs"]
 mod report_model;
 mod tally;
@@ -27,11 +30,13 @@ fn gate(seed: u64, only: Option<String>) -> ! {
     let mut t = Tally::default();
     (t.seed, t.only, t.least) = (Some(seed), only, least::COMPARE);
     compare_bursts::all(&mut t);
+    compare_axi3::all(&mut t);
     compare_streams::all(&mut t);
     compare_report::all(&mut t);
     calls::show();
     t.seed = None; // the last two groups are about the run as a whole
-    t.show_verdicts(&[&compare_bursts::VERDICTS[..], &compare_streams::VERDICTS, &compare_report::VERDICTS].concat());
+    let verdicts = [&compare_bursts::VERDICTS[..], &compare_axi3::VERDICTS, &compare_streams::VERDICTS, &compare_report::VERDICTS];
+    t.show_verdicts(&verdicts.concat());
     t.every_group_ran();
     println!("{} calls in all", calls::all());
     t.finish()
@@ -53,6 +58,7 @@ fn soak(seconds: u64, first: u64) -> ! {
         t.seed = Some(seed);
         let mut r = Random::of_seed(seed);
         compare_bursts::round(&mut t, &mut r);
+        compare_axi3::round(&mut t, &mut r);
         compare_streams::round(&mut t, &mut r);
         compare_report::round(&mut t, &mut r);
         if began.elapsed() >= Duration::from_secs(seconds) { break; }
