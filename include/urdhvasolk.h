@@ -5,8 +5,9 @@
  * returns, keeps nothing of its own between calls, allocates nothing, calls nothing back, prints nothing and reads no file.
  *
  * What the caller takes care of:
- *   - each pointer points to that many readable octets (`row`: numbers of 64 bits) as the length after it says (for `out`, `row`,
- *     `text`, and for `capture` of urd_fill_in: writable ones), and is not NULL, even where its length is 0;
+ *   - each pointer points to that many readable octets as the length after it says (for `out`, for `text`, and for
+ *     `capture` of urd_fill_in: writable ones; for `row`: writable numbers of 64 bits), and is not NULL, even where
+ *     its length is 0;
  *   - `out` and `text` share no octet with each other, nor with the input of the same call;
  *   - nothing else writes those octets until the call has returned. Calls on other octets may run at the same time;
  *   - so much stack is free: 216 KB for urd_report, 88 KB for urd_repack, 2 KB for any other call. (tests/bindings
@@ -96,9 +97,10 @@ typedef struct urd_cut_answer {
     uint64_t count;   /* the bursts written: 1 to 16 */
 } urd_cut_answer;
 
-/* Cuts a burst for AXI3 boards, which take at most 16 beats. An INCR of more becomes bursts of 16 beats, and a last one of those that
- * are left; any other burst stays as it is. The beats of the bursts, one burst after another, are the beats of the old one.
- * `row_length` counts numbers, five a burst: 80 are always enough. Lend an array of n bursts as (uint64_t *)array and 5 * n.
+/* Cuts a burst for AXI3 boards, which take at most 16 beats. An INCR of more becomes bursts of 16 beats, the last of 1 to 16: the first
+ * at the old start, the others at their aligned beat address, size, kind and bus unchanged. Any other burst comes out as itself. The
+ * beats of the bursts, one burst after another, are the beats of the old one. `row_length` counts numbers, five a burst: 80 are always
+ * enough, and a rest of fewer than five is no room. Lend an array of n bursts as (uint64_t *)array and 5 * n.
  * Refusals: 7, 8, 9, 10, 11, 12, then 5 where the row is too short.
  * Lent memory: `row` gets the bursts and is unchanged after them; refused, it is unchanged. */
 urd_cut_answer urd_axi3_cut(uint32_t start, uint32_t len, uint32_t size, uint32_t kind, uint32_t bus, uint64_t *row, size_t row_length);

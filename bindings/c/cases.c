@@ -268,7 +268,8 @@ static void cut_is(uint32_t start, uint32_t beats, uint32_t size, uint32_t kind,
     urd_burst row[ROW], expected[ROW];
     memset(row, TAIL, sizeof row);
     memset(expected, TAIL, sizeof expected);
-    memcpy(expected, bursts, count * sizeof *bursts);
+    if (count > 0)
+        memcpy(expected, bursts, count * sizeof *bursts);
     urd_cut_answer a = urd_axi3_cut(start, beats - 1, size, kind, bus, (uint64_t *)row, 5 * room + rest);
     check(a.refusal == refusal && a.count == count, what);
     check(memcmp(row, expected, sizeof row) == 0, what);

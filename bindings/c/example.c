@@ -48,7 +48,7 @@ static void burst(void)
     }
 }
 
-/* The same for an older board, which takes at most 16 beats: a burst of 20 is cut in two. */
+/* For an older board, which takes at most 16 beats, an INCR burst of 20 is cut in two. */
 static void axi3(void)
 {
     urd_burst row[16];

@@ -30,7 +30,7 @@ def burst():
 
 
 def axi3():
-    """The same for an older board, which takes at most 16 beats: a burst of 20 is cut in two."""
+    """For an older board, which takes at most 16 beats, an INCR burst of 20 is cut in two."""
     for b in urd.axi3_cut(0x1002, 19, 2, urd.INCR, 4).bursts:
         print(f"{b.len_ + 1} beats from {b.start:#x}")
 

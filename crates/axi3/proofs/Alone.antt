@@ -1,10 +1,8 @@
 -- A cut into a row of its own: it is made with room for every cut, and what was asked for decides. Assumes nothing.
-use mathlib.Core.List.{List}
 use mathlib.Core.Option.{Option, none, some}
 use mathlib.Core.Path.{_≡_, refl, sym, ap, subst, _∙_}
 use Prim.Native.Nat.{ℕ, _≤_, _<_}
 use native.Mathlib.Omega.{arith}
-use lib.ListN.{length}
 use Rattle.refusal.specs.declared.Refusal.{Refusal}
 use Rattle.refusal.specs.declared.Refusal.the-variants.{Room}
 use Rattle.refusal.specs.Checks.{first}
@@ -12,30 +10,26 @@ use Rattle.burst_spec.specs.declared.Burst.{Burst}
 use Rattle.burst_spec.specs.Answers.{judgementFor}
 use Rattle.burst_spec.specs.Checks.{checks}
 use Rattle.burst_spec.proofs.Answers.{accepted-exactly}
-use Rattle.axi3_spec.specs.declared.CutAnswer.{CutAnswer}
-use Rattle.axi3_spec.specs.declared.CutAnswer.the-variants.{Bursts, Refused}
+use Rattle.axi3_spec.specs.declared.CutAnswer.the-variants.{Refused}
 use Rattle.axi3_spec.specs.declared.CutRow.{CutRow}
 use Rattle.axi3_spec.specs.Cut.{pieceCount, pieces}
-use Rattle.axi3_spec.specs.Answers.{cutRefusal, cutFor, rowFor, rowLength, blankRow, Answered, CutAlone}
+use Rattle.axi3_spec.specs.Answers.{cutRefusal, cutFor, rowFor, rowLength, blankRow, Answered, Cut, CutAlone}
 use Rattle.axi3_spec.specs.Promises.{IsAccepted}
 use Rattle.axi3_spec.proofs.Answers.{answered, answer-room, refusal-judged, refusal-room, refusal-none, none-refused}
 use Rattle.axi3_spec.proofs.Pieces.{count-most}
-use Rattle.axi3.specs.Rows.{usedOf, CutLent}
+use Rattle.axi3.specs.Rows.{usedOf}
 use Rattle.axi3.proofs.Rows.{used-is}
 
-module _ (x : Burst) (room : ℕ) (r : CutRow) (c : CutLent x blankRow r) where
-  used-by : (o : Option Refusal) → cutRefusal x rowLength ≡ o → usedOf (r .answer) ≡ usedOf (cutFor o (pieceCount x))
-  used-by o e = used-is x rowLength (r .answer) (c .answers) o e
-
+module _ (x : Burst) (room : ℕ) (r : CutRow) (c : Cut x blankRow (r .answer) (r .bursts)) where
   -- more bursts than there is room for: so the burst is accepted
   pub too-short : room < usedOf (r .answer) → (q : CutRow) → q .answer ≡ Refused Room → q .bursts ≡ blankRow → CutAlone x room q
   too-short h q e f = go (cutRefusal x rowLength) refl
     where
       go : (o : Option Refusal) → cutRefusal x rowLength ≡ o → CutAlone x room q
-      go (some p) g = absurd (omega (arith, used-by (some p) g))
+      go (some p) g = absurd (omega (arith, used-is x rowLength (r .answer) (c .answers) (some p) g))
       go none g =
           let a : IsAccepted x = none-refused x rowLength g .0 in
-          let short : room < pieceCount x = omega (arith, used-by none g) in
+          let short : room < pieceCount x = omega (arith, used-is x rowLength (r .answer) (c .answers) none g) in
           record {
             answers = subst (Answered x room) (sym e) (answer-room x room a short);
             leaves = f ∙ sym (ap (λ o. rowFor o (pieces x) blankRow) (refusal-room x room a short));
@@ -50,7 +44,7 @@ module _ (x : Burst) (room : ℕ) (r : CutRow) (c : CutLent x blankRow r) where
       go none g =
           let a : IsAccepted x = ap judgementFor g in
           let all : cutRefusal x rowLength ≡ none = refusal-none x rowLength a (count-most x (accepted-exactly x .0 a .legal)) in
-          refusal-none x room a (omega (arith, used-by none all)) ∙ sym all
+          refusal-none x room a (omega (arith, used-is x rowLength (r .answer) (c .answers) none all)) ∙ sym all
 
   pub long-enough : usedOf (r .answer) ≤ room → CutAlone x room r
   long-enough h =

@@ -1,9 +1,8 @@
 -- A row of numbers while descriptions are written to it, and when all are. Assumes nothing.
 use mathlib.Core.List.{List, [], _∷_, _++_, map, map-append, append-assoc, append-nil}
 use mathlib.Core.Option.{Option, none, some}
-use mathlib.Core.Path.{_≡_, refl, sym, ap, ap₂, subst, _∙_}
-use Prim.Native.Nat.{ℕ, zero, suc, _+_, _-_, _*_, _/_, _≤_, _<_}
-use native.Mathlib.Nat.{add-suc, add-zero}
+use mathlib.Core.Path.{_≡_, refl, sym, ap, ap₂, _∙_}
+use Prim.Native.Nat.{ℕ, suc, _+_, _*_, _≤_, _<_}
 use native.Mathlib.Omega.{arith}
 use lib.ListN.{length, set, take, drop, getD, length-append, length-drop}
 use lib.Seq.{sets-eq, take-at, drop-at, take-suc, drop-drop, length-take-le}
@@ -12,17 +11,18 @@ use Rattle.burst_spec.specs.declared.Burst.{Burst}
 use Rattle.burst_spec.proofs.Answers.{accepted-exactly}
 use Rattle.axi3_spec.specs.declared.CutRow.{CutRow}
 use Rattle.axi3_spec.specs.Cut.{pieceCount, piece, pieces, joined}
-use Rattle.axi3_spec.specs.Answers.{cutRefusal, cutFor, rowFor, rowLength, blankRow, kindNumber, numbersEach, numbersOf, numbersRoom, numbersAfter, CutAlone}
+use Rattle.axi3_spec.specs.Answers.{cutRefusal, rowFor, rowLength, blankRow, kindNumber, numbersEach, numbersOf, numbersRoom, numbersAfter, CutAlone}
 use Rattle.axi3_spec.proofs.Runs.{run-length}
 use Rattle.axi3_spec.proofs.Pieces.{count-most}
 use Rattle.axi3_spec.proofs.Answers.{none-refused}
-use Rattle.axi3.specs.Rows.{usedOf, described, laid}
+use Rattle.axi3_spec.proofs.Numbers.{numbers-length}
+use Rattle.axi3.specs.Rows.{usedOf, withBurst, laid}
 use Rattle.axi3.proofs.Rows.{used-is}
 
 -- five stores, one after another
 pub stored : (row : List ℕ) (at : ℕ) (x : Burst) → at + numbersEach ≤ length row
-    → set (set (set (set (set row at (x .start)) (at + 1) (x .len)) (at + 2) (x .size)) (at + 3) (kindNumber (x .kind))) (at + 4) (x .bus) ≡ described at x row
-unfolding described
+    → set (set (set (set (set row at (x .start)) (at + 1) (x .len)) (at + 2) (x .size)) (at + 3) (kindNumber (x .kind))) (at + 4) (x .bus) ≡ withBurst at x row
+unfolding withBurst
 stored row at x h =
     let one : at + 1 ≡ suc at = omega arith in
     let two : at + 2 ≡ suc (suc at) = omega arith in
@@ -30,9 +30,9 @@ stored row at x h =
     let four : at + 4 ≡ suc (suc (suc (suc at))) = omega arith in
     rw (one, two, three, four) (sets-eq (numbersOf x) row at h ∙ append-assoc (take at row) (numbersOf x) (drop (at + numbersEach) row))
 
-described-length : (row : List ℕ) (at : ℕ) (x : Burst) → at + numbersEach ≤ length row → length (described at x row) ≡ length row
-unfolding described
-described-length row at x h =
+withBurst-length : (row : List ℕ) (at : ℕ) (x : Burst) → at + numbersEach ≤ length row → length (withBurst at x row) ≡ length row
+unfolding withBurst
+withBurst-length row at x h =
     length-append (take at row) (numbersOf x ++ drop (at + numbersEach) row)
     ∙ omega (arith, length-take-le at row (omega arith), length-append (numbersOf x) (drop (at + numbersEach) row), length-drop (at + numbersEach) row)
 
@@ -40,12 +40,6 @@ joined-append : (xss yss : List (List ℕ)) → joined (xss ++ yss) ≡ joined x
 unfolding joined
 joined-append [] yss = refl
 joined-append (xs ∷ xss) yss = ap (λ l. xs ++ l) (joined-append xss yss) ∙ sym (append-assoc xs (joined xss) (joined yss))
-
--- five numbers a description
-numbers-length : (ys : List Burst) → length (joined (map numbersOf ys)) ≡ numbersEach * length ys
-unfolding joined
-numbers-length [] = refl
-numbers-length (y ∷ ys) = length-append (numbersOf y) (joined (map numbersOf ys)) ∙ omega (arith, numbers-length ys)
 
 -- ---- the first n descriptions
 
@@ -63,8 +57,8 @@ laid-length ys row j h k =
     ∙ omega (arith, front-length ys j h, length-drop (numbersEach * j) row)
 
 -- one more
-pub laid-next : (ys : List Burst) (row : List ℕ) (j : ℕ) (d : Burst) → j < length ys → described (numbersEach * j) (getD ys j d) (laid ys j row) ≡ laid ys (j + 1) row
-unfolding laid described joined
+pub laid-next : (ys : List Burst) (row : List ℕ) (j : ℕ) (d : Burst) → j < length ys → withBurst (numbersEach * j) (getD ys j d) (laid ys j row) ≡ laid ys (j + 1) row
+unfolding laid withBurst joined
 laid-next ys row j d h =
     let front : List ℕ = joined (map numbersOf (take j ys)) in
     let rest : List ℕ = drop (numbersEach * j) row in
@@ -92,9 +86,6 @@ laid-next ys row j d h =
 -- ---- a cut with a row of its own, of so many descriptions, laid into a row of numbers
 
 module _ (x : Burst) (room : ℕ) (r : CutRow) (c : CutAlone x room r) where
-  used-by : (o : Option Refusal) → cutRefusal x room ≡ o → usedOf (r .answer) ≡ usedOf (cutFor o (pieceCount x))
-  used-by o e = used-is x room (r .answer) (c .answers) o e
-
   row-by : (o : Option Refusal) → cutRefusal x room ≡ o → r .bursts ≡ rowFor o (pieces x) blankRow
   row-by o e = c .leaves ∙ ap (λ q. rowFor q (pieces x) blankRow) e
 
@@ -117,23 +108,23 @@ module _ (x : Burst) (room : ℕ) (r : CutRow) (c : CutAlone x room r) where
   used-most = go (cutRefusal x room) refl
     where
       go : (o : Option Refusal) → cutRefusal x room ≡ o → (usedOf (r .answer) ≤ rowLength) × (usedOf (r .answer) ≤ room)
-      go (some q) e = (omega (arith, used-by (some q) e), omega (arith, used-by (some q) e))
+      go (some q) e = (omega (arith, used-is x room (r .answer) (c .answers) (some q) e), omega (arith, used-is x room (r .answer) (c .answers) (some q) e))
       go none e =
           let h = none-refused x room e in
           let few : pieceCount x ≤ rowLength = count-most x (accepted-exactly x .0 (h .0) .legal) in
-          (omega (arith, used-by none e), omega (arith, used-by none e, h .1))
+          (omega (arith, used-is x room (r .answer) (c .answers) none e), omega (arith, used-is x room (r .answer) (c .answers) none e, h .1))
 
   laid-by : (row : List ℕ) (o : Option Refusal) → cutRefusal x room ≡ o
       → laid (r .bursts) (usedOf (r .answer)) row ≡ rowFor o (joined (map numbersOf (pieces x))) row
   unfolding laid joined
-  laid-by row (some q) e = ap (λ n. laid (r .bursts) n row) (used-by (some q) e)
+  laid-by row (some q) e = ap (λ n. laid (r .bursts) n row) (used-is x room (r .answer) (c .answers) (some q) e)
   laid-by row none e =
       let written : List ℕ = joined (map numbersOf (pieces x)) in
       let long : length written ≡ numbersEach * pieceCount x = numbers-length (pieces x) ∙ ap (λ n. numbersEach * n) pieces-length in
       let front : take (pieceCount x) (r .bursts) ≡ pieces x =
       ap (take (pieceCount x)) (row-by none e) ∙ take-at (pieces x) (drop (length (pieces x)) blankRow) (pieceCount x) pieces-length
       in
-      ap (λ n. laid (r .bursts) n row) (used-by none e)
+      ap (λ n. laid (r .bursts) n row) (used-is x room (r .answer) (c .answers) none e)
       ∙ ap₂ (λ ys n. joined (map numbersOf ys) ++ drop n row) front (sym long)
 
   pub laid-all : (row : List ℕ) → numbersRoom row ≡ room → laid (r .bursts) (usedOf (r .answer)) row ≡ numbersAfter x row

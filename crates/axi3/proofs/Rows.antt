@@ -1,20 +1,19 @@
 -- A row of bursts while a cut is written to it, and when it is written. Assumes nothing.
-use mathlib.Core.List.{List, [], _∷_, _++_, append-assoc}
+use mathlib.Core.List.{List, _∷_, _++_}
 use mathlib.Core.Option.{Option, none, some}
-use mathlib.Core.Path.{_≡_, refl, sym, ap, subst, _∙_}
-use Prim.Native.Nat.{ℕ, zero, suc, _+_, _-_, _≤_, _<_, min}
+use mathlib.Core.Path.{_≡_, refl, sym, ap, _∙_}
+use Prim.Native.Nat.{ℕ, suc, _+_, _≤_, _<_}
 use native.Mathlib.Numerals.{add-one}
 use native.Mathlib.Omega.{arith}
-use lib.ListN.{length, set, take, drop, getD, length-append, length-drop}
-use lib.Seq.{drop-cons, set-append-seam, append-snoc, take-append-seam, drop-append-seam}
+use lib.ListN.{length, set, drop, getD, length-append, length-drop}
+use lib.Seq.{drop-cons, set-append-seam, append-snoc}
 use Rattle.refusal.specs.declared.Refusal.{Refusal}
 use Rattle.burst_spec.specs.declared.Burst.{Burst}
 use Rattle.burst_spec.specs.Legal.{Accepted}
 use Rattle.burst_spec.proofs.Answers.{accepted-exactly}
 use Rattle.axi3_spec.specs.declared.CutAnswer.{CutAnswer}
-use Rattle.axi3_spec.specs.declared.CutAnswer.the-variants.{Bursts, Refused}
 use Rattle.axi3_spec.specs.Cut.{pieceCount, piece, run, pieces}
-use Rattle.axi3_spec.specs.Answers.{cutRefusal, cutFor, cutAnswer, cutAfter, rowFor, Answered}
+use Rattle.axi3_spec.specs.Answers.{cutRefusal, cutFor, cutAfter, rowFor, Answered}
 use Rattle.axi3.specs.Rows.{usedOf, filled}
 use Rattle.axi3_spec.proofs.Runs.{run-length, run-last}
 use Rattle.axi3_spec.proofs.Answers.{none-refused}

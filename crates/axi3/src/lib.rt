@@ -14,9 +14,9 @@ ghost use Prim.Native.Nat.{_+_, _*_, _≤_, _<_, min};
 ghost use lib.ListN.{length};
 ghost use Rattle.burst_spec.specs.Address.{beats, beatAddress};
 ghost use Rattle.burst_spec.specs.Legal.{Accepted};
-ghost use Rattle.axi3_spec.specs.Cut.{beatsMost, pieceCount, piece};
+ghost use Rattle.axi3_spec.specs.Cut.{pieceCount, piece};
 ghost use Rattle.axi3_spec.specs.Answers.{rowLength, blankRow, kindNumber, numbersEach, Answered, Cut, CutAlone, CutNumbers};
-ghost use Rattle.axi3.specs.Rows.{usedOf, described, laid, CutLent};
+ghost use Rattle.axi3.specs.Rows.{usedOf, withBurst, laid};
 
 // "Older boards take at most 16 beats".
 const BEATS_MOST: u32 = 16;
@@ -68,7 +68,7 @@ pub fn cut_numbers(b: Burst, row: &mut [u64]) -> CutAnswer
 
 // The cut into a row by value, which is lent to `cut` and comes back.
 fn cut_into(b: Burst, row: [Burst; 16]) -> CutRow
-    ensures { λ r. ⌜ CutLent b row r ⌝ }
+    ensures { λ r. ⌜ Cut b row (r .answer) (r .bursts) ⌝ }
 {
     let mut bursts = row;
     let answer = cut(b, &mut bursts);
@@ -136,6 +136,7 @@ fn beat_address(b: Burst, k: u32) -> Address
     }
 }
 
+// The smaller of the two.
 fn at_most(most: u32, x: u32) -> u32
     ensures { λ r. ⌜ r ≡ min most x ⌝ }
 {
@@ -174,7 +175,7 @@ fn kind_number(kind: Kind) -> u64
 // Writes a description, to the five numbers of the row from `at` on.
 fn put_burst(row: &mut [u64], at: usize, b: Burst)
     requires { ⌜ at + numbersEach ≤ length (now row) ⌝ }
-    ensures { λ _. ⌜ now (row .exit) ≡ described at b (now (row .entry)) ⌝ }
+    ensures { λ _. ⌜ now (row .exit) ≡ withBurst at b (now (row .entry)) ⌝ }
 {
     let kind = b.kind;
     row[at] = b.start as u64;

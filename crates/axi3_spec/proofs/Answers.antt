@@ -1,12 +1,11 @@
 -- When a cut is refused and with what, and that an answer shows the paper's numbers. Assumes nothing.
-use mathlib.Core.Bool.{Bool, true, false, cond}
-use mathlib.Core.List.{List, [], _∷_, _++_}
+use mathlib.Core.List.{List, [], _∷_}
 use mathlib.Core.Option.{Option, none, some}
 use mathlib.Core.Path.{_≡_, refl, sym, ap, _∙_}
 use Prim.Native.Nat.{ℕ, _≤_, _<_}
 use native.Mathlib.Omega.{arith}
 use lib.Dec.{ltb}
-use borrow.Author.Tests.{lt-ltb, le-ltb, ltb-true, ltb-false}
+use borrow.Author.Tests.{lt-ltb, le-ltb, ltb-false}
 use Rattle.refusal.specs.declared.Refusal.{Refusal}
 use Rattle.refusal.specs.declared.Refusal.the-variants.{Room}
 use Rattle.refusal.specs.Checks.{Check, check, first}
@@ -15,8 +14,7 @@ use Rattle.burst_spec.specs.declared.Burst.{Burst}
 use Rattle.burst_spec.specs.declared.Judgement.the-variants as judged
 use Rattle.burst_spec.specs.Answers.{judgementFor, judgement}
 use Rattle.burst_spec.specs.Checks.{checks}
-use Rattle.burst_spec.specs.Legal.{Accepted}
-use Rattle.burst_spec.proofs.Answers.{accepted-none, refused-some, accepted-exactly}
+use Rattle.burst_spec.proofs.Answers.{accepted-none, refused-some}
 use Rattle.burst_spec.proofs.Known.{clash}
 use Rattle.axi3_spec.specs.declared.CutAnswer.{CutAnswer}
 use Rattle.axi3_spec.specs.declared.CutAnswer.the-variants.{Bursts, Refused}

@@ -2,6 +2,7 @@
 pub mod Runs
 pub mod Pieces
 pub mod Answers
+pub mod Numbers
 pub mod Promises
 pub mod Once
 pub mod Cases

@@ -1,25 +1,23 @@
 -- The bursts of a cut: how many there are, that beat k of burst j is beat 16*j + k of the old burst, and that each is accepted.
 -- Assumes nothing.
 use mathlib.Core.Bool.{Bool, true, false, _&&_}
-use mathlib.Core.List.{List, [], _∷_, _++_, map}
+use mathlib.Core.List.{_++_}
 use mathlib.Core.Logic.{_⊎_, inl, inr}
 use mathlib.Core.Path.{_≡_, refl, sym, ap, ap₂, subst, _∙_}
-use Prim.Native.Nat.{ℕ, zero, suc, _+_, _-_, _*_, _/_, _%_, _^_, _≤_, _<_, min}
-use native.Mathlib.Nat.{zero-add, add-zero, zero-mul, mul-zero, add-mul}
+use Prim.Native.Nat.{ℕ, zero, suc, _+_, _-_, _*_, _/_, _≤_, _<_}
+use native.Mathlib.Nat.{zero-add, add-zero, add-mul}
 use native.Mathlib.Omega.{arith}
-use lib.Dec.{leb, eqb}
+use lib.Dec.{leb}
 use lib.Pow.{pow-pos, pow-mono}
-use borrow.Author.Tests.{le-leb, le-ltb, leb-true, eq-eqb}
+use borrow.Author.Tests.{le-leb, le-ltb, leb-true}
 use Rattle.burst_spec.specs.declared.Burst.{Burst}
 use Rattle.burst_spec.specs.declared.Kind.{Kind}
 use Rattle.burst_spec.specs.declared.Kind.the-variants.{Fixed, Incr, Wrap, Reserved}
-use Rattle.burst_spec.specs.Address.{roundDown, aligned, incrAddress, wrapAddress, addressBy, beats, bytes, beatAddress, highestByte, beatAt, beatOf}
-use Rattle.burst_spec.specs.Checks.{between, axlenMost, block, outside, beatOutside, crosses, crossesBy, countAllowed, countRefused, misaligned, isReserved}
+use Rattle.burst_spec.specs.Address.{incrAddress, wrapAddress, addressBy, beats, bytes, beatAddress, beatAt, beatOf}
+use Rattle.burst_spec.specs.Checks.{between, axlenMost, block, crosses, countAllowed, countRefused, misaligned}
 use Rattle.burst_spec.specs.Legal.{Legal, Accepted}
-use Rattle.burst_spec.proofs.Below.{none-below}
-use Rattle.burst_spec.proofs.Block.{one-block, address-block}
-use Rattle.burst_spec.proofs.Known.{clash, wrap-power, UpTo, known}
-use Rattle.burst_spec.proofs.Rounding.{round-beats, round-near}
+use Rattle.burst_spec.proofs.Block.{incr-round, all-inside, address-block}
+use Rattle.burst_spec.proofs.Known.{clash, wrap-power, UpTo, known, size-small}
 use Rattle.axi3_spec.specs.Cut.{beatsMost, countBy, pieceCount, pieceBeats, piece, run, pieces, beatsOf, joined, beatsOfAll}
 use Rattle.axi3_spec.specs.Promises.{sixteens}
 use Rattle.axi3_spec.proofs.Runs.{run-append, run-same, run-at}
@@ -112,11 +110,10 @@ by-kind P x l one many j h = go (few-or-incr (x .kind) (beats x) (known x l .cou
 -- k beats on, and then i beats on
 incr-on : (s b k i : ℕ) → 0 < b → incrAddress (incrAddress s b k) b i ≡ incrAddress s b (k + i)
 unfolding incrAddress
-incr-on s b zero i h = rw (zero-add i)
-incr-on s b (suc k) zero h = rw (add-zero (suc k))
-incr-on s b (suc k) (suc i) h =
-    let n : suc k + suc i ≡ suc (suc k + i) = omega arith in
-    rw (n, round-beats s b (suc k) h, ← n, add-mul (suc k) (suc i) b) (omega arith)
+incr-on s b k zero h = ap (incrAddress s b) (sym (add-zero k))
+incr-on s b k (suc i) h =
+    let more : k + suc i ≡ suc (k + i) = omega arith in
+    rw (incr-round s b k h, more) (omega (arith, add-mul k (suc i) b, ap (λ n. n * b) more))
 
 pub incr-is : (x : Burst) → x .kind ≡ Incr → (k : ℕ) → beatAddress x k ≡ incrAddress (x .start) (bytes x) k
 unfolding addressBy
@@ -131,13 +128,13 @@ incr-piece x e j k =
     ∙ sym (incr-is x e (beatsMost * j + k))
 
 -- beat k of burst j is at the address of beat 16*j + k
-pub piece-address : (x : Burst) → Legal x → (j : ℕ) → j < pieceCount x → (k : ℕ) → beatAddress (piece x j) k ≡ beatAddress x (beatsMost * j + k)
+piece-address : (x : Burst) → Legal x → (j : ℕ) → j < pieceCount x → (k : ℕ) → beatAddress (piece x j) k ≡ beatAddress x (beatsMost * j + k)
 piece-address x l j h k =
     by-kind (λ y j. beatAddress y k ≡ beatAddress x (beatsMost * j + k)) x l (ap (beatAddress x) (sym (zero-add k)))
     (λ e j h. incr-piece x e j k) j h
 
 -- and so it is that beat, lanes and all
-pub piece-beat : (x : Burst) → Legal x → (j : ℕ) → j < pieceCount x → (k : ℕ) → beatOf (piece x j) k ≡ beatOf x (beatsMost * j + k)
+piece-beat : (x : Burst) → Legal x → (j : ℕ) → j < pieceCount x → (k : ℕ) → beatOf (piece x j) k ≡ beatOf x (beatsMost * j + k)
 unfolding piece
 piece-beat x l j h k = ap (beatAt x) (piece-address x l j h k)
 
@@ -204,22 +201,17 @@ incr-legal x l e j =
       start = ap (λ m. misaligned m (piece x j .start) (bytes x)) e;
     }
 
--- a beat all of whose bytes are in the block of s
-within : (s a b : ℕ) → 0 < b → ((c : ℕ) → a ≤ c → c ≤ highestByte a b → c / block ≡ s / block) → beatOutside s b a ≡ false
-within s a b p f =
-    none-below (highestByte a b - a + 1) (λ i. outside s (a + i))
-    (λ i h. let same : (a + i) / block ≡ s / block = f (a + i) (omega arith) (omega (arith, round-near a b p)) in rw (eq-eqb _ _ same))
-
--- the bytes of burst j are bytes of the old burst, so they are in the block that burst j starts in
+-- its beats are beats of the old burst, so they are in the block that it starts in
 incr-inside : (x : Burst) → Accepted x → (j : ℕ) → j < pieceCount x → crosses (piece x j) ≡ false
-unfolding crossesBy piece
+unfolding piece
 incr-inside x y j h =
-    none-below (beats (piece x j)) (λ k. beatOutside (piece x j .start) (bytes x) (beatAddress (piece x j) k))
+    let l : Legal x = y .legal in
+    all-inside (piece x j .start) (x .size) (omega (arith, size-small x l)) (x .kind) (beats (piece x j))
     (λ k b.
-    let counted : beatsMost * j + k < beats x = omega (arith, first-beat x (y .legal) j h, beats-are x (y .legal) j h) in
-    ap (beatOutside (piece x j .start) (bytes x)) (piece-address x (y .legal) j h k)
-    ∙ within (piece x j .start) (beatAddress x (beatsMost * j + k)) (bytes x) (pow-pos (x .size))
-    (λ c from to. one-block x y (beatsMost * j + k) c counted from to ∙ sym (address-block x y (beatsMost * j) (first-beat x (y .legal) j h))))
+    let counted : beatsMost * j + k < beats x = omega (arith, first-beat x l j h, beats-are x l j h) in
+    ap (λ a. a / block) (piece-address x l j h k)
+    ∙ address-block x y (beatsMost * j + k) counted
+    ∙ sym (address-block x y (beatsMost * j) (first-beat x l j h)))
 
 pub piece-accepted : (x : Burst) → Accepted x → (j : ℕ) → j < pieceCount x → Accepted (piece x j)
 piece-accepted x y j h =

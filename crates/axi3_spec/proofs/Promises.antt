@@ -1,39 +1,38 @@
 -- Each statement of specs/Promises, from the laws below it. Assumes nothing.
 use mathlib.Core.Bool.{Bool, true, false, cond}
 use mathlib.Core.List.{List, [], _∷_, _++_, map}
-use mathlib.Core.Logic.{_⊎_, inl, inr, _↔_, _≢_}
+use mathlib.Core.Logic.{_⊎_, inl, inr, _≢_}
 use mathlib.Core.Option.{Option, none, some}
 use mathlib.Core.Path.{_≡_, refl, sym, ap, ap₂, subst, _∙_}
-use Prim.Native.Nat.{ℕ, zero, suc, _+_, _-_, _*_, _/_, _^_, _≤_, _<_}
+use Prim.Native.Nat.{ℕ, suc, _+_, _-_, _*_, _^_, _≤_, _<_}
 use native.Mathlib.Nat.{zero-add, suc-add}
 use native.Mathlib.Omega.{arith}
 use lib.Dec.{ltb}
 use borrow.Author.Tests.{ltb-true, ltb-false}
-use lib.ListN.{length, take, drop, replicate, length-append, length-drop}
+use lib.ListN.{length, take, drop, length-append, length-drop}
 use lib.Seq.{take-append-seam, drop-append-seam}
 use Rattle.refusal.specs.declared.Refusal.{Refusal}
 use Rattle.refusal.specs.declared.Refusal.the-variants.{Room}
 use Rattle.refusal.specs.Checks.{Check, first}
 use Rattle.burst_spec.specs.declared.Burst.{Burst}
-use Rattle.burst_spec.specs.declared.Judgement.{Judgement}
-use Rattle.burst_spec.specs.declared.Judgement.the-variants as judged
-use Rattle.burst_spec.specs.declared.Kind as kind
-use Rattle.burst_spec.specs.declared.Kind.the-variants.{Fixed, Incr, Wrap, Reserved}
-use Rattle.burst_spec.specs.Address.{aligned, incrAddress, beats, bytes, beatAddress}
-use Rattle.burst_spec.specs.Answers.{burstOf, kindOf, judgementFor, judgement}
+use Rattle.burst_spec.specs.declared.Kind.the-variants.{Incr}
+use Rattle.burst_spec.specs.Address.{aligned, incrAddress, beats, bytes}
+use Rattle.burst_spec.specs.Answers.{judgementFor}
 use Rattle.burst_spec.specs.Checks.{checks}
 use Rattle.burst_spec.specs.Legal.{Legal, Accepted}
-use Rattle.burst_spec.proofs.Answers.{accepted-none, accepted-exactly}
+use Rattle.burst_spec.proofs.Answers.{accepted-exactly}
 use Rattle.burst_spec.proofs.Known.{clash, known}
 use Rattle.axi3_spec.specs.declared.CutAnswer.the-variants.{Bursts, Refused}
-use Rattle.axi3_spec.specs.Cut.{beatsMost, pieceCount, pieceBeats, piece, run, pieces, beatsOf, beatsOfAll}
-use Rattle.axi3_spec.specs.Answers.{cutRefusal, cutFor, cutAnswer, cutAfter, rowFor, kindNumber, Cut}
+use Rattle.axi3_spec.specs.Cut.{beatsMost, pieceCount, pieceBeats, piece, run, joined, pieces, beatsOfAll}
+use Rattle.axi3_spec.specs.Answers.{cutRefusal, cutFor, cutAnswer, rowFor, numbersOf, numbersRoom}
 use Rattle.axi3_spec.specs.Promises.{IsAccepted, Every, sixteens, InSixteens, Stands}
 use Rattle.axi3_spec.specs.Promises.{BeatsKept, AllAccepted, CutInSixteens, FitsAxi3, Starts, Unchanged, Itself}
-use Rattle.axi3_spec.specs.Promises.{RefusedAsJudged, RoomExactly, CutExactly, RowStands, RowKept, Described}
+use Rattle.axi3_spec.specs.Promises.{RefusedAsJudged, RoomExactly, CutExactly, RowStands, RowKept}
+use Rattle.axi3_spec.specs.Promises.{readBack, NumbersStand, RowOfNumbersStands, RowOfNumbersKept}
 use Rattle.axi3_spec.proofs.Runs.{run-map, run-length, run-last, run-every, run-constant, run-same}
 use Rattle.axi3_spec.proofs.Pieces.{count-is, count-some, beats-are, beats-kept, first-beat, len-most, piece-itself, piece-accepted, incr-is, few-or-incr}
 use Rattle.axi3_spec.proofs.Answers.{refusal-judged, refusal-room, refusal-none, none-refused, bursts-none, refused-is}
+use Rattle.axi3_spec.proofs.Numbers.{numbers-length, read-back}
 
 accepts : (x : Burst) → IsAccepted x → Accepted x
 accepts x e = accepted-exactly x .0 e
@@ -144,7 +143,7 @@ never-room x =
     never-given (checks x) (λ e. clash cc, (λ e. clash cc, (λ e. clash cc, (λ e. clash cc, (λ e. clash cc, (λ e. clash cc, tt))))))
 
 pub roomExactly : RoomExactly
-roomExactly x room = (there (first (checks x)) refl, λ h. refusal-room x room (h .0) (omega (arith, h .1, count-is x (accepts x (h .0) .legal))))
+roomExactly x room = (λ e. there (first (checks x)) refl (refused-is x room Room (sym e)), back)
   where
     short : IsAccepted x → (t : Bool) → ltb room (pieceCount x) ≡ t → cutRefusal x room ≡ some Room → room < pieceCount x
     short a true f e = ltb-true room (pieceCount x) f
@@ -157,6 +156,11 @@ roomExactly x room = (there (first (checks x)) refl, λ h. refusal-room x room (
     there none f e =
         let a : IsAccepted x = ap judgementFor f in
         (a, omega (arith, short a (ltb room (pieceCount x)) refl e, count-is x (accepts x a .legal)))
+
+    back : IsAccepted x × (room < sixteens (beats x)) → cutAnswer x room ≡ Refused Room
+    back h =
+        let few : room < pieceCount x = omega (arith, h .1, count-is x (accepts x (h .0) .legal)) in
+        ap (λ o. cutFor o (pieceCount x)) (refusal-room x room (h .0) few)
 
 pub cutExactly : CutExactly
 cutExactly x room n = (there, back)
@@ -186,6 +190,7 @@ rowStands x row n after c = stood (bursts-none x (length row) n (c .answers .is)
         ap₂ take (sym many) is ∙ take-append-seam (pieces x) (drop (length (pieces x)) row)
         in
         record {
+          list = front;
           accepted = subst (Every IsAccepted) (sym front) (allAccepted x (f .0));
           kept = ap beatsOfAll front ∙ beatsKept x (f .0);
           beyond = ap₂ drop (sym many) is ∙ drop-append-seam (pieces x) (drop (length (pieces x)) row) ∙ ap (λ k. drop k row) many;
@@ -196,13 +201,25 @@ rowStands x row n after c = stood (bursts-none x (length row) n (c .answers .is)
 pub rowKept : RowKept
 rowKept x row r after c = c .leaves ∙ ap (λ o. rowFor o (pieces x) row) (refused-is x (length row) r (c .answers .is))
 
--- ---- a description
+-- ---- the row of numbers
 
-kind-back : (m : kind.Kind) → kindOf (kindNumber m) ≡ m
-kind-back Fixed = refl
-kind-back Incr = refl
-kind-back Wrap = refl
-kind-back Reserved = refl
+pub rowOfNumbersStands : RowOfNumbersStands
+rowOfNumbersStands x row n after c = stood (bursts-none x (numbersRoom row) n (c .answers .is))
+  where
+    stood : (cutRefusal x (numbersRoom row) ≡ none) × (n ≡ pieceCount x) → NumbersStand x row n after
+    stood h =
+        let f = none-refused x (numbersRoom row) (h .0) in
+        let written : List ℕ = joined (map numbersOf (pieces x)) in
+        let many : length (pieces x) ≡ n = run-length (piece x) 0 (pieceCount x) ∙ sym (h .1) in
+        let wide : length written ≡ 5 * n = numbers-length (pieces x) ∙ ap (λ k. 5 * k) many in
+        let is : after ≡ written ++ drop (length written) row = c .leaves ∙ ap (λ o. rowFor o written row) (h .0) in
+        record {
+          read = ap₂ readBack (sym many) is ∙ read-back (pieces x) (drop (length written) row);
+          beyond = ap₂ drop (sym wide) is ∙ drop-append-seam written (drop (length written) row) ∙ ap (λ k. drop k row) wide;
+          long = ap length is ∙ length-append written (drop (length written) row)
+              ∙ omega (arith, wide, length-drop (length written) row, h .1, f .1);
+        }
 
-pub described : Described
-described x = λ i. record { start = x .start; len = x .len; size = x .size; kind = kind-back (x .kind) i; bus = x .bus }
+pub rowOfNumbersKept : RowOfNumbersKept
+rowOfNumbersKept x row r after c =
+    c .leaves ∙ ap (λ o. rowFor o (joined (map numbersOf (pieces x))) row) (refused-is x (numbersRoom row) r (c .answers .is))

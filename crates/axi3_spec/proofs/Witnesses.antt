@@ -1,24 +1,23 @@
 -- Each statement with a premise, applied to a worked cut: so the premises can be met. Assumes nothing.
-use mathlib.Core.List.{List, [], _∷_, _++_}
+use mathlib.Core.List.{List, [], _∷_}
 use mathlib.Core.Logic.{inl, inr}
 use mathlib.Core.Path.{_≡_, refl}
-use Prim.Native.Nat.{ℕ, _+_, _/_, _≤_}
+use Prim.Native.Nat.{ℕ, _+_}
 use native.Mathlib.Omega.{arith}
-use lib.ListN.{length, drop}
+use lib.ListN.{drop}
 use Rattle.refusal.specs.declared.Refusal.the-variants.{Room, Boundary}
 use Rattle.burst_spec.specs.declared.Beat.{Beat}
 use Rattle.burst_spec.specs.declared.Burst.{Burst}
-use Rattle.burst_spec.specs.declared.Kind.the-variants.{Incr}
 use Rattle.burst_spec.specs.Address.{roundDown, incrAddress, wrapAddress, addressBy}
 use Rattle.burst_spec.specs.Checks.{someBelow, busAllowed, countAllowed, misaligned, crossesBy}
 use Rattle.burst_spec.specs.Answers.{burstOf}
 use Rattle.burst_spec.proofs.Known.{clash}
 use Rattle.axi3_spec.specs.declared.CutAnswer.the-variants.{Bursts, Refused}
-use Rattle.axi3_spec.specs.Cut.{countBy, piece, run, joined, pieces, beatsOf, beatsOfAll}
-use Rattle.axi3_spec.specs.Answers.{cutAnswer, cutAfter, Cut}
-use Rattle.axi3_spec.specs.Promises.{IsAccepted}
+use Rattle.axi3_spec.specs.Cut.{countBy, piece, run, joined, pieces, beatsOfAll}
+use Rattle.axi3_spec.specs.Answers.{cutAnswer, Cut, CutNumbers}
+use Rattle.axi3_spec.specs.Promises.{IsAccepted, InSixteens, readBack}
 use Rattle.axi3_spec.proofs.Answers.{answered}
-use Rattle.axi3_spec.proofs.Promises.{beatsKept, allAccepted, cutInSixteens, starts, itself, refusedAsJudged, rowStands, rowKept}
+use Rattle.axi3_spec.proofs.Promises.{beatsKept, allAccepted, cutInSixteens, starts, itself, refusedAsJudged, rowStands, rowKept, rowOfNumbersStands, rowOfNumbersKept}
 
 -- 17 beats from an unaligned start, and the two bursts that they are cut into
 abbrev long : Burst
@@ -49,9 +48,9 @@ pub accepted : IsAccepted first × IsAccepted second
 unfolding roundDown incrAddress addressBy countBy piece run
 accepted = let h = allAccepted long long-accepted in (h .0, h .1 .0)
 
-pub sixteens : length (first ∷ second ∷ []) ≡ 2
-unfolding incrAddress addressBy countBy piece run
-sixteens = cutInSixteens long long-accepted .number
+pub sixteens : InSixteens 17 (first ∷ second ∷ [])
+unfolding roundDown incrAddress addressBy countBy piece run
+sixteens = cutInSixteens long long-accepted
 
 pub begins : 0x1002 ∷ 0x1040 ∷ [] ≡ 0x1002 ∷ (0x1000 + 0x40) ∷ []
 unfolding roundDown incrAddress addressBy countBy piece run
@@ -77,12 +76,12 @@ unfolding roundDown incrAddress addressBy someBelow busAllowed countAllowed misa
 refused = refusedAsJudged (burstOf 0xFFC 16 2 1 4) 0 Boundary refl
 
 -- the contract of the call, met: into a row of three, and into one of one
-cut-long : Cut long (wrapping ∷ wrapping ∷ wrapping ∷ []) (Bursts 2) (first ∷ second ∷ wrapping ∷ [])
+cut-long : Cut long (wrapping ∷ long ∷ first ∷ []) (Bursts 2) (first ∷ second ∷ first ∷ [])
 unfolding roundDown incrAddress addressBy someBelow busAllowed countAllowed misaligned crossesBy countBy piece run
 cut-long = record { answers = answered long 3 (Bursts 2) refl; leaves = refl }
 
-pub beyond : wrapping ∷ [] ≡ wrapping ∷ []
-beyond = rowStands long (wrapping ∷ wrapping ∷ wrapping ∷ []) 2 (first ∷ second ∷ wrapping ∷ []) cut-long .beyond
+pub beyond : drop 2 (first ∷ second ∷ first ∷ []) ≡ drop 2 (wrapping ∷ long ∷ first ∷ [])
+beyond = rowStands long (wrapping ∷ long ∷ first ∷ []) 2 (first ∷ second ∷ first ∷ []) cut-long .beyond
 
 cut-none : Cut long (wrapping ∷ []) (Refused Room) (wrapping ∷ [])
 unfolding roundDown incrAddress addressBy someBelow busAllowed countAllowed misaligned crossesBy countBy piece run
@@ -90,3 +89,21 @@ cut-none = record { answers = answered long 1 (Refused Room) refl; leaves = refl
 
 pub untouched : wrapping ∷ [] ≡ wrapping ∷ []
 untouched = rowKept long (wrapping ∷ []) Room (wrapping ∷ []) cut-none
+
+-- the same of rows of numbers: eleven, and four
+numbers-long : CutNumbers long (1 ∷ 2 ∷ 3 ∷ 4 ∷ 5 ∷ 6 ∷ 7 ∷ 8 ∷ 9 ∷ 10 ∷ 11 ∷ []) (Bursts 2) (0x1002 ∷ 15 ∷ 2 ∷ 1 ∷ 4 ∷ 0x1040 ∷ 0 ∷ 2 ∷ 1 ∷ 4 ∷ 11 ∷ [])
+unfolding roundDown incrAddress addressBy someBelow busAllowed countAllowed misaligned crossesBy countBy piece run joined
+numbers-long = record { answers = answered long 2 (Bursts 2) refl; leaves = refl }
+
+pub numbers-read : readBack 2 (0x1002 ∷ 15 ∷ 2 ∷ 1 ∷ 4 ∷ 0x1040 ∷ 0 ∷ 2 ∷ 1 ∷ 4 ∷ 11 ∷ []) ≡ first ∷ second ∷ []
+unfolding roundDown incrAddress addressBy countBy piece run
+numbers-read =
+    rowOfNumbersStands long (1 ∷ 2 ∷ 3 ∷ 4 ∷ 5 ∷ 6 ∷ 7 ∷ 8 ∷ 9 ∷ 10 ∷ 11 ∷ []) 2
+    (0x1002 ∷ 15 ∷ 2 ∷ 1 ∷ 4 ∷ 0x1040 ∷ 0 ∷ 2 ∷ 1 ∷ 4 ∷ 11 ∷ []) numbers-long .read
+
+numbers-none : CutNumbers wrapping (1 ∷ 2 ∷ 3 ∷ 4 ∷ []) (Refused Room) (1 ∷ 2 ∷ 3 ∷ 4 ∷ [])
+unfolding roundDown wrapAddress addressBy someBelow busAllowed countAllowed misaligned crossesBy countBy piece run joined
+numbers-none = record { answers = answered wrapping 0 (Refused Room) refl; leaves = refl }
+
+pub numbers-untouched : _≡_ {A = List ℕ} (1 ∷ 2 ∷ 3 ∷ 4 ∷ []) (1 ∷ 2 ∷ 3 ∷ 4 ∷ [])
+numbers-untouched = rowOfNumbersKept wrapping (1 ∷ 2 ∷ 3 ∷ 4 ∷ []) Room (1 ∷ 2 ∷ 3 ∷ 4 ∷ []) numbers-none

@@ -1,33 +1,56 @@
 -- Worked cuts: at each bound of the beats and of the row, from unaligned starts, at the top of memory, and refused at each
--- number. One statement covers each list (proofs/Cases). Each entry has an id (W01 and on) by which docs/PROMISES.md may cite
+-- number. One statement covers the whole list (proofs/Cases). Each entry has an id (W01 and on) by which docs/PROMISES.md may cite
 -- it: a new one takes the next free id, and none is given twice. All are worked by hand from the request (paper 02, T-02); of
 -- the definitions only `burstOf` is used here.
-use mathlib.Core.List.{List, [], _∷_}
+use mathlib.Core.List.{List, [], _∷_, _++_}
 use Prim.Native.Nat.{ℕ}
 use lib.ListN.{length}
 use Rattle.burst_spec.specs.declared.Burst.{Burst}
 use Rattle.burst_spec.specs.Answers.{burstOf}
-use Rattle.axi3_spec.specs.Answers.{Values, cutValues, cutAnswer, cutAfter, numbersRoom, numbersAfter}
+use Rattle.axi3_spec.specs.Answers.{Values, cutValues, cutAnswer, cutAfter, rowAfter, numbersRoom, numbersAfter}
 
 -- the numbers as they are typed here; no refusal of a cut has a place or a rule
 abbrev typed : ℕ → ℕ → Values
 typed refusal count = record { refusal = refusal; place = 0; rule = 0; count = count }
 
--- ---- rows of bursts
+-- what is asked: a cut into this lent row of bursts, into a row of its own of at most so many, into this lent row of numbers
+pub data Row : Type 0 where
+  ofBursts : List Burst → Row
+  own : ℕ → Row
+  ofNumbers : List ℕ → Row
 
+-- the numbers answered, and the row of bursts or of numbers afterwards
 pub record Case : Type 0 where
   pub burst : Burst
-  pub row : List Burst
+  pub row : Row
   pub told : Values
-  pub after : List Burst
+  pub bursts : List Burst
+  pub numbers : List ℕ
+
+-- how many descriptions there is room for, and what the definitions leave
+abbrev pub roomOf : Row → ℕ
+roomOf (ofBursts row) = length row
+roomOf (own room) = room
+roomOf (ofNumbers row) = numbersRoom row
+
+abbrev pub burstsAfter : Burst → Row → List Burst
+burstsAfter x (ofBursts row) = cutAfter x row
+burstsAfter x (own room) = rowAfter x room
+burstsAfter x (ofNumbers row) = []
+
+abbrev pub numbersLeft : Burst → Row → List ℕ
+numbersLeft x (ofBursts row) = []
+numbersLeft x (own room) = []
+numbersLeft x (ofNumbers row) = numbersAfter x row
 
 abbrev pub computed : Case → Case
 computed c =
     record {
       burst = c .burst;
       row = c .row;
-      told = cutValues (cutAnswer (c .burst) (length (c .row)));
-      after = cutAfter (c .burst) (c .row);
+      told = cutValues (cutAnswer (c .burst) (roomOf (c .row)));
+      bursts = burstsAfter (c .burst) (c .row);
+      numbers = numbersLeft (c .burst) (c .row);
     }
 
 -- what stood in a row before: descriptions of no burst that is allowed
@@ -49,10 +72,10 @@ sixteen = a ∷ fifteen
 
 module _ (x : Burst) (row : List Burst) where
   abbrev refuses : ℕ → Case
-  refuses number = record { burst = x; row = row; told = typed number 0; after = row }
+  refuses number = record { burst = x; row = ofBursts row; told = typed number 0; bursts = row; numbers = [] }
 
   abbrev cutsInto : ℕ → List Burst → Case
-  cutsInto count after = record { burst = x; row = row; told = typed 0 count; after = after }
+  cutsInto count after = record { burst = x; row = ofBursts row; told = typed 0 count; bursts = after; numbers = [] }
 
 -- A burst is typed as start address, AxLEN, AxSIZE, kind number, bus. Cuts of INCR bursts, by their beats.
 abbrev pub cuts : List Case
@@ -121,7 +144,7 @@ refusals =
     -- W19: 8 before ROOM
     ∷ refuses (burstOf 0 16 3 1 4) (a ∷ []) 8
     -- W20: 9 before ROOM
-    ∷ refuses (burstOf 0 16 0 3 1) (a ∷ []) 9
+    ∷ refuses (burstOf 0 16 0 3 1) [] 9
     -- W21: 10 before ROOM: 257 beats
     ∷ refuses (burstOf 0 256 0 1 1) sixteen 10
     -- W22: 10: FIXED of 17 beats is not cut
@@ -130,55 +153,73 @@ refusals =
     ∷ refuses (burstOf 0x32 3 2 2 4) [] 11
     -- W24: 12 before ROOM
     ∷ refuses (burstOf 0x1010 255 4 1 16) fifteen 12
-    -- W25: 12: though each burst of 16 beats by itself would be allowed
-    ∷ refuses (burstOf 0x1010 255 4 1 16) sixteen 12
+    -- W25: 12: though its two bursts of 16 beats, from 0x1F00 and from 0x2000, would each be allowed
+    ∷ refuses (burstOf 0x1F00 31 4 1 16) sixteen 12
     ∷ []
 
--- ---- rows of numbers, five to a description
+-- A row of its own, 16 descriptions: what is not used of it is blank. And rows of numbers, five to a description.
+abbrev o : Burst
+o = burstOf 0 0 0 0 0
 
-pub record NumbersCase : Type 0 where
-  pub burst : Burst
-  pub row : List ℕ
-  pub told : Values
-  pub after : List ℕ
-
-abbrev pub computedNumbers : NumbersCase → NumbersCase
-computedNumbers c =
-    record {
-      burst = c .burst;
-      row = c .row;
-      told = cutValues (cutAnswer (c .burst) (numbersRoom (c .row)));
-      after = numbersAfter (c .burst) (c .row);
-    }
-
-abbrev pub numbers : List NumbersCase
-numbers =
-    -- W26: W01 into 14 numbers: the rest of four is no room, and is not touched
+abbrev pub otherRows : List Case
+otherRows =
+    -- W26: W01 into a row of its own, of two
     record {
       burst = burstOf 0x1002 16 2 1 4;
-      row = 61 ∷ 62 ∷ 63 ∷ 64 ∷ 65 ∷ 66 ∷ 67 ∷ 68 ∷ 69 ∷ 70 ∷ 71 ∷ 72 ∷ 73 ∷ 74 ∷ [];
+      row = own 2;
       told = typed 0 2;
-      after = 0x1002 ∷ 15 ∷ 2 ∷ 1 ∷ 4 ∷ 0x1040 ∷ 0 ∷ 2 ∷ 1 ∷ 4 ∷ 71 ∷ 72 ∷ 73 ∷ 74 ∷ [];
+      bursts = burstOf 0x1002 15 2 1 4 ∷ burstOf 0x1040 0 2 1 4 ∷ o ∷ o ∷ o ∷ o ∷ o ∷ o ∷ o ∷ o ∷ o ∷ o ∷ o ∷ o ∷ o ∷ o ∷ [];
+      numbers = [];
     }
-    -- W27: into nine numbers: ROOM
+    -- W27: of one: ROOM
     ∷ record {
       burst = burstOf 0x1002 16 2 1 4;
-      row = 61 ∷ 62 ∷ 63 ∷ 64 ∷ 65 ∷ 66 ∷ 67 ∷ 68 ∷ 69 ∷ [];
+      row = own 1;
       told = typed 5 0;
-      after = 61 ∷ 62 ∷ 63 ∷ 64 ∷ 65 ∷ 66 ∷ 67 ∷ 68 ∷ 69 ∷ [];
+      bursts = o ∷ o ∷ o ∷ o ∷ o ∷ o ∷ o ∷ o ∷ o ∷ o ∷ o ∷ o ∷ o ∷ o ∷ o ∷ o ∷ [];
+      numbers = [];
     }
-    -- W28: a WRAP, AxBURST 2, into just five numbers
+    -- W28: W01 into 14 numbers: the rest of four is no room, and is not touched
+    ∷ record {
+      burst = burstOf 0x1002 16 2 1 4;
+      row = ofNumbers (61 ∷ 62 ∷ 63 ∷ 64 ∷ 65 ∷ 66 ∷ 67 ∷ 68 ∷ 69 ∷ 70 ∷ 71 ∷ 72 ∷ 73 ∷ 74 ∷ []);
+      told = typed 0 2;
+      bursts = [];
+      numbers = 0x1002 ∷ 15 ∷ 2 ∷ 1 ∷ 4 ∷ 0x1040 ∷ 0 ∷ 2 ∷ 1 ∷ 4 ∷ 71 ∷ 72 ∷ 73 ∷ 74 ∷ [];
+    }
+    -- W29: into nine numbers: ROOM
+    ∷ record {
+      burst = burstOf 0x1002 16 2 1 4;
+      row = ofNumbers (61 ∷ 62 ∷ 63 ∷ 64 ∷ 65 ∷ 66 ∷ 67 ∷ 68 ∷ 69 ∷ []);
+      told = typed 5 0;
+      bursts = [];
+      numbers = 61 ∷ 62 ∷ 63 ∷ 64 ∷ 65 ∷ 66 ∷ 67 ∷ 68 ∷ 69 ∷ [];
+    }
+    -- W30: a WRAP, AxBURST 2, into just five numbers
     ∷ record {
       burst = burstOf 0x34 15 2 2 8;
-      row = 61 ∷ 62 ∷ 63 ∷ 64 ∷ 65 ∷ [];
+      row = ofNumbers (61 ∷ 62 ∷ 63 ∷ 64 ∷ 65 ∷ []);
       told = typed 0 1;
-      after = 0x34 ∷ 15 ∷ 2 ∷ 2 ∷ 8 ∷ [];
+      bursts = [];
+      numbers = 0x34 ∷ 15 ∷ 2 ∷ 2 ∷ 8 ∷ [];
     }
-    -- W29: a FIXED, AxBURST 0, into four: ROOM
+    -- W31: a FIXED, AxBURST 0, into seven: the rest of two is not touched
     ∷ record {
-      burst = burstOf 5 0 0 0 1;
-      row = 61 ∷ 62 ∷ 63 ∷ 64 ∷ [];
+      burst = burstOf 5 3 0 0 1;
+      row = ofNumbers (61 ∷ 62 ∷ 63 ∷ 64 ∷ 65 ∷ 66 ∷ 67 ∷ []);
+      told = typed 0 1;
+      bursts = [];
+      numbers = 5 ∷ 3 ∷ 0 ∷ 0 ∷ 1 ∷ 66 ∷ 67 ∷ [];
+    }
+    -- W32: and into four: ROOM
+    ∷ record {
+      burst = burstOf 5 3 0 0 1;
+      row = ofNumbers (61 ∷ 62 ∷ 63 ∷ 64 ∷ []);
       told = typed 5 0;
-      after = 61 ∷ 62 ∷ 63 ∷ 64 ∷ [];
+      bursts = [];
+      numbers = 61 ∷ 62 ∷ 63 ∷ 64 ∷ [];
     }
     ∷ []
+
+abbrev pub cutCases : List Case
+cutCases = cuts ++ (longest ++ (others ++ (refusals ++ otherRows)))

@@ -12,8 +12,8 @@ use Rattle.burst_spec.specs.Address.{beats, beatAddress, beatOf}
 abbrev pub beatsMost : ℕ
 beatsMost = 16
 
--- How many bursts an INCR of n beats is cut into: n/16, rounded up. "every FIXED or WRAP comes out as itself"; a burst of the
--- reserved kind is refused before its line here is read.
+-- How many bursts an INCR of n beats is cut into: n/16, rounded up. ".. and every FIXED or WRAP, comes out as itself"; a burst
+-- of the reserved kind is refused before its line here is read.
 unfoldable pub countBy : Kind → ℕ → ℕ
 countBy Fixed n = 1
 countBy Incr n = (n + (beatsMost - 1)) / beatsMost

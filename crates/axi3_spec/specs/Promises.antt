@@ -2,10 +2,9 @@
 -- more, which pins the named ones. The proofs are in proofs/Promises.
 use mathlib.Core.List.{List, [], _∷_, _++_, map}
 use mathlib.Core.Logic.{_⊎_, _↔_, _≢_}
-use mathlib.Core.Option.{some}
 use mathlib.Core.Path.{_≡_}
-use Prim.Native.Nat.{ℕ, _+_, _-_, _*_, _/_, _^_, _≤_, _<_}
-use lib.ListN.{length, take, drop, replicate}
+use Prim.Native.Nat.{ℕ, zero, suc, _+_, _-_, _*_, _/_, _^_, _≤_, _<_}
+use lib.ListN.{length, take, drop, getD, replicate}
 use Rattle.refusal.specs.declared.Refusal.{Refusal}
 use Rattle.refusal.specs.declared.Refusal.the-variants.{Room}
 use Rattle.burst_spec.specs.declared.Burst.{Burst}
@@ -13,10 +12,9 @@ use Rattle.burst_spec.specs.declared.Judgement.the-variants as judged
 use Rattle.burst_spec.specs.declared.Kind.the-variants.{Incr}
 use Rattle.burst_spec.specs.Address.{beats, bytes, aligned}
 use Rattle.burst_spec.specs.Answers.{burstOf, judgement}
-use Rattle.axi3_spec.specs.declared.CutAnswer.{CutAnswer}
 use Rattle.axi3_spec.specs.declared.CutAnswer.the-variants.{Bursts, Refused}
 use Rattle.axi3_spec.specs.Cut.{run, pieces, beatsOf, beatsOfAll}
-use Rattle.axi3_spec.specs.Answers.{cutRefusal, cutAnswer, kindNumber, Cut}
+use Rattle.axi3_spec.specs.Answers.{cutAnswer, Cut, CutNumbers}
 
 -- a burst that none of 7 to 12 refuses
 abbrev pub IsAccepted : Burst → Type 0
@@ -80,7 +78,7 @@ RefusedAsJudged = (x : Burst) (room : ℕ) (r : Refusal) → judgement x ≡ jud
 
 -- "then ROOM when the row is too short"
 abbrev pub RoomExactly : Type 0
-RoomExactly = (x : Burst) (room : ℕ) → (cutRefusal x room ≡ some Room) ↔ (IsAccepted x × (room < sixteens (beats x)))
+RoomExactly = (x : Burst) (room : ℕ) → (cutAnswer x room ≡ Refused Room) ↔ (IsAccepted x × (room < sixteens (beats x)))
 
 -- "The answer is the number used"
 abbrev pub CutExactly : Type 0
@@ -88,9 +86,10 @@ CutExactly = (x : Burst) (room n : ℕ) → (cutAnswer x room ≡ Bursts n) ↔ 
 
 -- ---- the row
 
--- what stands in the lent row after a cut into n bursts: they are accepted, their beats are the old ones, and "descriptions
--- beyond are untouched"
+-- what stands in the lent row after a cut into n bursts: the list, so that all that is said of it holds there, and that they are
+-- accepted and their beats the old ones is said once more; and "descriptions beyond are untouched"
 pub record Stands (x : Burst) (row : List Burst) (n : ℕ) (after : List Burst) : Type 0 where
+  pub list : take n after ≡ pieces x
   pub accepted : Every IsAccepted (take n after)
   pub kept : beatsOfAll (take n after) ≡ beatsOf x
   pub beyond : drop n after ≡ drop n row
@@ -103,6 +102,22 @@ RowStands = (x : Burst) (row : List Burst) (n : ℕ) (after : List Burst) → Cu
 abbrev pub RowKept : Type 0
 RowKept = (x : Burst) (row : List Burst) (r : Refusal) (after : List Burst) → Cut x row (Refused r) after → after ≡ row
 
--- five numbers say all of a description
-abbrev pub Described : Type 0
-Described = (x : Burst) → burstOf (x .start) (x .len) (x .size) (kindNumber (x .kind)) (x .bus) ≡ x
+-- ---- the row of numbers
+
+-- the first n descriptions of a row of numbers, read back: five numbers each
+unfoldable pub readBack : ℕ → List ℕ → List Burst
+readBack zero row = []
+readBack (suc n) row = burstOf (getD row 0 0) (getD row 1 0) (getD row 2 0) (getD row 3 0) (getD row 4 0) ∷ readBack n (drop 5 row)
+
+-- what stands in a lent row of numbers after a cut into n bursts: these bursts, so that all that is said of the list holds of
+-- them, and every number beyond as it was
+pub record NumbersStand (x : Burst) (row : List ℕ) (n : ℕ) (after : List ℕ) : Type 0 where
+  pub read : readBack n after ≡ pieces x
+  pub beyond : drop (5 * n) after ≡ drop (5 * n) row
+  pub long : length after ≡ length row
+
+abbrev pub RowOfNumbersStands : Type 0
+RowOfNumbersStands = (x : Burst) (row : List ℕ) (n : ℕ) (after : List ℕ) → CutNumbers x row (Bursts n) after → NumbersStand x row n after
+
+abbrev pub RowOfNumbersKept : Type 0
+RowOfNumbersKept = (x : Burst) (row : List ℕ) (r : Refusal) (after : List ℕ) → CutNumbers x row (Refused r) after → after ≡ row

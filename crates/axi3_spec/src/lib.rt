@@ -9,7 +9,7 @@ pub enum CutAnswer {
     Refused(Refusal),
 }
 
-// A cut with a row of its own: the answer, and 16 descriptions, as many as a cut can need.
+// A cut with a row of its own: the answer, and 16 descriptions, as many as a cut can need. Those that it does not use are blank.
 pub struct CutRow {
     pub answer: CutAnswer,
     pub bursts: [Burst; 16],

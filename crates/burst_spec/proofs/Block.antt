@@ -47,7 +47,7 @@ module _ (s i : ℕ) (small : i ≤ blockBits) where
           (omega (arith, pow-pos i, round-near a (2 ^ i) (pow-pos i)))
 
   -- no beat is outside if each beat's address is in the block
-  all-inside : (m : Kind) (n : ℕ) → ((k : ℕ) → k < n → addressBy m s (2 ^ i) n k / block ≡ s / block) → crossesBy m s (2 ^ i) n ≡ false
+  pub all-inside : (m : Kind) (n : ℕ) → ((k : ℕ) → k < n → addressBy m s (2 ^ i) n k / block ≡ s / block) → crossesBy m s (2 ^ i) n ≡ false
   unfolding crossesBy
   all-inside m n h = none-below n (λ k. beatOutside s (2 ^ i) (addressBy m s (2 ^ i) n k)) (λ k l. beat-inside (addressBy m s (2 ^ i) n k) (h k l))
 

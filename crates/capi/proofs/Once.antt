@@ -1,6 +1,6 @@
 -- The contracts of the C calls leave no choice: two answers that meet one of them on the same arguments are equal in each
--- number, and so is the memory lent to a report; that lent to a cut or a stream call is an equation in the contract itself. A field
--- that says nothing breaks one of these proofs. Assumes nothing.
+-- number, and so is the memory lent to a report; that lent to a cut or a stream call is an equation in the contract itself. A
+-- field that says nothing breaks one of these proofs. Assumes nothing.
 use mathlib.Core.Path.{_≡_}
 use mathlib.Core.List.{List}
 use Prim.Native.Nat.{ℕ}

@@ -21,7 +21,7 @@ pub record ShowsBurst (a : BurstAnswer) (values : burst.Values) : Type 0 where
   pub step : a .step ≡ values .step
   pub address : a .address ≡ values .address
 
--- nor have those of a cut
+-- The place and the rule of a cut's refusals are always 0 too.
 pub record ShowsCut (a : CutAnswer) (values : axi3.Values) : Type 0 where
   pub refusal : a .refusal ≡ values .refusal
   pub count : a .count ≡ values .count

@@ -23,6 +23,7 @@ fn refused(r: Refusal) -> CutAnswer
     }
 }
 
+// The numbers of a cut's answer.
 fn of_cut(answer: axi3_spec::CutAnswer) -> CutAnswer
     ensures { λ a. ⌜ ShowsCut a (cutValues answer) ⌝ }
 {

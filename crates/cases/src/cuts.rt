@@ -1,4 +1,5 @@
-// Long bursts cut for AXI3 boards (T-02): the number of bursts, then each one's start address and beats; or the refusal.
+// Long bursts cut for AXI3 boards (T-02): the number of bursts, then of each its start address, a plus and its AxLEN (beats less
+// one); or the refusal.
 use crate::bursts::number;
 use crate::bursts::refused;
 use axi3_spec::CutAnswer;
@@ -39,6 +40,7 @@ fn cut(name: &[u8], b: Burst, room: usize) {
 // By the number of beats, from unaligned starts; rows of just so many and one less.
 pub fn incr() {
     cut(b"CUT", burst::burst_of(0x1002, 0, 2, 1, 4), 1);
+    cut(b"CUT", burst::burst_of(0x1002, 14, 2, 1, 4), 1);
     cut(b"CUT", burst::burst_of(0x1002, 15, 2, 1, 4), 1);
     cut(b"CUT", burst::burst_of(0x1002, 16, 2, 1, 4), 2);
     cut(b"CUT", burst::burst_of(0x1002, 16, 2, 1, 4), 1);

@@ -1,6 +1,6 @@
 // The refusals of paper 01's table 'Refusal numbers', and the numbers that each one shows to a user.
 // Every call of the library that can refuse answers with this enum inside its own answer. Which call gives which
-// refusal, and in which order, is not here: it stands in the definitions of the calls (stream_spec, burst_spec, report_setup_spec, report_spec).
+// refusal, and in which order, is not here: it stands in the definitions of the calls (stream_spec, burst_spec, axi3_spec, report_setup_spec, report_spec).
 ghost use mathlib.Core.Path.{_≡_};
 ghost use Rattle.refusal.specs.Code.{codeOf};
 

@@ -1,7 +1,7 @@
 -- `axi3::beat_address` meets its contract: a beat that an accepted burst has is answered, so the other arm is never reached.
 -- Assumes nothing.
 use borrow.Author.Needs.{needs}
-use mathlib.Core.Path.{_≡_, sym, ap, _∙_}
+use mathlib.Core.Path.{sym, ap, _∙_}
 use Rattle.burst_spec.specs.declared.Beat.{Beat}
 use Rattle.burst_spec.proofs.Answers.{present-is, present-never}
 use Rattle.axi3.proofs.beat_address.Statement.{statement}

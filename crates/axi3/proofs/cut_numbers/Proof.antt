@@ -1,7 +1,7 @@
 -- `axi3::cut_numbers` meets its contract: what a cut with a row of its own used of it is laid into the lent row, five numbers a
 -- description. Assumes nothing.
 use borrow.Author.Needs.{needs}
-use mathlib.Core.Path.{_≡_, refl, ap, subst, _∙_}
+use mathlib.Core.Path.{_≡_, refl, ap, _∙_}
 use Prim.Native.Nat.{ℕ, _*_, _/_, _≤_}
 use native.Mathlib.Omega.{arith}
 use lib.ListN.{length}

@@ -1,9 +1,8 @@
 -- `axi3::cut_row` meets its contract: a row of 16 is room for every cut, so what was asked for decides. Assumes nothing.
 use borrow.Author.Needs.{needs}
-use mathlib.Core.Path.{_≡_, refl, subst}
-use Prim.Native.Nat.{ℕ, _≤_, _<_}
-use Rattle.axi3_spec.specs.Answers.{blankRow}
-use Rattle.axi3.specs.Rows.{CutLent}
+use mathlib.Core.Path.{refl, subst}
+use Prim.Native.Nat.{_≤_, _<_}
+use Rattle.axi3_spec.specs.Answers.{blankRow, Cut}
 use Rattle.axi3.proofs.Alone.{too-short, long-enough}
 use Rattle.axi3.proofs.cut_row.Statement.{statement}
 use Rattle.axi3.proofs.cut_row.Tie as tie
@@ -21,8 +20,10 @@ blank-row-requires-2 : tie.Need-blank-row-requires-2
 blank-row-requires-2 c κs = search needs
 
 -- the cut into a blank row
-lent : (c : tie.After-cut-into) → CutLent (c .before .before .args .b) blankRow (c .cut-into .result)
-lent c = subst (λ row. CutLent (c .before .before .args .b) row (c .cut-into .result)) (c .before .blank-row .ensures) (c .cut-into .ensures)
+lent : (c : tie.After-cut-into) → Cut (c .before .before .args .b) blankRow (c .cut-into .result .answer) (c .cut-into .result .bursts)
+lent c =
+    subst (λ row. Cut (c .before .before .args .b) row (c .cut-into .result .answer) (c .cut-into .result .bursts)) (c .before .blank-row .ensures)
+    (c .cut-into .ensures)
 
 returns : tie.Need-returns
 returns c =

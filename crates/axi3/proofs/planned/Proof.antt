@@ -1,8 +1,8 @@
 -- `axi3::planned` meets its contract: what judging refuses keeps its refusal, and of an accepted burst the room decides.
 -- Assumes nothing.
 use borrow.Author.Needs.{needs}
-use mathlib.Core.Path.{_≡_, sym, subst, _∙_}
-use Prim.Native.Nat.{ℕ, _<_}
+use mathlib.Core.Path.{sym, subst, _∙_}
+use Prim.Native.Nat.{_<_}
 use Rattle.burst_spec.proofs.Answers.{accepted-exactly}
 use Rattle.axi3_spec.specs.Promises.{IsAccepted}
 use Rattle.axi3_spec.proofs.Answers.{answer-judged, answer-room, answer-bursts}

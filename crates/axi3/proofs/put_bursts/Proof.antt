@@ -7,7 +7,7 @@ use native.Mathlib.Omega.{arith}
 use lib.ListN.{length, getD}
 use Rattle.burst_spec.specs.declared.Burst.{Burst}
 use Rattle.axi3_spec.specs.Answers.{rowLength, numbersEach}
-use Rattle.axi3.specs.Rows.{described, laid}
+use Rattle.axi3.specs.Rows.{withBurst, laid}
 use Rattle.axi3.proofs.Numbers.{laid-none, laid-next, laid-length}
 use Rattle.axi3.proofs.put_bursts.Statement.{statement}
 use Rattle.axi3.proofs.put_bursts.Tie as tie
@@ -20,10 +20,10 @@ abbrev μ-loop : tie.MeasureT-loop
 
 -- after one more turn
 written : (ys : List Burst) (before row after : List ℕ) (j n : ℕ) (d : Burst) → (length ys ≡ rowLength) × (n ≤ rowLength) × (numbersEach * n ≤ length before) → j < n
-    → row ≡ laid ys j before → after ≡ described (numbersEach * j) (getD ys j d) row
+    → row ≡ laid ys j before → after ≡ withBurst (numbersEach * j) (getD ys j d) row
     → (after ≡ laid ys (j + 1) before) × (length after ≡ length before) × (j + 1 ≤ n)
 written ys before row after j n d h l e f =
-    let is : after ≡ laid ys (j + 1) before = f ∙ ap (described (numbersEach * j) (getD ys j d)) e ∙ laid-next ys before j d (omega (arith, h)) in
+    let is : after ≡ laid ys (j + 1) before = f ∙ ap (withBurst (numbersEach * j) (getD ys j d)) e ∙ laid-next ys before j d (omega (arith, h)) in
     (is, ap length is ∙ laid-length ys before (j + 1) (omega (arith, h)) (omega (arith, h)), omega arith)
 
 loop-holds : tie.Need-loop-holds Inv-loop μ-loop
