@@ -3,6 +3,7 @@
 // bursts; whoever calls it needs a proof by hand, so all others call `cut_row` or `cut_numbers`, which stand above it.
 use axi3_spec::CutAnswer;
 use axi3_spec::CutRow;
+use axi3_spec::ROW_LENGTH;
 use burst_spec::Address;
 use burst_spec::BeatAnswer;
 use burst_spec::Burst;
@@ -67,7 +68,7 @@ pub fn cut_numbers(b: Burst, row: &mut [u64]) -> CutAnswer
 }
 
 // The cut into a row by value, which is lent to `cut` and comes back.
-fn cut_into(b: Burst, row: [Burst; 16]) -> CutRow
+fn cut_into(b: Burst, row: [Burst; ROW_LENGTH]) -> CutRow
     ensures { λ r. ⌜ Cut b row (r .answer) (r .bursts) ⌝ }
 {
     let mut bursts = row;
@@ -147,7 +148,7 @@ fn at_most(most: u32, x: u32) -> u32
 }
 
 // A row of descriptions that say nothing. 16 are room for every cut.
-fn blank_row() -> [Burst; 16]
+fn blank_row() -> [Burst; ROW_LENGTH]
     ensures { λ r. ⌜ r ≡ blankRow ⌝ }
 {
     let blank = Burst {
@@ -157,7 +158,7 @@ fn blank_row() -> [Burst; 16]
         kind: Kind::Fixed,
         bus: 0,
     };
-    [blank; 16]
+    [blank; ROW_LENGTH]
 }
 
 // AxBURST of a kind.
@@ -186,7 +187,7 @@ fn put_burst(row: &mut [u64], at: usize, b: Burst)
 }
 
 // Writes the first n descriptions.
-fn put_bursts(bursts: [Burst; 16], n: usize, row: &mut [u64])
+fn put_bursts(bursts: [Burst; ROW_LENGTH], n: usize, row: &mut [u64])
     requires { ⌜ (length bursts ≡ rowLength) × (n ≤ rowLength) × (numbersEach * n ≤ length (now row)) ⌝ }
     ensures { λ _. ⌜ now (row .exit) ≡ laid bursts n (now (row .entry)) ⌝ }
 {

@@ -3,6 +3,7 @@
 use crate::bursts::number;
 use crate::bursts::refused;
 use axi3_spec::CutAnswer;
+use axi3_spec::ROW_LENGTH;
 use burst_spec::Burst;
 
 // One burst of the list.
@@ -13,8 +14,8 @@ fn show(b: Burst) {
 }
 
 // The first n bursts of a row.
-fn show_row(bursts: [Burst; 16], n: usize) {
-    for j in 0..16 {
+fn show_row(bursts: [Burst; ROW_LENGTH], n: usize) {
+    for j in 0..ROW_LENGTH {
         if j < n {
             show(bursts[j]);
         }
