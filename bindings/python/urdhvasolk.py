@@ -116,8 +116,9 @@ def burst_step(start, len_, size, kind, bus, k):
 
 
 def axi3_cut(start, len_, size, kind, bus, room=16):
-    """The burst cut for AXI3 boards, which take at most 16 beats: a list of 1 to 16 `Burst`s, whose beats, one burst after another,
-    are its own. Refusals 7 to 12, then 5 where more than `room` are needed; less than none counts as none, 16 are always enough."""
+    """The burst cut for AXI3 boards, which take at most 16 beats: `bursts` is a list of 1 to 16 `Burst`s, whose beats, one burst
+    after another, are its own; refused, it is empty. Refusals 7 to 12, then 5 where more than `room` are needed; less than
+    none counts as none, 16 are always enough."""
     if not 0 <= start < 2**32:
         return None
     numbers = len(Burst._fields)

@@ -1,6 +1,7 @@
 // Cutting a long burst for AXI3 boards, which take at most 16 beats (paper 02, T-02). Every call takes any numbers and refuses
 // what is not allowed. What the answers mean is in the crate axi3_spec. `cut` has the form that paper 01 names, a lent row of
-// bursts; whoever calls it needs a proof by hand, so all others call `cut_row` or `cut_numbers`, which stand above it.
+// bursts; whoever calls it needs a proof by hand, so `cut_into` alone does, and all others call `cut_row` or `cut_numbers`, which
+// stand above it.
 use axi3_spec::CutAnswer;
 use axi3_spec::CutRow;
 use axi3_spec::ROW_LENGTH;
@@ -22,7 +23,7 @@ ghost use Rattle.axi3.specs.Rows.{usedOf, withBurst, laid};
 // "Older boards take at most 16 beats".
 const BEATS_MOST: u32 = 16;
 
-// The numbers of a description.
+// How many numbers a description has.
 const NUMBERS_EACH: usize = 5;
 
 // Cuts a burst into bursts of at most 16 beats, written to the front of a lent row: how many; or a refusal, 7 to 12 in order,
@@ -40,7 +41,7 @@ pub fn cut(b: Burst, row: &mut [Burst]) -> CutAnswer
     plan
 }
 
-// The same into a row of its own, of at most `room` descriptions. What is not used of it is blank.
+// The same into a row of its own, of 16 descriptions, of which at most `room` may be used. What is not used is blank.
 pub fn cut_row(b: Burst, room: usize) -> CutRow
     ensures { λ r. ⌜ CutAlone b room r ⌝ }
 {

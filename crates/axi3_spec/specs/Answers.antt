@@ -50,7 +50,7 @@ cutAnswer x room = cutFor (cutRefusal x room) (pieceCount x)
 abbrev pub cutAfter : Burst → List Burst → List Burst
 cutAfter x row = rowFor (cutRefusal x (length row)) (pieces x) row
 
--- ---- the same into a row of its own, of `room` descriptions at most: what is not used of it is blank
+-- ---- the same into a row of its own, of 16 descriptions, of which at most `room` may be used: what is not used is blank
 
 -- as many descriptions as a cut can need: 256 beats are 16 bursts
 abbrev pub rowLength : ℕ

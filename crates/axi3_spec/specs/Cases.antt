@@ -1,7 +1,7 @@
 -- Worked cuts: at each bound of the beats and of the row, from unaligned starts, at the top of memory, and refused at each
 -- number. One statement covers the whole list (proofs/Cases). Each entry has an id (W01 and on) by which docs/PROMISES.md may cite
--- it: a new one takes the next free id, and none is given twice. All are worked by hand from the request (paper 02, T-02); of
--- the definitions only `burstOf` is used here.
+-- it: a new one takes the next free id, and none is given twice. All are worked by hand from the request (paper 02, T-02); in
+-- the entries only `burstOf` is a definition.
 use mathlib.Core.List.{List, [], _∷_, _++_}
 use Prim.Native.Nat.{ℕ}
 use lib.ListN.{length}
@@ -13,7 +13,8 @@ use Rattle.axi3_spec.specs.Answers.{Values, cutValues, cutAnswer, cutAft
 abbrev typed : ℕ → ℕ → Values
 typed refusal count = record { refusal = refusal; place = 0; rule = 0; count = count }
 
--- what is asked: a cut into this lent row of bursts, into a row of its own of at most so many, into this lent row of numbers
+-- what is asked: a cut into this lent row of bursts, into a row of its own of which so many may be used, into this lent row of
+-- numbers
 pub data Row : Type 0 where
   ofBursts : List Burst → Row
   own : ℕ → Row
@@ -163,7 +164,7 @@ o = burstOf 0 0 0 0 0
 
 abbrev pub otherRows : List Case
 otherRows =
-    -- W26: W01 into a row of its own, of two
+    -- W26: W01 into a row of its own, of which two may be used
     record {
       burst = burstOf 0x1002 16 2 1 4;
       row = own 2;
@@ -171,7 +172,7 @@ otherRows =
       bursts = burstOf 0x1002 15 2 1 4 ∷ burstOf 0x1040 0 2 1 4 ∷ o ∷ o ∷ o ∷ o ∷ o ∷ o ∷ o ∷ o ∷ o ∷ o ∷ o ∷ o ∷ o ∷ o ∷ [];
       numbers = [];
     }
-    -- W27: of one: ROOM
+    -- W27: of which one may: ROOM
     ∷ record {
       burst = burstOf 0x1002 16 2 1 4;
       row = own 1;
