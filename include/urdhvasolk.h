@@ -11,7 +11,7 @@
  *   - `out` and `text` share no octet with each other, nor with the input of the same call;
  *   - nothing else writes those octets until the call has returned. Calls on other octets may run at the same time;
  *   - so much stack is free: 216 KB for urd_report, 88 KB for urd_repack, 2 KB for any other call. (tests/bindings
- *     measures each of them; here they use 211.4, 83.1 and at most 1.2 KB, most of it arrays.)
+ *     measures each of them; here they use 211.3, 83.1 and at most 1.2 KB, most of it arrays.)
  *
  * Octets. A capture (paper 01: a take) is records of 7 + width octets, width 1 to 16, at most 65,536 octets in all:
  *   octet 0     bit 0 TLAST, bit 1 TVALID, bit 2 TREADY, bit 3 ARESETn; in a transfer record bit 0 alone

@@ -30,12 +30,6 @@ stored row at x h =
     let four : at + 4 ≡ suc (suc (suc (suc at))) = omega arith in
     rw (one, two, three, four) (sets-eq (numbersOf x) row at h ∙ append-assoc (take at row) (numbersOf x) (drop (at + numbersEach) row))
 
-withBurst-length : (row : List ℕ) (at : ℕ) (x : Burst) → at + numbersEach ≤ length row → length (withBurst at x row) ≡ length row
-unfolding withBurst
-withBurst-length row at x h =
-    length-append (take at row) (numbersOf x ++ drop (at + numbersEach) row)
-    ∙ omega (arith, length-take-le at row (omega arith), length-append (numbersOf x) (drop (at + numbersEach) row), length-drop (at + numbersEach) row)
-
 joined-append : (xss yss : List (List ℕ)) → joined (xss ++ yss) ≡ joined xss ++ joined yss
 unfolding joined
 joined-append [] yss = refl

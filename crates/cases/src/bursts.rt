@@ -5,11 +5,13 @@ use burst_spec::Judgement;
 use burst_spec::StepAnswer;
 use refusal::Refusal;
 
+// A key and its number, on the line begun.
 pub fn number(key: &[u8], n: u64) {
     io::write_all(1, key);
     io::print_decimal(1, n);
 }
 
+// The number of a refusal, as the papers list it.
 pub fn refused(r: Refusal) {
     let code = refusal::code_of(r);
     number(b" refusal=", code.0 as u64);
