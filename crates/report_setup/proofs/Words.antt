@@ -154,16 +154,19 @@ word-missing {A} (w ∷ ws) value e = go (isWord (w .spelt) value) refl (place (
     go false p none h q = rw p (h refl)
     go false p (some j) h q = let z : _≡_ {A = ℕ} 0 1 = cc in absurd (omega arith)
 
--- what the first word means, and the last of two
+-- what the first word means, what a later one does, and what the only one left does
 module _ {A : Type 0} (v : Word A) where
   pub first-means : (ws : List (Word A)) (k : ℕ) → k ≡ 0 → Means (v ∷ ws) k (v .means)
   first-means ws zero e a h = cc
   first-means ws (suc k) e a h = absurd (omega arith)
 
-  pub second-means : (w : Word A) (k : ℕ) → (k ≡ 0 → ⊥) → Means (v ∷ w ∷ []) k (w .means)
-  second-means w zero e a h = absurd (e refl)
-  second-means w (suc zero) e a h = cc
-  second-means w (suc (suc k)) e a h = let z : _≡_ {A = ℕ} 0 1 = cc in absurd (omega arith)
+  pub later-means : (ws : List (Word A)) (k : ℕ) (m : A) → (k ≡ 0 → ⊥) → Means ws (k - 1) m → Means (v ∷ ws) k m
+  later-means ws zero m e later a h = absurd (e refl)
+  later-means ws (suc k) m e later a h = let same : suc k - 1 ≡ k = omega arith in later a (rw same h)
+
+  pub only-means : (k : ℕ) → Means (v ∷ []) k (v .means)
+  only-means zero a h = cc
+  only-means (suc k) a h = let z : _≡_ {A = ℕ} 0 1 = cc in absurd (omega arith)
 
 -- the same of a line with words, by what they mean
 abbrev taken : {A : Type 0} → (List ℕ → Option A) → Held (List ℕ) → Option (Held A)
@@ -215,11 +218,11 @@ pub mode-read : (xs : List ℕ) (from k n : ℕ) (m : Mode) → Means modes k m
     → Reads (lineOf (text "mode=") (oneOf modes) (drop from xs)) xs m n
 mode-read xs from k n m h r = words-read modes (text "pack\nlanes\n") refl (text "mode=") (drop from xs) xs k n m r h
 
-pub tlast-refused : (xs : List ℕ) (from : ℕ) → lineOf (text "tlast=") (place (wordsOf (text "wired\nnone\n"))) (drop from xs) ≡ none
+pub tlast-refused : (xs : List ℕ) (from : ℕ) → lineOf (text "tlast=") (place (wordsOf (text "wired\nnone\nlow\n"))) (drop from xs) ≡ none
     → lineOf (text "tlast=") (oneOf tlasts) (drop from xs) ≡ none
-tlast-refused xs from = words-refused tlasts (text "wired\nnone\n") refl (text "tlast=") (drop from xs)
+tlast-refused xs from = words-refused tlasts (text "wired\nnone\nlow\n") refl (text "tlast=") (drop from xs)
 
 pub tlast-read : (xs : List ℕ) (from k n : ℕ) (t : Tlast) → Means tlasts k t
-    → Reads (lineOf (text "tlast=") (place (wordsOf (text "wired\nnone\n"))) (drop from xs)) xs k n
+    → Reads (lineOf (text "tlast=") (place (wordsOf (text "wired\nnone\nlow\n"))) (drop from xs)) xs k n
     → Reads (lineOf (text "tlast=") (oneOf tlasts) (drop from xs)) xs t n
-tlast-read xs from k n t h r = words-read tlasts (text "wired\nnone\n") refl (text "tlast=") (drop from xs) xs k n t r h
+tlast-read xs from k n t h r = words-read tlasts (text "wired\nnone\nlow\n") refl (text "tlast=") (drop from xs) xs k n t r h

@@ -39,7 +39,7 @@ pub fn parse(sheet: &[u8]) -> Sheet
         return Sheet::Refused;
     };
     let mode = mode_of(word);
-    let Line::Read(wire, end) = word_line(sheet, fourth, b"tlast=", b"wired\nnone\n") else {
+    let Line::Read(wire, end) = word_line(sheet, fourth, b"tlast=", b"wired\nnone\nlow\n") else {
         return Sheet::Refused;
     };
     let tlast = tlast_of(wire);
@@ -70,7 +70,8 @@ fn tlast_of(k: usize) -> Tlast
 {
     match k {
         0 => Tlast::Wired,
-        _ => Tlast::Absent,
+        1 => Tlast::Absent,
+        _ => Tlast::Low,
     }
 }
 

@@ -1,22 +1,23 @@
 -- The readers take what specs/Promises says, and nothing else. Assumes nothing.
 use mathlib.Core.Bool.{Bool, true, false, not, cond, _&&_}
 use mathlib.Core.List.{List, [], _∷_, _++_, append-assoc, append-nil}
+use mathlib.Core.Logic.{_≢_}
 use mathlib.Core.Option.{Option, none, some}
 use mathlib.Core.Path.{_≡_, refl, sym, ap, ap₂, _∙_, subst}
 use Prim.Native.Nat.{ℕ, _+_, _-_, _*_, _/_, _%_, _≤_, _<_}
 use native.Mathlib.Omega.{arith}
 use lib.Dec.{eqb, ltb}
 use borrow.Author.Tests.{lt-ltb, le-ltb, ltb-true, ltb-false, eq-eqb, ne-eqb, eqb-true, eqb-false, not-true}
-use Rattle.report_setup_spec.specs.Grammar.{isDigit, number, Line, line, longer, on, firstLine, after, entry, lineOf, oneOf, isWord, nothingLeft, modes, tlasts, text, onLine, ending, sheetOf}
+use Rattle.report_setup_spec.specs.Grammar.{isDigit, number, Line, line, longer, on, firstLine, after, entry, lineOf, Word, oneOf, isWord, nothingLeft, modes, tlasts, text, onLine, ending, sheetOf}
 use Rattle.report_setup_spec.specs.declared.Mode.{Mode}
 use Rattle.report_setup_spec.specs.declared.Mode.the-variants.{Pack, Lanes}
 use Rattle.report_setup_spec.specs.declared.Tlast.{Tlast}
-use Rattle.report_setup_spec.specs.declared.Tlast.the-variants.{Wired, Absent}
+use Rattle.report_setup_spec.specs.declared.Tlast.the-variants.{Wired, Absent, Low}
 use Rattle.report_setup_spec.specs.declared.Setup.{Setup}
 use Rattle.report_setup_spec.specs.declared.Sheet.{Sheet}
 use Rattle.report_setup_spec.specs.declared.Sheet.the-variants.{Read, Refused}
 use Rattle.report_setup_spec.specs.Answers.{modeWord, tlastWord}
-use Rattle.report_setup_spec.specs.Promises.{numeral, NumbersExactly, lineText, sheetText, SheetsExactly}
+use Rattle.report_setup_spec.specs.Promises.{numeral, NumbersExactly, WordsExactly, lineText, sheetText, SheetsExactly}
 use Rattle.report_setup_spec.proofs.Digits.{both, digit-yes, digit-range}
 
 -- ---- each number is read
@@ -165,17 +166,58 @@ nothing-only (some (x ∷ xs)) e = let z : _≡_ {A = ℕ} 0 1 = cc in absurd (o
 word-only : (w v : List ℕ) → isWord w v ≡ true → v ≡ w
 word-only w v e = after-only w v [] (nothing-only (after w v) e) ∙ append-nil w
 
-mode-by : (v : List ℕ) (m : Mode) (b c : Bool) → isWord (text "pack") v ≡ b → isWord (text "lanes") v ≡ c
-    → cond b (some Pack) (cond c (some Lanes) none) ≡ some m → v ≡ modeWord m
-mode-by v m true c e f g = let same : Pack ≡ m = cc in word-only (text "pack") v e ∙ ap modeWord same
-mode-by v m false true e f g = let same : Lanes ≡ m = cc in word-only (text "lanes") v f ∙ ap modeWord same
-mode-by v m false false e f g = absurd-none g
+-- each word is spelt as what it means is
+abbrev Spelt : {A : Type 0} → (A → List ℕ) → List (Word A) → Type 0
+Spelt spelling [] = Unit {0}
+Spelt spelling (w ∷ ws) = (w .spelt ≡ spelling (w .means)) × Spelt spelling ws
 
-tlast-by : (v : List ℕ) (t : Tlast) (b c : Bool) → isWord (text "wired") v ≡ b → isWord (text "none") v ≡ c
-    → cond b (some Wired) (cond c (some Absent) none) ≡ some t → v ≡ tlastWord t
-tlast-by v t true c e f g = let same : Wired ≡ t = cc in word-only (text "wired") v e ∙ ap tlastWord same
-tlast-by v t false true e f g = let same : Absent ≡ t = cc in word-only (text "none") v f ∙ ap tlastWord same
-tlast-by v t false false e f g = absurd-none g
+-- so a value that is read is the spelling of what it is read as
+words-only : {A : Type 0} (spelling : A → List ℕ) (ws : List (Word A)) → Spelt spelling ws
+    → (v : List ℕ) (a : A) → oneOf ws v ≡ some a → v ≡ spelling a
+words-only spelling [] h v a e = absurd-none e
+words-only spelling (w ∷ ws) h v a e = go (isWord (w .spelt) v) refl (words-only spelling ws (h .1) v a) e
+  where
+    go : (b : Bool) → isWord (w .spelt) v ≡ b → (oneOf ws v ≡ some a → v ≡ spelling a) → cond b (some (w .means)) (oneOf ws v) ≡ some a → v ≡ spelling a
+    go true p later q = let same : w .means ≡ a = cc in word-only (w .spelt) v p ∙ h .0 ∙ ap spelling same
+    go false p later q = later q
+
+modes-spelt : Spelt modeWord modes
+modes-spelt = (refl, (refl, tt))
+
+tlasts-spelt : Spelt tlastWord tlasts
+tlasts-spelt = (refl, (refl, (refl, tt)))
+
+tlast-word : (t : Tlast) → oneOf tlasts (tlastWord t) ≡ some t
+tlast-word Wired = refl
+tlast-word Absent = refl
+tlast-word Low = refl
+
+other-word : (v : List ℕ) → (v ≢ text "wired") × (v ≢ text "none") × (v ≢ text "low") → oneOf tlasts v ≡ none
+other-word v h = go (oneOf tlasts v) refl
+  where
+    none-of : (t : Tlast) → v ≡ tlastWord t → ⊥
+    none-of Wired p = h .0 p
+    none-of Absent p = h .1 p
+    none-of Low p = h .2 p
+
+    go : (o : Option Tlast) → oneOf tlasts v ≡ o → oneOf tlasts v ≡ none
+    go none e = e
+    go (some t) e = absurd (none-of t (words-only tlastWord tlasts tlasts-spelt v t e))
+
+pub wordsExactly : WordsExactly
+wordsExactly =
+    record {
+      each = tlast-word;
+      only = words-only tlastWord tlasts tlasts-spelt;
+      refused = λ v. (
+        (λ e. (
+          (λ p. absurd-none (sym e ∙ ap (oneOf tlasts) p)),
+          (λ p. absurd-none (sym e ∙ ap (oneOf tlasts) p)),
+          (λ p. absurd-none (sym e ∙ ap (oneOf tlasts) p)),
+        )),
+        other-word v,
+      );
+    }
 
 -- ---- the lines of a sheet
 
@@ -185,17 +227,11 @@ number-line key xs l e =
     let q : (l .value ≤ 99) × (p .0 ≡ numeral (l .value)) = only-by (p .0) (l .value) (p .1) in
     (q .0, p .2 ∙ ap (λ (w : List ℕ). lineText key w (l .rest)) (q .1))
 
-mode-line : (xs : List ℕ) (l : Line Mode) → lineOf (text "mode=") (oneOf modes) xs ≡ some l → xs ≡ lineText (text "mode=") (modeWord (l .value)) (l .rest)
-mode-line xs l e =
-    let p : (w : List ℕ) × (oneOf modes w ≡ some (l .value)) × (xs ≡ lineText (text "mode=") w (l .rest)) = line-only (text "mode=") (oneOf modes) xs l e in
-    let q : p .0 ≡ modeWord (l .value) = mode-by (p .0) (l .value) (isWord (text "pack") (p .0)) (isWord (text "lanes") (p .0)) refl refl (p .1) in
-    p .2 ∙ ap (λ (w : List ℕ). lineText (text "mode=") w (l .rest)) q
-
-tlast-line : (xs : List ℕ) (l : Line Tlast) → lineOf (text "tlast=") (oneOf tlasts) xs ≡ some l → xs ≡ lineText (text "tlast=") (tlastWord (l .value)) (l .rest)
-tlast-line xs l e =
-    let p : (w : List ℕ) × (oneOf tlasts w ≡ some (l .value)) × (xs ≡ lineText (text "tlast=") w (l .rest)) = line-only (text "tlast=") (oneOf tlasts) xs l e in
-    let q : p .0 ≡ tlastWord (l .value) = tlast-by (p .0) (l .value) (isWord (text "wired") (p .0)) (isWord (text "none") (p .0)) refl refl (p .1) in
-    p .2 ∙ ap (λ (w : List ℕ). lineText (text "tlast=") w (l .rest)) q
+word-line : {A : Type 0} (key : List ℕ) (spelling : A → List ℕ) (ws : List (Word A)) → Spelt spelling ws
+    → (xs : List ℕ) (l : Line A) → lineOf key (oneOf ws) xs ≡ some l → xs ≡ lineText key (spelling (l .value)) (l .rest)
+word-line key spelling ws h xs l e =
+    let p : (w : List ℕ) × (oneOf ws w ≡ some (l .value)) × (xs ≡ lineText key w (l .rest)) = line-only key (oneOf ws) xs l e in
+    p .2 ∙ ap (λ (w : List ℕ). lineText key w (l .rest)) (words-only spelling ws h (p .0) (l .value) (p .1))
 
 absurd-refused : {B : Type 0} {u : Setup} → _≡_ {A = Sheet} Refused (Read u) → B
 absurd-refused e = let z : _≡_ {A = ℕ} 0 1 = cc in absurd (omega arith)
@@ -227,8 +263,8 @@ assembled xs a b m t e f g h i =
       q .0,
       p .1 ∙ ap (lineText (text "width_in=") (numeral (a .value)))
           (q .1 ∙ ap (lineText (text "width_out=") (numeral (b .value)))
-          (mode-line (b .rest) m g ∙ ap (lineText (text "mode=") (modeWord (m .value)))
-          (tlast-line (m .rest) t h ∙ ap (lineText (text "tlast=") (tlastWord (t .value))) i))),
+          (word-line (text "mode=") modeWord modes modes-spelt (b .rest) m g ∙ ap (lineText (text "mode=") (modeWord (m .value)))
+          (word-line (text "tlast=") tlastWord tlasts tlasts-spelt (m .rest) t h ∙ ap (lineText (text "tlast=") (tlastWord (t .value))) i))),
     )
 
 -- what `sheetOf` goes on with after each line
@@ -307,6 +343,7 @@ mode-each r Lanes = refl
 tlast-each : (r : List ℕ) (t : Tlast) → lineOf (text "tlast=") (oneOf tlasts) (lineText (text "tlast=") (tlastWord t) r) ≡ some (line t r)
 tlast-each r Wired = refl
 tlast-each r Absent = refl
+tlast-each r Low = refl
 
 sheets-each : (u : Setup) → u .«width_in» ≤ 99 → u .«width_out» ≤ 99 → sheetOf (sheetText u) ≡ Read u
 unfolding sheetOf

@@ -1,18 +1,19 @@
 -- The statements of specs/Promises at examples, typed by hand: both ends of the range are in it, and what is beside a numeral
 -- or behind a sheet is not read. A premise that is narrowed, or a conclusion that is dropped, breaks one. Assumes nothing.
 use mathlib.Core.List.{List}
+use mathlib.Core.Logic.{_≢_}
 use mathlib.Core.Option.{some}
-use mathlib.Core.Path.{_≡_, sym, _∙_}
+use mathlib.Core.Path.{_≡_, refl, sym, _∙_}
 use Prim.Native.Nat.{ℕ, _≤_}
 use native.Mathlib.Omega.{arith}
 use Rattle.report_setup_spec.specs.declared.Mode.{Mode}
 use Rattle.report_setup_spec.specs.declared.Mode.the-variants.{Pack, Lanes}
 use Rattle.report_setup_spec.specs.declared.Tlast.{Tlast}
-use Rattle.report_setup_spec.specs.declared.Tlast.the-variants.{Wired, Absent}
+use Rattle.report_setup_spec.specs.declared.Tlast.the-variants.{Wired, Absent, Low}
 use Rattle.report_setup_spec.specs.declared.Setup.{Setup}
 use Rattle.report_setup_spec.specs.declared.Sheet.the-variants.{Read}
-use Rattle.report_setup_spec.specs.Grammar.{text, number, sheetOf}
-use Rattle.report_setup_spec.proofs.Promises.{numbersExactly, sheetsExactly}
+use Rattle.report_setup_spec.specs.Grammar.{text, number, oneOf, tlasts, sheetOf}
+use Rattle.report_setup_spec.proofs.Promises.{numbersExactly, wordsExactly, sheetsExactly}
 
 -- ---- numbers
 
@@ -29,6 +30,18 @@ at-most value n e = numbersExactly .only value n e .0
 pub one-way : (v w : List ℕ) (n : ℕ) → number v ≡ some n → number w ≡ some n → v ≡ w
 one-way v w n e f = numbersExactly .only v n e .1 ∙ sym (numbersExactly .only w n f .1)
 
+-- ---- words
+
+pub low-read : oneOf tlasts (text "low") ≡ some Low
+low-read = wordsExactly .each Low
+
+pub high-is-none : (text "high" ≢ text "wired") × (text "high" ≢ text "none") × (text "high" ≢ text "low")
+high-is-none = wordsExactly .refused (text "high") .0 refl
+
+-- what is read as `none` is that word, and no other
+pub only-none : (value : List ℕ) → oneOf tlasts value ≡ some Absent → value ≡ text "none"
+only-none value e = wordsExactly .only value Absent e
+
 -- ---- sheets
 
 abbrev setup : ℕ → ℕ → Mode → Tlast → Setup
@@ -39,6 +52,9 @@ low-high = sheetsExactly .each (setup 0 99 Pack Wired) (omega arith) (omega arit
 
 pub high-low : sheetOf (text "width_in=99\nwidth_out=0\nmode=lanes\ntlast=none\n") ≡ Read (setup 99 0 Lanes Absent)
 high-low = sheetsExactly .each (setup 99 0 Lanes Absent) (omega arith) (omega arith)
+
+pub low-word : sheetOf (text "width_in=4\nwidth_out=2\nmode=pack\ntlast=low\n") ≡ Read (setup 4 2 Pack Low)
+low-word = sheetsExactly .each (setup 4 2 Pack Low) (omega arith) (omega arith)
 
 -- whatever is read has widths of at most 99, and two sheets that say the same are the same octets
 pub widths : (xs : List ℕ) (u : Setup) → sheetOf xs ≡ Read u → (u .«width_in» ≤ 99) × (u .«width_out» ≤ 99)

@@ -8,7 +8,7 @@ use Rattle.refusal.specs.declared.Refusal.the-variants.{Setup as BadSheet}
 use Rattle.report_setup_spec.specs.declared.Mode.{Mode}
 use Rattle.report_setup_spec.specs.declared.Mode.the-variants.{Pack, Lanes}
 use Rattle.report_setup_spec.specs.declared.Tlast.{Tlast}
-use Rattle.report_setup_spec.specs.declared.Tlast.the-variants.{Wired, Absent}
+use Rattle.report_setup_spec.specs.declared.Tlast.the-variants.{Wired, Absent, Low}
 use Rattle.report_setup_spec.specs.declared.Sheet.{Sheet}
 use Rattle.report_setup_spec.specs.declared.Sheet.the-variants.{Read, Refused}
 use Rattle.report_setup_spec.specs.Grammar.{text, sheetOf}
@@ -21,6 +21,7 @@ modeWord Lanes = text "lanes"
 abbrev pub tlastWord : Tlast → List ℕ
 tlastWord Wired = text "wired"
 tlastWord Absent = text "none"
+tlastWord Low = text "low"
 
 -- the refusal's number, or 0 with the four values of the sheet; what an answer does not have is 0, or no octet
 pub record Values : Type 0 where

@@ -7,7 +7,7 @@ use Prim.Native.String.{String}
 use Rattle.report_setup_spec.specs.declared.Mode.{Mode}
 use Rattle.report_setup_spec.specs.declared.Mode.the-variants.{Pack, Lanes}
 use Rattle.report_setup_spec.specs.declared.Tlast.{Tlast}
-use Rattle.report_setup_spec.specs.declared.Tlast.the-variants.{Wired, Absent}
+use Rattle.report_setup_spec.specs.declared.Tlast.the-variants.{Wired, Absent, Low}
 use Rattle.report_setup_spec.specs.declared.Sheet.{Sheet}
 use Rattle.report_setup_spec.specs.declared.Sheet.the-variants.{Read, Refused}
 use Rattle.report_setup_spec.specs.Grammar.{text}
@@ -88,8 +88,16 @@ workedCases =
     ∷ refused "width_in=4\nwidth_out=2\nmode=packed\ntlast=wired\n"
     -- W27: a word cut short
     ∷ refused "width_in=4\nwidth_out=2\nmode=lane\ntlast=wired\n"
-    -- W28: a word that is none
-    ∷ refused "width_in=4\nwidth_out=2\nmode=pack\ntlast=low\n"
+    -- W28: a word that is none: T-03 has no `high`
+    ∷ refused "width_in=4\nwidth_out=2\nmode=pack\ntlast=high\n"
     -- W29: no word
     ∷ refused "width_in=4\nwidth_out=2\nmode=pack\ntlast=\n"
+    -- W30: T-03's word
+    ∷ reads "width_in=4\nwidth_out=2\nmode=pack\ntlast=low\n" 4 2 Pack "pack" Low "low"
+    -- W31: with a capital
+    ∷ refused "width_in=4\nwidth_out=2\nmode=pack\ntlast=Low\n"
+    -- W32: with more behind it
+    ∷ refused "width_in=4\nwidth_out=2\nmode=pack\ntlast=lows\n"
+    -- W33: two words
+    ∷ refused "width_in=4\nwidth_out=2\nmode=pack\ntlast=none low\n"
     ∷ []

@@ -1,6 +1,6 @@
 -- Paper 01, 'The report program': what a setup sheet says. "four LF-ended lines in this order: `width_in=`, `width_out=`
--- (0 to 99, no leading zeros), `mode=pack` or `mode=lanes`, `tlast=wired` or `tlast=none`". Nothing else is a sheet: no other
--- order or spelling, no CR, no line more, nothing after the fourth LF.
+-- (0 to 99, no leading zeros), `mode=pack` or `mode=lanes`, `tlast=wired` or `tlast=none`"; 02's T-03: "the new word
+-- `tlast=low`". Nothing else is a sheet: no other order or spelling, no CR, no line more, nothing after the fourth LF.
 -- A new word is one line of `modes` or `tlasts`; a new line of the sheet is one line of `sheetOf` and one field of `Setup`.
 use mathlib.Core.Bool.{Bool, true, false, not, _&&_, cond}
 use mathlib.Core.List.{List, [], _∷_}
@@ -12,7 +12,7 @@ use lib.Dec.{eqb, leb}
 use Rattle.report_setup_spec.specs.declared.Mode.{Mode}
 use Rattle.report_setup_spec.specs.declared.Mode.the-variants.{Pack, Lanes}
 use Rattle.report_setup_spec.specs.declared.Tlast.{Tlast}
-use Rattle.report_setup_spec.specs.declared.Tlast.the-variants.{Wired, Absent}
+use Rattle.report_setup_spec.specs.declared.Tlast.the-variants.{Wired, Absent, Low}
 use Rattle.report_setup_spec.specs.declared.Sheet.{Sheet}
 use Rattle.report_setup_spec.specs.declared.Sheet.the-variants.{Read, Refused}
 
@@ -106,7 +106,7 @@ abbrev pub modes : List (Word Mode)
 modes = word "pack" Pack ∷ word "lanes" Lanes ∷ []
 
 abbrev pub tlasts : List (Word Tlast)
-tlasts = word "wired" Wired ∷ word "none" Absent ∷ []
+tlasts = word "wired" Wired ∷ word "none" Absent ∷ word "low" Low ∷ []
 
 -- ---- the sheet
 

@@ -1,14 +1,16 @@
 -- What the grammar's readers take, as statements; proofs/Promises has a proof of each.
 use mathlib.Core.Bool.{cond}
 use mathlib.Core.List.{List, [], _∷_, _++_}
-use mathlib.Core.Option.{some}
+use mathlib.Core.Logic.{_↔_, _≢_}
+use mathlib.Core.Option.{none, some}
 use mathlib.Core.Path.{_≡_}
 use Prim.Native.Nat.{ℕ, _+_, _/_, _%_, _≤_}
 use lib.Dec.{ltb}
+use Rattle.report_setup_spec.specs.declared.Tlast.{Tlast}
 use Rattle.report_setup_spec.specs.declared.Setup.{Setup}
 use Rattle.report_setup_spec.specs.declared.Sheet.the-variants.{Read}
-use Rattle.report_setup_spec.specs.Grammar.{text, number, sheetOf}
-use Rattle.report_setup_spec.specs.Answers.{Values, sheetValues}
+use Rattle.report_setup_spec.specs.Grammar.{text, number, oneOf, tlasts, sheetOf}
+use Rattle.report_setup_spec.specs.Answers.{Values, tlastWord, sheetValues}
 
 -- a number up to 99 in decimal, without a leading zero
 abbrev pub numeral : ℕ → List ℕ
@@ -18,6 +20,12 @@ numeral n = cond (ltb n 10) ((48 + n) ∷ []) ((48 + n / 10) ∷ (48 + n % 10) �
 pub record NumbersExactly : Type 0 where
   pub each : (n : ℕ) → n ≤ 99 → number (numeral n) ≡ some n
   pub only : (value : List ℕ) (n : ℕ) → number value ≡ some n → (n ≤ 99) × (value ≡ numeral n)
+
+-- T-03: "SHEET accepts three words now": each of the three is read, as what it means, and nothing else is read
+pub record WordsExactly : Type 0 where
+  pub each : (t : Tlast) → oneOf tlasts (tlastWord t) ≡ some t
+  pub only : (value : List ℕ) (t : Tlast) → oneOf tlasts value ≡ some t → value ≡ tlastWord t
+  pub refused : (value : List ℕ) → (oneOf tlasts value ≡ none) ↔ ((value ≢ text "wired") × (value ≢ text "none") × (value ≢ text "low"))
 
 -- ---- a setup, written as a sheet
 

@@ -8,10 +8,12 @@ pub enum Mode {
     Lanes,
 }
 
-// `tlast=wired`: TLAST is as sampled. `tlast=none`: the port has no such wire, and TLAST is filled in first.
+// `tlast=wired`: TLAST is as sampled. The port has no such wire with the two others, and TLAST is filled in first: high with
+// `tlast=none`, low with `tlast=low`.
 pub enum Tlast {
     Wired,
     Absent,
+    Low,
 }
 
 // What a sheet says. The widths are as written, 0 to 99: which of them are allowed is decided in the crate report_call.

@@ -20,7 +20,7 @@ use Rattle.stream_spec.specs.Answers.{FilledIn, written, lentAfter, writtenValu
 use Rattle.stream_spec.specs.Memory.{inFront, Writing}
 use Rattle.stream_spec.specs.Walk.{Passed, recordAt}
 use Rattle.stream_spec.proofs.Memory.{writing-start, writing-as, writing-end, piece-room, part-writes}
-use Rattle.stream_spec.proofs.Records.{Sized, length-joined, records-sized, length-pieces, whole-count}
+use Rattle.stream_spec.proofs.Fill.{length-last, filled-long}
 use Rattle.stream_spec.proofs.Size.{size-pos}
 use Rattle.stream_spec.proofs.Walk.{left-start, record-is, record-long, record-fits, left-next, records-next, few-next, count-next, no-records, no-count}
 use Rattle.stream_record.specs.declared.Checked.{Checked}
@@ -36,26 +36,11 @@ pub last-set : (level : Bool) (r : List ℕ) (v : ℕ) → 0 < length r → v �
 last-set level [] v h e = absurd (omega arith)
 last-set level (f ∷ r) v h e = ap (λ (x : ℕ). (f / 2 * 2 + x) ∷ r) e
 
-length-last : (level : Bool) (r : List ℕ) → length (withLast level r) ≡ length r
-length-last level [] = refl
-length-last level (f ∷ r) = refl
-
 -- it is the same for the record alone and for all octets from its start on
 last-front : (level : Bool) (z : ℕ) (r : List ℕ) → 0 < z → withLast level r ≡ withLast level (take z r) ++ drop z r
 last-front level zero r h = absurd (omega arith)
 last-front level (suc z) [] h = refl
 last-front level (suc z) (f ∷ r) h = ap (λ (l : List ℕ). (f / 2 * 2 + bitOf level) ∷ l) (sym (take-append-drop z r))
-
--- a filled take is as long as the take
-sized-last : (level : Bool) (n : ℕ) (rs : List (List ℕ)) → Sized n rs → Sized n (map (withLast level) rs)
-sized-last level n [] h = tt
-sized-last level n (r ∷ rs) h = (length-last level r ∙ h .0, sized-last level n rs (h .1))
-
-filled-long : (level : Bool) (s : Shape) (xs : List ℕ) → Passed s xs → length (filledIn level s xs) ≡ length xs
-filled-long level s xs p =
-    length-joined (size s) (map (withLast level) (records s xs)) (sized-last level (size s) (records s xs) (records-sized s xs))
-    ∙ ap (λ (n : ℕ). n * size s) (length-map (records s xs) (withLast level) ∙ length-pieces (size s) (recordCount s xs) xs)
-    ∙ sym (whole-count s xs (p .whole))
 
 -- ---- the loop
 
@@ -63,7 +48,7 @@ pub filling-start : (level : Bool) (s : Shape) (xs : List ℕ) → Passed s xs �
 filling-start level s xs p =
     record {
       left = left-start s xs (p .whole);
-      writing = writing-start xs (filledIn level s xs) (omega (arith, filled-long level s xs p));
+      writing = writing-start xs (filledIn level s xs) (omega (arith, filled-long level s xs (p .whole)));
       count = zero-add (recordCount s xs);
       few = omega arith;
     }

@@ -8,7 +8,7 @@ ghost use mathlib.Core.Path.{_≡_};
 ghost use Prim.Native.Nat.{_≤_, _<_};
 ghost use lib.ListN.{length};
 ghost use Rattle.stream_spec.specs.Layout.{bitOf};
-ghost use Rattle.stream_spec.specs.Handshake.{baseLevel, withLast};
+ghost use Rattle.stream_spec.specs.Handshake.{withLast};
 ghost use Rattle.stream_spec.specs.Answers.{FilledIn};
 ghost use Rattle.stream_spec.specs.Walk.{Passed};
 ghost use Rattle.stream_fill_in.specs.Filling.{Filled};
@@ -47,19 +47,12 @@ fn fill(s: Shape, capture: &mut [u8], level: bool) -> usize
     k
 }
 
-// Sets TLAST of every record of the lent take to this level. Only a shape or a length is refused.
-pub fn set_last(s: Shape, capture: &mut [u8], level: bool) -> Written
+// Fill-in: TLAST of every record of the lent take becomes this level, true for high. Only a shape or a length is refused.
+pub fn fill_in(s: Shape, capture: &mut [u8], level: bool) -> Written
     ensures { λ r. ⌜ FilledIn level s (now (capture .entry)) (now (capture .exit)) r ⌝ }
 {
     match stream_record::check_take(s, capture) {
         Checked::Refused(why) => Written::Refused(why),
         Checked::Passed => Written::Records(fill(s, capture, level)),
     }
-}
-
-// Fill-in as paper 01 has it: low.
-pub fn fill_in(s: Shape, capture: &mut [u8]) -> Written
-    ensures { λ r. ⌜ FilledIn baseLevel s (now (capture .entry)) (now (capture .exit)) r ⌝ }
-{
-    set_last(s, capture, false)
 }

@@ -21,6 +21,7 @@ pub mod Full
 pub mod Only
 pub mod Findings
 pub mod Harvest
+pub mod Fill
 pub mod Clean
 pub mod Promises
 pub mod Tables

@@ -20,7 +20,7 @@ use Rattle.stream_spec.specs.Checks.{takeChecks, indexCheck}
 use Rattle.stream_spec.specs.Handshake.{wasReset}
 use Rattle.stream_spec.specs.Walk.{Passed}
 use Rattle.stream_spec.specs.Answers.{judgeAnswer, dataRefusal, dataPart}
-use Rattle.stream_spec.specs.Promises.{SetAbove, cycleBefore, FieldBits, DataHandedOut, WidthExactly, LengthExactly, ByteTypes, RepackingKeeps, PackedLegal, PackedLength, PackedFull, PackedOnly, Holds, Joins, Canonical, LaneKeeping, Findings, ResetQuiet, HarvestLegal, HarvestRepacks}
+use Rattle.stream_spec.specs.Promises.{SetAbove, cycleBefore, FieldBits, DataHandedOut, WidthExactly, LengthExactly, ByteTypes, RepackingKeeps, PackedLegal, PackedLength, PackedFull, PackedOnly, Holds, Joins, Canonical, LaneKeeping, Findings, ResetQuiet, HarvestLegal, HarvestRepacks, FilledHarvest, EachItsPacket}
 use Rattle.stream_spec.proofs.Bits.{bit-zero, bit-suc}
 use Rattle.stream_spec.proofs.Size.{data-long}
 use Rattle.stream_spec.proofs.Bools.{or-split, not-left}
@@ -35,6 +35,7 @@ use Rattle.stream_spec.proofs.Only.{packed-only}
 use Rattle.stream_spec.proofs.Findings.{judges}
 use Rattle.stream_spec.proofs.Clean.{clean-sound}
 use Rattle.stream_spec.proofs.Harvest.{harvestLegal as harvest-legal, harvestRepacks as harvest-repacks}
+use Rattle.stream_spec.proofs.Fill.{filled-harvest, each-its-packet}
 
 -- ---- refusals
 
@@ -199,3 +200,11 @@ harvestLegal = harvest-legal
 
 pub harvestRepacks : HarvestRepacks
 harvestRepacks = harvest-repacks
+
+-- ---- fill-in
+
+pub filledHarvest : FilledHarvest
+filledHarvest = filled-harvest
+
+pub eachItsPacket : EachItsPacket
+eachItsPacket = each-its-packet

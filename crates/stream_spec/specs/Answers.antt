@@ -21,7 +21,7 @@ use Rattle.stream_spec.specs.Layout.{size, headOctets, records, recordCo
 use Rattle.refusal.specs.Checks.{Check, check, first}
 use Rattle.stream_spec.specs.Checks.{shapeChecks, ratioCheck, lengthCheck, takeChecks, indexCheck, transferChecks, cycleChecks, roomCheck}
 use Rattle.stream_spec.specs.Memory.{inFront}
-use Rattle.stream_spec.specs.Handshake.{Finding, findings, firstFinding, transferCount, harvested, filledIn, baseLevel}
+use Rattle.stream_spec.specs.Handshake.{Finding, findings, firstFinding, transferCount, harvested, filledIn}
 
 -- ---- how an answer is made of the first refusal, if there is one
 
@@ -75,7 +75,7 @@ harvestAnswer s capture room = written (harvestRefusal s capture room) (transfer
 unfoldable pub harvestAfter : Shape → List ℕ → List ℕ → List ℕ
 harvestAfter s capture out = lentAfter (harvestRefusal s capture (length out)) (harvested s capture) out
 
--- ---- fill-in: 1, 2. The lent take is input and output; `level` is what TLAST becomes, in 01 always low.
+-- ---- fill-in: 1, 2. The lent take is input and output; `level` is what TLAST becomes (T-03).
 
 abbrev pub fillRefusal : Shape → List ℕ → Option Refusal
 fillRefusal s capture = first (takeChecks s capture)
@@ -85,10 +85,6 @@ fillAnswer s capture = written (fillRefusal s capture) (recordCount s capture)
 
 unfoldable pub fillAfter : Bool → Shape → List ℕ → List ℕ
 fillAfter level s capture = lentAfter (fillRefusal s capture) (filledIn level s capture) capture
-
--- fill-in as 01 has it
-abbrev pub fillInAfter : Shape → List ℕ → List ℕ
-fillInAfter s capture = fillAfter baseLevel s capture
 
 -- ---- data octets of record k: 1, 2, 13
 

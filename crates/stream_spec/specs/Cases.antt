@@ -2,12 +2,13 @@
 -- `benchCases` has the starred cases S1 to S5 of paper 01; `workedCases` pins what no starred case does, each with an id
 -- (W01 and on) by which docs/PROMISES.md may cite it: a new case takes the next free one, wherever it stands, and none is given twice.
 -- One statement covers each list (`bench` and `worked` of proofs/Cases).
-use mathlib.Core.Bool.{Bool, true, false}
+use mathlib.Core.Bool.{Bool}
 use mathlib.Core.List.{List, [], _∷_, _++_}
 use Prim.Native.Nat.{ℕ}
 use lib.ListN.{length}
 use Rattle.stream_spec.specs.declared.Shape.{Shape}
 use Rattle.stream_spec.specs.Answers.{Values, values, verdictValues, writtenValues, lookupValues, judgeAnswer, harvestAnswer, harvestAfter, fillAnswer, fillAfter, dataAnswer, dataPart, dataStart, repackAnswer, repackAfter, downsizeAnswer, downsizeAfter}
+use Rattle.stream_spec.specs.Handshake.{low, high}
 use Rattle.stream_spec.specs.Tables.{lanes, one}
 
 -- A call with its arguments. The last list of `repack`, `downsize` and `harvest` is the lent output.
@@ -210,7 +211,7 @@ workedCases =
     -- W34: 2 for a record that is there
     ∷ refuses (dataOf (lanes 1) (aa ++ (0 ∷ [])) 0) 2 0 []
     -- W35: 2 of fill-in, which leaves the take as it was
-    ∷ refuses (fillIn false (lanes 1) (one 0xFF 0 0 0 0 0 ++ (1 ∷ []))) 2 0 (one 0xFF 0 0 0 0 0 ++ (1 ∷ []))
+    ∷ refuses (fillIn low (lanes 1) (one 0xFF 0 0 0 0 0 ++ (1 ∷ []))) 2 0 (one 0xFF 0 0 0 0 0 ++ (1 ∷ []))
     -- W36: 13: no such record
     ∷ refuses (dataOf (lanes 1) aa 1) 13 0 []
     -- W37: the data octets of record 1; bad flag bits are not read
@@ -268,11 +269,11 @@ workedCases =
     ∷ refuses (downsize (lanes 1) 1 aa (0 ∷ [])) 5 0 (0 ∷ [])
     -- W63: slices with no item need room too: a data lane and a null one
     ∷ refuses (downsize (lanes 2) 1 (0 ∷ 3 ∷ 4 ∷ 1 ∷ 0 ∷ 1 ∷ 0 ∷ 5 ∷ 6 ∷ []) (eight ++ ee)) 5 0 (eight ++ ee)
-    -- W64: fill-in touches bit 0 of octet 0 of each record, and has no 3
-    ∷ gives (fillIn false (lanes 1) (one 0xFF 255 255 255 255 255 ++ one 0x08 0 0 0 0 0)) 2
+    -- W64: fill-in low touches bit 0 of octet 0 of each record, and has no 3
+    ∷ gives (fillIn low (lanes 1) (one 0xFF 255 255 255 255 255 ++ one 0x08 0 0 0 0 0)) 2
     (one 0xFE 255 255 255 255 255 ++ one 0x08 0 0 0 0 0)
-    -- W65: fill-in at the other level
-    ∷ gives (fillIn true (lanes 1) (one 0xFE 255 255 255 255 255 ++ one 0x0F 0 0 0 0 0)) 2
+    -- W65: fill-in high
+    ∷ gives (fillIn high (lanes 1) (one 0xFE 255 255 255 255 255 ++ one 0x0F 0 0 0 0 0)) 2
     (one 0xFF 255 255 255 255 255 ++ one 0x0F 0 0 0 0 0)
     -- W66: an all-null record of another pair between two of one stretch cuts nothing
     ∷ gives (repack (lanes 1) 2 (aa ++ nulls 1 ++ one 0x00 0 0 1 1 0xBB) (eight ++ ee)) 1
@@ -317,4 +318,11 @@ workedCases =
     ∷ breaks (judge (lanes 1) (one 0x0A 5 0 1 1 7 ++ one 0x04 6 0 0 0 0 ++ one 0x0A 5 0 1 1 7)) 2 1
     -- W82: T-01: 14 of harvesting, with that cycle and rule; there is room
     ∷ record { asked = harvest (lanes 1) (one 0x00 0 0 0 0 0 ++ one 0x0E 0 0 1 1 7) eight; told = tells (values 14 1 1 0) eight }
+    -- W83: T-03: 1 before 2 of fill-in high; the take is as it was
+    ∷ refuses (fillIn high (lanes 17) (one 0xFE 0 0 0 0 0)) 1 0 (one 0xFE 0 0 0 0 0)
+    -- W84: T-03: 2 of fill-in high, which leaves the take as it was
+    ∷ refuses (fillIn high (lanes 1) (one 0xFE 0 0 0 0 0 ++ (0 ∷ []))) 2 0 (one 0xFE 0 0 0 0 0 ++ (0 ∷ []))
+    -- W85: T-03: each transfer its own packet: two transfers that were filled in high, the second all-null, pack to two records
+    ∷ gives (repack (lanes 1) 2 (one 0x01 0 0 1 1 7 ++ one 0x01 0 0 0 0 0) (eight ++ eight ++ ee)) 2
+    (0x01 ∷ 0x00 ∷ 0x00 ∷ 0x01 ∷ 0x00 ∷ 0x01 ∷ 0x00 ∷ 0x07 ∷ 0x00 ∷ 0x01 ∷ 0x00 ∷ 0x00 ∷ 0x00 ∷ 0x00 ∷ 0x00 ∷ 0x00 ∷ 0x00 ∷ 0x00 ∷ 0xEE ∷ 0xEE ∷ [])
     ∷ []

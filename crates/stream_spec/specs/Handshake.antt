@@ -95,8 +95,15 @@ asTransfer c = lastAlone (tlast c) ∷ body c
 abbrev pub harvested : Shape → List ℕ → List ℕ
 harvested s xs = joined (map asTransfer (handshakes (records s xs)))
 
--- "sets bit 0 of octet 0 of every record to 0 in the lent take and touches nothing else". Here the bit is set to a level,
--- and `baseLevel` is 01's.
+-- the two levels of a wire
+abbrev pub low : Bool
+low = false
+
+abbrev pub high : Bool
+high = true
+
+-- Fill-in "sets bit 0 of octet 0 of every record .. in the lent take and touches nothing else" (01); it "takes the wanted
+-- level as an argument" (T-03).
 abbrev pub withLast : Bool → List ℕ → List ℕ
 withLast level [] = []
 withLast level (f ∷ r) = lastSet level f ∷ r
@@ -104,6 +111,6 @@ withLast level (f ∷ r) = lastSet level f ∷ r
 abbrev pub filledIn : Bool → Shape → List ℕ → List ℕ
 filledIn level s xs = joined (map (withLast level) (records s xs))
 
--- low, as 01 has it
-abbrev pub baseLevel : Bool
-baseLevel = false
+-- the transfer record of a cycle whose TLAST is filled in: that level alone in octet 0, all other octets as sampled
+abbrev pub asFilled : Bool → List ℕ → List ℕ
+asFilled level c = lastAlone level ∷ body c

@@ -14,9 +14,9 @@ use Rattle.stream_spec.specs.declared.Shape.{Shape}
 use Rattle.stream_spec.specs.declared.Verdict.the-variants.{Clean}
 use Rattle.stream_spec.specs.Items.{samePair, Transfer, Item, kept, items}
 use Rattle.stream_spec.specs.Packed.{fitted, pack, settled, held, parted}
-use Rattle.stream_spec.specs.Layout.{bit, widthMost, tvalid, aresetn, tkeep, tstrb, size, atWidth, nullLane, laneType, laneTypes, Kept, records, streamItems, packedTransfers, packed, slicedTransfers, sliced}
+use Rattle.stream_spec.specs.Layout.{bit, widthMost, tlast, tvalid, aresetn, tkeep, tstrb, size, atWidth, nullLane, laneType, laneTypes, Kept, records, joined, streamItems, packedTransfers, packed, slicedTransfers, sliced}
 use Rattle.stream_spec.specs.Checks.{widthCheck, lengthCheck}
-use Rattle.stream_spec.specs.Handshake.{r1, r2, r3, r4, Finding, firstFinding, harvested}
+use Rattle.stream_spec.specs.Handshake.{r1, r2, r3, r4, Finding, firstFinding, handshakes, harvested, filledIn, asFilled}
 use Rattle.stream_spec.specs.Answers.{judgeAnswer, repackRefusal, harvestRefusal, dataRefusal, dataPart}
 use Rattle.stream_spec.specs.Legal.{Octets, Legal}
 
@@ -191,3 +191,22 @@ abbrev pub HarvestRepacks : Type 0
 HarvestRepacks =
     (s : Shape) (xs : List ℕ) (room v lent : ℕ) → Octets xs → harvestRefusal s xs room ≡ none → Width v
     → repackRefusal s v (harvested s xs) lent ≡ cond (ltb lent (length (packed s v (harvested s xs)))) (some Room) none
+
+-- ---- fill-in (T-03)
+
+-- What is harvested of a take that was filled in: the transfers that were sampled, in order, each with that level as its
+-- TLAST and every other octet as sampled.
+abbrev pub FilledHarvest : Type 0
+FilledHarvest =
+    (level : Bool) (s : Shape) (xs : List ℕ)
+    → harvested s (filledIn level s xs) ≡ joined (map (asFilled level) (handshakes (records s xs)))
+
+-- every one of these records has TLAST
+abbrev pub AllLast : List (List ℕ) → Type 0
+AllLast [] = Unit {0}
+AllLast (r ∷ rs) = (tlast r ≡ true) × AllLast rs
+
+-- "each transfer its own packet": where each record has TLAST, the packed form is that of each record by itself, joined in
+-- order. So an all-null record does not vanish there.
+abbrev pub EachItsPacket : Type 0
+EachItsPacket = (s : Shape) (v : ℕ) (xs : List ℕ) → AllLast (records s xs) → packed s v xs ≡ joined (map (packed s v) (records s xs))

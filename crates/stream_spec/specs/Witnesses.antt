@@ -133,3 +133,17 @@ loudTake = one 0x02 0 0 0 0 0
 
 abbrev pub harvest : List ℕ
 harvest = one 1 1 2 1 0 7 ++ one 0 1 2 1 1 8
+
+-- what is harvested of the clean take once it is filled in, at each level
+abbrev pub harvestLow : List ℕ
+harvestLow = one 0 1 2 1 0 7 ++ one 0 1 2 1 1 8
+
+abbrev pub harvestHigh : List ℕ
+harvestHigh = one 1 1 2 1 0 7 ++ one 1 1 2 1 1 8
+
+-- two records with TLAST, the second all-null, and their packed form at width 2: a record each
+abbrev pub lastOnes : List ℕ
+lastOnes = one 1 1 2 1 1 7 ++ one 1 1 2 0 0 0
+
+abbrev pub lastTwos : List ℕ
+lastTwos = 1 ∷ 1 ∷ 2 ∷ 1 ∷ 0 ∷ 1 ∷ 0 ∷ 7 ∷ 0 ∷ 1 ∷ 1 ∷ 2 ∷ 0 ∷ 0 ∷ 0 ∷ 0 ∷ 0 ∷ 0 ∷ []

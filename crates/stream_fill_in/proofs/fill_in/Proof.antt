@@ -1,9 +1,9 @@
--- `stream_fill_in::set_last` meets its contract: the tests in paper 01's order, then the records. Assumes nothing.
+-- `stream_fill_in::fill_in` meets its contract: the tests in paper 01's order, then the records. Assumes nothing.
 use Rattle.stream_record.proofs.Tests.{take-passed}
 use Rattle.stream_fill_in.proofs.Laws.{refused, filled}
 use borrow.Author.Needs.{needs}
-use Rattle.stream_fill_in.proofs.set_last.Statement.{statement}
-use Rattle.stream_fill_in.proofs.set_last.Tie as tie
+use Rattle.stream_fill_in.proofs.fill_in.Statement.{statement}
+use Rattle.stream_fill_in.proofs.fill_in.Tie as tie
 
 abbrev entry : tie.After-check-take → tie.Start
 entry c = c .before .before .before
@@ -45,8 +45,8 @@ returns-2 c =
     filled (a .level) (a .s) (a .capture .now) (t .check-take .result) (t .check-take .ensures) (told .enum-told .given .1)
     (fill .fill .last .1 .0) (fill .fill .result) (fill .fill .ensures)
 
-pub set-last-spec : {M : Type 1} → statement M
-set-last-spec =
+pub fill-in-spec : {M : Type 1} → statement M
+fill-in-spec =
     tie.close
     (tie.spec
     check-take-requires

@@ -1,0 +1,140 @@
+-- Fill-in of TLAST: it keeps a record's length and all other wires, so the same cycles are transfers; what is then harvested;
+-- and how records that all have TLAST are packed. Assumes nothing.
+use mathlib.Core.Path.{_≡_, refl, sym, ap, ap₂, _∙_}
+use mathlib.Core.Bool.{Bool, true, false, _&&_, cond}
+use mathlib.Core.List.{List, [], _∷_, _++_, map, append-nil, head?, getLast?}
+use mathlib.Core.Option.{Option, none, some}
+use Prim.Native.Nat.{ℕ, suc, _+_, _*_, _/_, _%_, _<_}
+use native.Mathlib.Omega.{arith}
+use lib.ListN.{length, length-map}
+use Rattle.stream_spec.specs.declared.Shape.{Shape}
+use Rattle.stream_spec.specs.Items.{Pair, Transfer, Item, byte, end, kept, transferItems, items}
+use Rattle.stream_spec.specs.Packed.{pack, apart, parted}
+use Rattle.stream_spec.specs.Layout.{bit, odd, bitOf, size, tlast, lastSet, Kept, records, recordCount, joined, transferOf, octets, packed}
+use Rattle.stream_spec.specs.Handshake.{transferred, handshakes, asTransfer, withLast, filledIn, asFilled}
+use Rattle.stream_spec.specs.Promises.{FilledHarvest, AllLast, EachItsPacket}
+use Rattle.stream_spec.proofs.Bits.{bit-zero, bit-suc, bit-one, odd-mask, bit-back}
+use Rattle.stream_spec.proofs.Size.{size-pos}
+use Rattle.stream_spec.proofs.Pack.{pack-parted}
+use Rattle.stream_spec.proofs.Records.{Sized, length-joined, records-joined, records-sized, length-pieces, whole-count, octets-append}
+
+-- ---- one record
+
+pub length-last : (level : Bool) (r : List ℕ) → length (withLast level r) ≡ length r
+length-last level [] = refl
+length-last level (f ∷ r) = refl
+
+-- TLAST is the level, and every other flag is as it was
+set-low : (level : Bool) (f : ℕ) → bit 0 (lastSet level f) ≡ level
+set-low level f =
+    let same : lastSet level f ≡ bitOf level + 2 * (f / 2) = omega arith in
+    bit-zero (lastSet level f) ∙ ap odd same ∙ odd-mask level (f / 2)
+
+set-above : (level : Bool) (x f : ℕ) → bit (suc x) (lastSet level f) ≡ bit (suc x) f
+set-above level x f =
+    let half : lastSet level f / 2 ≡ f / 2 = omega (arith, bit-one level) in
+    bit-suc x (lastSet level f) ∙ ap (bit x) half ∙ sym (bit-suc x f)
+
+-- so a cycle is a transfer filled in exactly where it is one as sampled
+filled-transferred : (level : Bool) (c : List ℕ) → transferred (withLast level c) ≡ transferred c
+filled-transferred level [] = refl
+filled-transferred level (f ∷ r) = rw (set-above level 2 f, set-above level 0 f, set-above level 1 f) refl
+
+filled-kept : (level : Bool) (n : ℕ) (c : List ℕ) → 0 < n → length c ≡ n → asTransfer (withLast level c) ≡ asFilled level c
+filled-kept level n [] h e = absurd (omega arith)
+filled-kept level n (f ∷ r) h e = rw (set-low level f) refl
+
+-- ---- all records of a take
+
+sized-last : (level : Bool) (n : ℕ) (rs : List (List ℕ)) → Sized n rs → Sized n (map (withLast level) rs)
+sized-last level n [] h = tt
+sized-last level n (r ∷ rs) h = (length-last level r ∙ h .0, sized-last level n rs (h .1))
+
+-- the records of a filled take
+pub filled-records : (level : Bool) (s : Shape) (xs : List ℕ) → records s (filledIn level s xs) ≡ map (withLast level) (records s xs)
+filled-records level s xs = records-joined s (map (withLast level) (records s xs)) (sized-last level (size s) (records s xs) (records-sized s xs))
+
+-- a filled take is as long as the take
+pub filled-long : (level : Bool) (s : Shape) (xs : List ℕ) → length xs % size s ≡ 0 → length (filledIn level s xs) ≡ length xs
+filled-long level s xs whole =
+    length-joined (size s) (map (withLast level) (records s xs)) (sized-last level (size s) (records s xs) (records-sized s xs))
+    ∙ ap (λ (n : ℕ). n * size s) (length-map (records s xs) (withLast level) ∙ length-pieces (size s) (recordCount s xs) xs)
+    ∙ sym (whole-count s xs whole)
+
+filled-handshakes : (level : Bool) (n : ℕ) (cs : List (List ℕ)) → 0 < n → Sized n cs
+    → map asTransfer (handshakes (map (withLast level) cs)) ≡ map (asFilled level) (handshakes cs)
+filled-handshakes level n [] h z = refl
+filled-handshakes level n (c ∷ cs) h z = go (transferred c) refl (filled-handshakes level n cs h (z .1))
+  where
+    go : (b : Bool) → transferred c ≡ b → map asTransfer (handshakes (map (withLast level) cs)) ≡ map (asFilled level) (handshakes cs)
+        → map asTransfer (handshakes (map (withLast level) (c ∷ cs))) ≡ map (asFilled level) (handshakes (c ∷ cs))
+    go true e rest =
+        rw (filled-transferred level c, e) (ap₂ {C = List (List ℕ)} (λ r rs. r ∷ rs) (filled-kept level n c h (z .0)) rest)
+    go false e rest = rw (filled-transferred level c, e) rest
+
+pub filled-harvest : FilledHarvest
+filled-harvest level s xs =
+    ap (λ (rs : List (List ℕ)). joined (map asTransfer (handshakes rs))) (filled-records level s xs)
+    ∙ ap joined (filled-handshakes level (size s) (records s xs) (size-pos s) (records-sized s xs))
+
+-- ---- the transfers that were sampled, at a level
+
+pub sized-filled : (level : Bool) (n : ℕ) (cs : List (List ℕ)) → 0 < n → Sized n cs → Sized n (map (asFilled level) (handshakes cs))
+sized-filled level n [] h z = tt
+sized-filled level n (c ∷ cs) h z = go (transferred c) refl (sized-filled level n cs h (z .1))
+  where
+    long : (c : List ℕ) → length c ≡ n → length (asFilled level c) ≡ n
+    long [] e = absurd (omega arith)
+    long (f ∷ r) e = e
+
+    go : (b : Bool) → transferred c ≡ b → Sized n (map (asFilled level) (handshakes cs)) → Sized n (map (asFilled level) (handshakes (c ∷ cs)))
+    go true e rest = rw e (long c (z .0), rest)
+    go false e rest = rw e rest
+
+-- they are the records of what is harvested
+pub harvest-records : (level : Bool) (s : Shape) (xs : List ℕ)
+    → records s (joined (map (asFilled level) (handshakes (records s xs)))) ≡ map (asFilled level) (handshakes (records s xs))
+harvest-records level s xs =
+    records-joined s (map (asFilled level) (handshakes (records s xs))) (sized-filled level (size s) (records s xs) (size-pos s) (records-sized s xs))
+
+pub filled-last : (level : Bool) (c : List ℕ) → tlast (asFilled level c) ≡ level
+filled-last level c = bit-back level
+
+pub all-last : (cs : List (List ℕ)) → AllLast (map (asFilled true) cs)
+all-last [] = tt
+all-last (c ∷ cs) = (filled-last true c, all-last cs)
+
+-- ---- records that all have TLAST
+
+-- the items of a transfer with TLAST end in an end, so what follows is packed apart
+ends-in-end : (p : Pair) (bytes : List Kept) → getLast? (map (byte p) bytes ++ (end p ∷ [])) ≡ some (end p)
+ends-in-end p [] = refl
+ends-in-end p (a ∷ []) = refl
+ends-in-end p (a ∷ b ∷ bytes) = ends-in-end p (b ∷ bytes)
+
+end-apart : (p : Pair) (next : Option (Item Kept)) → apart (some (end p)) next ≡ true
+end-apart p none = refl
+end-apart p (some i) = refl
+
+last-parted : (t : Transfer Kept) (is : List (Item Kept)) → t .last ≡ true → parted (transferItems t) is ≡ true
+last-parted t is e = rw (e, ends-in-end (t .pair) (kept (t .lanes))) (end-apart (t .pair) (head? is))
+
+-- a record alone has its own transfer's items, and nothing more
+alone : (s : Shape) (v : ℕ) (r : List ℕ) → length r ≡ size s → packed s v r ≡ octets (pack v (transferItems (transferOf s r)))
+alone s v r e =
+    let one : records s r ≡ r ∷ [] = ap (records s) (sym (append-nil r)) ∙ records-joined s (r ∷ []) (e, tt) in
+    ap (λ (rs : List (List ℕ)). octets (pack v (items (map (transferOf s) rs)))) one
+    ∙ ap (λ (is : List (Item Kept)). octets (pack v is)) (append-nil (transferItems (transferOf s r)))
+
+each-alone : (s : Shape) (v : ℕ) (rs : List (List ℕ)) → Sized (size s) rs → AllLast rs
+    → octets (pack v (items (map (transferOf s) rs))) ≡ joined (map (packed s v) rs)
+each-alone s v [] z h = refl
+each-alone s v (r ∷ rs) z h =
+    let t = transferOf s r in
+    let rest = items (map (transferOf s) rs) in
+    ap octets (pack-parted v (transferItems t) rest (last-parted t rest (h .0)))
+    ∙ octets-append (pack v (transferItems t)) (pack v rest)
+    ∙ ap₂ (λ (a b : List ℕ). a ++ b) (sym (alone s v r (z .0))) (each-alone s v rs (z .1) (h .1))
+
+pub each-its-packet : EachItsPacket
+each-its-packet s v xs h = each-alone s v (records s xs) (records-sized s xs) h
