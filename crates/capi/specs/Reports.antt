@@ -1,26 +1,20 @@
 -- The report as C sees it: paper 01's numbers of a report, the verdict first. What the report is of is report_spec's
--- `reportOf`, and a verdict's numbers are report_spec's `verdictValues`; here is only how a number stands for a verdict's word,
--- and for whether a file was read.
+-- `reportOf`, and a verdict's numbers are report_spec's `verdictValues`; here is only how a number stands for a verdict's word.
 use mathlib.Core.Path.{_≡_}
-use mathlib.Core.Bool.{Bool, not}
 use mathlib.Core.List.{List}
 use Prim.Native.Nat.{ℕ}
-use lib.Dec.{eqb}
 use lib.ListN.{length}
 use Rattle.stream_spec.specs.Memory.{inFront}
 use Rattle.report_spec.specs.declared.Verdict.{Verdict}
 use Rattle.report_spec.specs.Report.{Word, saysClean, saysBroken, saysRefused, verdictValues, Whole, contents, reportOf, fitting}
 use Rattle.capi.specs.declared.report_calls.ReportAnswer.{ReportAnswer}
+use Rattle.capi.specs.Shows.{flag}
 
--- ---- what C hands over
-
--- 0 says that a file can't be read, any other number that it was read whole
-abbrev pub wasRead : ℕ → Bool
-wasRead n = not (eqb n 0)
+-- ---- what C hands over: 0 says that a file can't be read, any other number that it was read whole
 
 abbrev pub reportAsked : ℕ → List ℕ → ℕ → List ℕ → List ℕ → Whole
 reportAsked sheetRead sheet captureRead capture out =
-    reportOf (contents (wasRead sheetRead) sheet) (contents (wasRead captureRead) capture) (length out)
+    reportOf (contents (flag sheetRead) sheet) (contents (flag captureRead) capture) (length out)
 
 -- ---- what C is shown
 

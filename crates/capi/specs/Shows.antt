@@ -1,8 +1,10 @@
 -- The numbers of a burst's, a cut's and a stream's answer as C sees them, against paper 01's numbers that the calls' definitions
 -- give. The report is in Reports.
 use mathlib.Core.Path.{_≡_}
+use mathlib.Core.Bool.{Bool, not}
 use mathlib.Core.List.{List}
 use Prim.Native.Nat.{ℕ}
+use lib.Dec.{eqb}
 use lib.ListN.{length}
 use Rattle.axi3_spec.specs.Answers as axi3
 use Rattle.burst_spec.specs.Answers as burst
@@ -12,6 +14,10 @@ use Rattle.capi.specs.declared.stream_calls.PartAnswer.{PartAnswer}
 use Rattle.capi.specs.declared.stream_calls.StreamAnswer.{StreamAnswer}
 use Rattle.capi.specs.declared.burst_calls.BurstAnswer.{BurstAnswer}
 use Rattle.capi.specs.declared.axi3_calls.CutAnswer.{CutAnswer}
+
+-- No bool crosses the border: 0 is false, any other number is true.
+abbrev pub flag : ℕ → Bool
+flag n = not (eqb n 0)
 
 -- A burst refusal's place and rule are always 0, so the struct has no field for them.
 pub record ShowsBurst (a : BurstAnswer) (values : burst.Values) : Type 0 where

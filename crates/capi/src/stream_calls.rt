@@ -6,11 +6,10 @@ use stream_spec::Verdict;
 use stream_spec::Written;
 ghost use mathlib.Core.Path.{_≡_};
 ghost use lib.ListN.{length};
-ghost use Rattle.stream_spec.specs.Handshake.{baseLevel};
 ghost use Rattle.stream_spec.specs.Layout.{ofWidth};
 ghost use Rattle.stream_spec.specs.Answers.{refusalValues, verdictValues, writtenValues, lookupValues};
 ghost use Rattle.stream_spec.specs.Answers.{judgeAnswer, harvestAnswer, harvestAfter, fillAnswer, fillAfter, repackAnswer, repackAfter, downsizeAnswer, downsizeAfter};
-ghost use Rattle.capi.specs.Shows.{ShowsStream, ShowsPart};
+ghost use Rattle.capi.specs.Shows.{flag, ShowsStream, ShowsPart};
 
 // What a stream call answers: the refusal's number, or 0; its place, or the broken cycle; the rule; the count of transfers
 // or records. What it has not is 0.
@@ -76,13 +75,13 @@ pub extern "C" fn urd_harvest(width: usize, capture: &[u8], out: &mut [u8]) -> S
     of_written(stream_harvest::harvest(shape_of(width), capture, out))
 }
 
-// Clears TLAST in a lent take.
+// Sets TLAST in a lent take: low where `level` is 0, else high.
 #[no_mangle]
-pub extern "C" fn urd_fill_in(width: usize, capture: &mut [u8]) -> StreamAnswer
+pub extern "C" fn urd_fill_in(width: usize, capture: &mut [u8], level: u32) -> StreamAnswer
     ensures { λ a. ⌜ ShowsStream a (writtenValues (fillAnswer (ofWidth width) (now (capture .entry)))) ⌝ }
-    ensures { λ a. ⌜ now (capture .exit) ≡ fillAfter baseLevel (ofWidth width) (now (capture .entry)) ⌝ }
+    ensures { λ a. ⌜ now (capture .exit) ≡ fillAfter (flag level) (ofWidth width) (now (capture .entry)) ⌝ }
 {
-    of_written(stream_fill_in::fill_in(shape_of(width), capture))
+    of_written(stream_fill_in::fill_in(shape_of(width), capture, level != 0))
 }
 
 // Repacks a take of transfer records to width v into a lent output.

@@ -15,11 +15,11 @@ use Rattle.stream_spec.specs.declared.Verdict.the-variants.{Clean as Sound, Bro
 use Rattle.refusal.specs.Checks.{first}
 use Rattle.stream_spec.specs.Layout.{widthMost}
 use Rattle.stream_spec.specs.Checks.{widthCheck, lengthCheck}
-use Rattle.stream_spec.specs.Handshake.{harvested}
+use Rattle.stream_spec.specs.Handshake.{low, high, harvested}
 use Rattle.stream_spec.specs.Answers.{judgeAnswer, fillAfter, Judged}
 use Rattle.report_setup_spec.specs.declared.Setup.{Setup}
 use Rattle.report_setup_spec.specs.declared.Tlast.{Tlast}
-use Rattle.report_setup_spec.specs.declared.Tlast.the-variants.{Wired, Absent}
+use Rattle.report_setup_spec.specs.declared.Tlast.the-variants.{Wired, Absent, Low}
 use Rattle.report_setup_spec.specs.declared.Sheet.{Sheet}
 use Rattle.report_setup_spec.specs.declared.Sheet.the-variants.{Read, Refused as NoSheet}
 use Rattle.report_setup_spec.specs.Grammar.{sheetOf}
@@ -103,11 +103,16 @@ found-alone true q r e = (refl, cc)
 found-alone false q r e = let z : _≡_ {A = ℕ} 0 1 = cc in absurd (omega arith)
 
 -- a take of a bad length is not filled in, and judging refuses it
+ill-kept : (level : Bool) (s : Shape) (capture : List ℕ) → widthCheck (s .width) .found ≡ false → lengthCheck s capture .found ≡ true
+    → fillAfter level s capture ≡ capture
+unfolding fillAfter
+ill-kept level s capture w h = rw (w, h) refl
+
 ill-filled : (s : Shape) (wire : Tlast) (capture : List ℕ) → widthCheck (s .width) .found ≡ false → lengthCheck s capture .found ≡ true
     → prepared wire s capture ≡ capture
-unfolding fillAfter
 ill-filled s Wired capture w h = refl
-ill-filled s Absent capture w h = rw (w, h) refl
+ill-filled s Absent capture w h = ill-kept high s capture w h
+ill-filled s Low capture w h = ill-kept low s capture w h
 
 ill-afterJudging : (s : Shape) (capture : List ℕ) → widthCheck (s .width) .found ≡ false → lengthCheck s capture .found ≡ true
     → judgeAnswer s capture ≡ NotJudged Length

@@ -162,14 +162,17 @@ fn packets(s: Shape, transfers: &[u8]) -> usize
     n
 }
 
-// Fill-in, for a port that has no TLAST wire.
+// Fill-in, for a port that has no TLAST wire: `tlast=none` is high, `tlast=low` low.
 fn prepare(wire: Tlast, s: Shape, capture: &mut [u8])
     ensures { λ r. ⌜ now (capture .exit) ≡ prepared wire s (now (capture .entry)) ⌝ }
 {
     match wire {
         Tlast::Wired => {}
         Tlast::Absent => {
-            stream_fill_in::fill_in(s, capture);
+            stream_fill_in::fill_in(s, capture, true);
+        }
+        Tlast::Low => {
+            stream_fill_in::fill_in(s, capture, false);
         }
     }
 }

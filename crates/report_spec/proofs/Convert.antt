@@ -1,7 +1,8 @@
--- Converting the harvested transfers, in either mode: what its answer says of the refusal and of the result's length.
+-- Converting the harvested transfers, in either mode: what its answer says of the refusal and of the result's length, and the
+-- result of records that all have TLAST.
 -- Assumes nothing.
-use mathlib.Core.Path.{_≡_, refl}
-use mathlib.Core.List.{List, [], _∷_, _++_}
+use mathlib.Core.Path.{_≡_, refl, sym, ap, ap₂, _∙_, subst}
+use mathlib.Core.List.{List, [], _∷_, _++_, map, append-nil}
 use mathlib.Core.Option.{Option, none, some}
 use Prim.Native.Nat.{ℕ, _*_, _≤_}
 use native.Mathlib.Omega.{arith}
@@ -11,11 +12,14 @@ use Rattle.refusal.specs.declared.Refusal.{Refusal}
 use Rattle.refusal.proofs.First.{first-none, append-none}
 use Rattle.stream_spec.specs.declared.Shape.{Shape}
 use Rattle.stream_spec.specs.declared.Written.the-variants.{Records, Refused as NotWritten}
-use Rattle.stream_spec.specs.Layout.{size, atWidth, records, transfers, packedTransfers, sliced, slicedTransfers}
+use Rattle.stream_spec.specs.Layout.{size, atWidth, records, joined, transferOf, transfers, octets, packedTransfers, packed, sliced, slicedTransfers}
 use Rattle.stream_spec.specs.Checks.{shapeChecks, ratioCheck, lengthCheck, transferChecks, roomCheck}
 use Rattle.stream_spec.specs.Answers.{written, repackRefusal, repackAnswer, downsizeRefusal, downsizeAnswer}
+use Rattle.stream_spec.specs.Packed.{sliceTransfer, slices}
+use Rattle.stream_spec.specs.Promises.{AllLast}
 use Rattle.stream_spec.proofs.Pack.{wide-slices}
-use Rattle.stream_spec.proofs.Records.{length-octets, length-packed}
+use Rattle.stream_spec.proofs.Records.{Sized, record-alone, records-joined, length-octets, octets-append, length-packed}
+use Rattle.stream_spec.proofs.Promises.{eachItsPacket}
 use Rattle.stream_spec.proofs.Repack.{repacks-of}
 use Rattle.report_setup_spec.specs.declared.Mode.{Mode}
 use Rattle.report_setup_spec.specs.declared.Mode.the-variants.{Pack, Lanes}
@@ -51,6 +55,29 @@ result-fits Lanes s v xs room e =
     let c = first-none (lengthCheck s xs) (recs ++ end) (b .1) in
     let d = append-none recs end (c .1) in
     ltb-false room (length (sliced s v xs)) (first-none (roomCheck (sliced s v xs) room) [] (d .1) .0)
+
+-- ---- record by record
+
+-- a record is cut by itself
+each-sliced : (s : Shape) (v : ℕ) (rs : List (List ℕ)) → Sized (size s) rs
+    → octets (slices (s .width) v (map (transferOf s) rs)) ≡ joined (map (sliced s v) rs)
+each-sliced s v [] z = refl
+each-sliced s v (r ∷ rs) z =
+    let t = transferOf s r in
+    let alone : sliced s v r ≡ octets (sliceTransfer (s .width) v t) =
+    ap (λ (rs : List (List ℕ)). octets (slices (s .width) v (map (transferOf s) rs))) (record-alone s r (z .0))
+    ∙ ap octets (append-nil (sliceTransfer (s .width) v t)) in
+    octets-append (sliceTransfer (s .width) v t) (slices (s .width) v (map (transferOf s) rs))
+    ∙ ap₂ (λ (a b : List ℕ). a ++ b) (sym alone) (each-sliced s v rs (z .1))
+
+-- where each record has TLAST, each is converted by itself, in either mode
+pub each-converted : (m : Mode) (s : Shape) (v : ℕ) (rs : List (List ℕ)) → Sized (size s) rs → AllLast rs
+    → convertResult m s v (joined rs) ≡ joined (map (convertResult m s v) rs)
+each-converted Pack s v rs z h =
+    eachItsPacket s v (joined rs) (subst AllLast (sym (records-joined s rs z)) h)
+    ∙ ap (λ (rs : List (List ℕ)). joined (map (packed s v) rs)) (records-joined s rs z)
+each-converted Lanes s v rs z h =
+    ap (λ (rs : List (List ℕ)). octets (slices (s .width) v (map (transferOf s) rs))) (records-joined s rs z) ∙ each-sliced s v rs z
 
 -- ---- what an answer says
 

@@ -1,14 +1,30 @@
--- Packet ends: a stream's records with TLAST are the end items it carries, so two streams with the same items have as many.
+-- Packet ends: a stream's records with TLAST are the end items it carries, so two streams with the same items have as many;
+-- and how many a stream has that was filled in.
 -- Assumes nothing.
 use mathlib.Core.Path.{_≡_, refl, sym, ap, _∙_}
 use mathlib.Core.Bool.{Bool, true, false, cond}
 use mathlib.Core.List.{List, [], _∷_, _++_, map}
-use Prim.Native.Nat.{ℕ, suc, _+_}
+use Prim.Native.Nat.{ℕ, suc, _+_, _*_}
+use native.Mathlib.Nat.{mul-zero, mul-suc}
 use native.Mathlib.Omega.{arith}
+use lib.ListN.{length}
 use Rattle.stream_spec.specs.declared.Shape.{Shape}
 use Rattle.stream_spec.specs.Items.{Pair, Transfer, Item, byte, end, kept, transferItems, items}
 use Rattle.stream_spec.specs.Layout.{bitOf, Kept, records, transferOf, streamItems}
+use Rattle.stream_spec.specs.Handshake.{asFilled}
+use Rattle.stream_spec.proofs.Fill.{filled-last}
 use Rattle.report_spec.specs.Report.{lasts, packetCount}
+
+-- of records that are filled in at a level, all have TLAST or none
+pub lasts-filled : (level : Bool) (cs : List (List ℕ)) → lasts (map (asFilled level) cs) ≡ bitOf level * length (map (asFilled level) cs)
+lasts-filled level [] = sym (mul-zero (bitOf level))
+lasts-filled level (c ∷ cs) =
+    omega (
+      arith,
+      ap bitOf (filled-last level c),
+      lasts-filled level cs,
+      mul-suc (bitOf level) (length (map (asFilled level) cs)),
+    )
 
 abbrev ends : List (Item Kept) → ℕ
 ends [] = 0

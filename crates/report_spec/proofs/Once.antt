@@ -11,7 +11,7 @@ use Rattle.report_setup_spec.specs.declared.Setup.{Setup}
 use Rattle.report_spec.specs.declared.Tally.{Tally}
 use Rattle.report_spec.specs.declared.Summary.{Summary}
 use Rattle.report_spec.specs.Report.{outShape, packetCount, verdictValues, Whole, Reported}
-use Rattle.report_spec.specs.Promises.{WritesNothing, CleanTally}
+use Rattle.report_spec.specs.Promises.{WritesNothing, CleanTally, OnePacketEach, NoPacketEnds}
 
 pub both : {A : Type 0} {x y z : A} → x ≡ z → y ≡ z → x ≡ y
 both p q = p ∙ sym q
@@ -44,6 +44,15 @@ tally-once p q = λ i. record {
 pub items-once : {u : Setup} {capture : List ℕ} {room : ℕ} {o o' : List ℕ} {a b : Tally} → CleanTally u capture room o a → CleanTally u capture room o' b
     → (streamItems (outShape u) o ≡ streamItems (outShape u) o') × (packetCount (outShape u) o ≡ packetCount (outShape u) o')
 items-once p q = (both (p .items) (q .items), sym (p .packetsOut) ∙ both (p .packets) (q .packets) ∙ q .packetsOut)
+
+-- a port without a TLAST wire: the word decides the result, octet for octet, and both counts
+pub each-once : {u : Setup} {capture o o' : List ℕ} {a b : Tally} → OnePacketEach u capture o a → OnePacketEach u capture o' b
+    → (o ≡ o') × (a .transfers ≡ b .transfers) × (a .packets ≡ b .packets)
+each-once p q = (both (p .apart) (q .apart), both (p .transfers) (q .transfers), p .packets ∙ both (p .transfers) (q .transfers) ∙ sym (q .packets))
+
+pub none-once : {u : Setup} {capture o o' : List ℕ} {a b : Tally} → NoPacketEnds u capture o a → NoPacketEnds u capture o' b
+    → (o ≡ o') × (a .transfers ≡ b .transfers) × (a .packets ≡ b .packets)
+none-once p q = (both (p .across) (q .across), both (p .transfers) (q .transfers), both (p .packets) (q .packets))
 
 -- a result is a legal stream of so many records, and they fit
 pub result-fits : {u : Setup} {capture : List ℕ} {room : ℕ} {result : List ℕ} {t : Tally} → CleanTally u capture room result t

@@ -5,7 +5,7 @@ use mathlib.Core.Logic.{_≢_}
 use mathlib.Core.List.{List, [], _∷_, map}
 use mathlib.Core.Option.{Option, none, some}
 use Prim.Native.Nat.{ℕ, suc, _*_, _/_, _%_, _≤_}
-use native.Mathlib.Nat.{le-trans, mul-div-cancel}
+use native.Mathlib.Nat.{le-trans, zero-mul, one-mul, mul-div-cancel}
 use native.Mathlib.Omega.{arith}
 use borrow.Author.Tests.{eqb-true, eqb-false, not-false}
 use lib.Dec.{eqb, ltb}
@@ -18,10 +18,10 @@ use Rattle.stream_spec.specs.declared.Verdict.{Verdict as Judgement}
 use Rattle.stream_spec.specs.declared.Verdict.the-variants.{Clean as Sound, Broken as Breaks, Refused as NotJudged}
 use Rattle.stream_spec.specs.declared.Written.{Written}
 use Rattle.stream_spec.specs.declared.Written.the-variants.{Records, Refused as NotWritten}
-use Rattle.stream_spec.specs.Layout.{size, atWidth, records, recordCount, joined, streamItems, sliced}
+use Rattle.stream_spec.specs.Layout.{bitOf, size, atWidth, records, recordCount, joined, streamItems, sliced}
 use Rattle.refusal.specs.Checks.{Check, first}
 use Rattle.stream_spec.specs.Checks.{ratioCheck, lengthCheck, cycleChecks, transferChecks, roomCheck}
-use Rattle.stream_spec.specs.Handshake.{Finding, firstFinding, transferCount, withLast, filledIn, baseLevel}
+use Rattle.stream_spec.specs.Handshake.{Finding, firstFinding, handshakes, transferCount, low, high, harvested, withLast, filledIn}
 use Rattle.stream_spec.specs.Answers.{verdict, written, lentAfter, judgeChecks, judgeAnswer, harvestRefusal, fillRefusal, fillAfter}
 use Rattle.stream_spec.specs.Memory.{inFront}
 use Rattle.stream_spec.specs.Legal.{Octets, Legal}
@@ -29,25 +29,26 @@ use Rattle.refusal.proofs.First.{first-none, append-found, append-passed}
 use Rattle.stream_spec.proofs.Legal.{octets-append, octets-drop, EachOctets, pieces-octets}
 use Rattle.stream_spec.proofs.Passed.{fits-length}
 use Rattle.stream_spec.proofs.Size.{size-pos}
-use Rattle.stream_spec.proofs.Records.{length-pieces}
+use Rattle.stream_spec.proofs.Records.{length-pieces, records-sized}
 use Rattle.stream_spec.proofs.Harvest.{harvested-count}
+use Rattle.stream_spec.proofs.Fill.{clean-filled, sized-filled, harvest-records, all-last}
 use Rattle.stream_spec.proofs.Clean.{clean-count, clean-passed, clean-harvested}
-use Rattle.stream_spec.proofs.Promises.{repackingKeeps, laneKeeping, harvestLegal, harvestRepacks, packedLegal}
+use Rattle.stream_spec.proofs.Promises.{repackingKeeps, laneKeeping, harvestLegal, harvestRepacks, packedLegal, filledHarvest}
 use Rattle.report_setup_spec.specs.declared.Setup.{Setup}
 use Rattle.report_setup_spec.specs.declared.Mode.{Mode}
 use Rattle.report_setup_spec.specs.declared.Mode.the-variants.{Pack, Lanes}
 use Rattle.report_setup_spec.specs.declared.Tlast.{Tlast}
-use Rattle.report_setup_spec.specs.declared.Tlast.the-variants.{Wired, Absent}
+use Rattle.report_setup_spec.specs.declared.Tlast.the-variants.{Wired, Absent, Low}
 use Rattle.report_setup_spec.specs.declared.Sheet.{Sheet}
 use Rattle.report_setup_spec.specs.declared.Sheet.the-variants.{Read, Refused as NoSheet}
 use Rattle.report_setup_spec.specs.Grammar.{sheetOf, text as ascii}
 use Rattle.report_spec.specs.declared.Tally.{Tally}
 use Rattle.report_spec.specs.declared.Verdict.the-variants.{Clean, Broken, Refused}
-use Rattle.report_spec.specs.Report.{Outcome, shapeOf, outShape, prepared, cyclesOf, transfersOf, packetCount, convertAnswer, convertResult, tally, converted, convertedTransfers, afterJudging, captureOutcome, ratioChecks, setupChecks, Passes, unless, setupOutcome, sheetOutcome, outcomeOf, Whole, whole, reportOf}
-use Rattle.report_spec.specs.Promises.{OctetsOf, ReportsSetup, isClean, OnlyWhenClean, CleanTally, CleanTallies, mayShow, RefusalsShown, NeverReservedNorUnclean, PackNeverRatio, orderedChecks, convertedOf, tallyOf, inOrder, ReportInOrder, TextShort}
+use Rattle.report_spec.specs.Report.{Outcome, shapeOf, outShape, prepared, cyclesOf, transfersOf, lasts, packetCount, convertAnswer, convertResult, tally, converted, convertedTransfers, afterJudging, captureOutcome, ratioChecks, setupChecks, Passes, unless, setupOutcome, sheetOutcome, outcomeOf, Whole, whole, reportOf}
+use Rattle.report_spec.specs.Promises.{OctetsOf, ReportsSetup, isClean, OnlyWhenClean, CleanTally, CleanTallies, sampledAt, resultOf, TlastNone, TlastLow, mayShow, RefusalsShown, NeverReservedNorUnclean, PackNeverRatio, orderedChecks, convertedOf, tallyOf, inOrder, ReportInOrder, TextShort}
 use Rattle.report_spec.proofs.Passes.{sound-in, sound-out, sound-ratio, fits-out}
-use Rattle.report_spec.proofs.Convert.{convertRefusal, convertCount, answer-is, result-long, result-fits, not-written, IsWritten, is-written}
-use Rattle.report_spec.proofs.Ends.{same-ends}
+use Rattle.report_spec.proofs.Convert.{convertRefusal, convertCount, answer-is, result-long, result-fits, each-converted, not-written, IsWritten, is-written}
+use Rattle.report_spec.proofs.Ends.{lasts-filled, same-ends}
 use Rattle.report_spec.proofs.Short.{two-short, three-short}
 
 pub reportsSetup : ReportsSetup
@@ -110,12 +111,16 @@ lent-octets : (o : Option Refusal) (result lent : List ℕ) → Octets result �
 lent-octets (some r) result lent h k = k
 lent-octets none result lent h k = octets-append result _ h (octets-drop (length result) lent k)
 
-prepared-octets : (wire : Tlast) (s : Shape) (xs : List ℕ) → Octets xs → Octets (prepared wire s xs)
+after-octets : (level : Bool) (s : Shape) (xs : List ℕ) → Octets xs → Octets (fillAfter level s xs)
 unfolding fillAfter
+after-octets level s xs h =
+    lent-octets (fillRefusal s xs) (filledIn level s xs) xs
+    (filled-octets level (records s xs) (pieces-octets (recordCount s xs) (size s) xs h)) h
+
+prepared-octets : (wire : Tlast) (s : Shape) (xs : List ℕ) → Octets xs → Octets (prepared wire s xs)
 prepared-octets Wired s xs h = h
-prepared-octets Absent s xs h =
-    lent-octets (fillRefusal s xs) (filledIn baseLevel s xs) xs
-    (filled-octets baseLevel (records s xs) (pieces-octets (recordCount s xs) (size s) xs h)) h
+prepared-octets Absent s xs h = after-octets high s xs h
+prepared-octets Low s xs h = after-octets low s xs h
 
 -- ---- a clean take's transfers: converting them is refused for want of room, and for nothing else
 
@@ -378,6 +383,58 @@ cleanTallies u capture room t o e =
     subst (λ (x : Tally). CleanTally u capture room (setupOutcome u (some capture) room .result) x) (sym (r .is))
     (subst (λ (xs : List ℕ). CleanTally u capture room xs (tally (r .count) (packetCount (shapeOf u) (transfersOf u capture)) (r .number)))
     (sym (result-is u capture room t r)) (tallied u capture room t r o))
+
+-- ---- ports without a TLAST wire: a clean take of a sheet whose word fills in with this level
+
+module _ (u : Setup) (capture : List ℕ) (room : ℕ) (t : Tally) (level : Bool) (word : cyclesOf u capture ≡ fillAfter level (shapeOf u) capture)
+    (r : Reached u capture room t) where
+  abbrev sampled : List (List ℕ)
+  sampled = sampledAt level u capture
+
+  harvest-is : transfersOf u capture ≡ joined sampled
+  harvest-is =
+      ap (harvested (shapeOf u)) (word ∙ clean-filled level (shapeOf u) capture (r .count) (sym (ap (judgeAnswer (shapeOf u)) word) ∙ r .clean))
+      ∙ filledHarvest level (shapeOf u) capture
+
+  records-are : records (shapeOf u) (transfersOf u capture) ≡ sampled
+  records-are = ap (records (shapeOf u)) harvest-is ∙ harvest-records level (shapeOf u) capture
+
+  sampled-count : t .transfers ≡ length sampled
+  sampled-count =
+      ap (λ (x : Tally). x .transfers) (r .is) ∙ clean-count (shapeOf u) (cyclesOf u capture) (r .count) (r .clean)
+      ∙ sym (harvested-count (shapeOf u) (cyclesOf u capture)) ∙ ap length records-are
+
+  sampled-ends : t .packets ≡ bitOf level * length sampled
+  sampled-ends =
+      ap (λ (x : Tally). x .packets) (r .is) ∙ ap lasts records-are ∙ lasts-filled level (handshakes (records (shapeOf u) capture))
+
+  sampled-result : setupOutcome u (some capture) room .result ≡ resultOf u (joined sampled)
+  sampled-result = result-is u capture room t r ∙ ap (resultOf u) harvest-is
+
+pub tlastNone : TlastNone
+tlastNone u capture room t w e =
+    let word : cyclesOf u capture ≡ fillAfter high (shapeOf u) capture = ap (λ (x : Tlast). prepared x (shapeOf u) capture) w in
+    let r = reached u capture room t e in
+    let cs = records (shapeOf u) capture in
+    let count = sampled-count u capture room t high word r in
+    record {
+      transfers = count;
+      packets = sampled-ends u capture room t high word r ∙ one-mul (length (sampledAt high u capture)) ∙ sym count;
+      apart =
+          sampled-result u capture room t high word r
+          ∙ each-converted (u .mode) (shapeOf u) (u .«width_out») (sampledAt high u capture)
+          (sized-filled high (size (shapeOf u)) cs (size-pos (shapeOf u)) (records-sized (shapeOf u) capture)) (all-last (handshakes cs));
+    }
+
+pub tlastLow : TlastLow
+tlastLow u capture room t w e =
+    let word : cyclesOf u capture ≡ fillAfter low (shapeOf u) capture = ap (λ (x : Tlast). prepared x (shapeOf u) capture) w in
+    let r = reached u capture room t e in
+    record {
+      transfers = sampled-count u capture room t low word r;
+      packets = sampled-ends u capture room t low word r ∙ zero-mul (length (sampledAt low u capture));
+      across = sampled-result u capture room t low word r;
+    }
 
 -- ---- 01's order
 

@@ -3,35 +3,36 @@
 -- Assumes nothing.
 use mathlib.Core.Path.{_≡_, refl, sym, ap, _∙_}
 use mathlib.Core.Bool.{Bool, true, false}
-use mathlib.Core.List.{List, [], _∷_, map}
+use mathlib.Core.List.{List, [], _∷_, _++_, map}
 use mathlib.Core.Logic.{_≢_}
 use mathlib.Core.Option.{Option, none, some}
 use Prim.Native.Nat.{ℕ, _≤_}
 use native.Mathlib.Omega.{arith}
-use lib.ListN.{length}
+use lib.ListN.{length, length-map}
 use Rattle.refusal.specs.Code.{codeOf}
 use Rattle.refusal.specs.declared.Refusal.{Refusal}
 use Rattle.refusal.specs.declared.Refusal.the-variants.{Field, Reserved, Room, Ratio, Unclean}
-use Rattle.stream_spec.specs.Layout.{size}
+use Rattle.stream_spec.specs.Layout.{size, records}
 use Rattle.refusal.specs.Checks.{first}
 use Rattle.stream_spec.specs.Checks.{roomCheck}
-use Rattle.stream_spec.specs.Handshake.{Finding, firstFinding}
-use Rattle.stream_spec.specs.Answers.{judgeAnswer, repackAnswer}
+use Rattle.stream_spec.specs.Handshake.{Finding, firstFinding, handshakes, transferCount, low, high, asFilled}
+use Rattle.stream_spec.specs.Answers.{judgeAnswer, fillAfter, repackAnswer}
 use Rattle.stream_spec.specs.Memory.{inFront}
 use Rattle.stream_spec.specs.Legal.{Octets}
 use Rattle.stream_spec.proofs.Tables.{octets-tested}
 use Rattle.report_setup_spec.specs.declared.Setup.{Setup}
 use Rattle.report_setup_spec.specs.declared.Mode.the-variants.{Pack, Lanes}
-use Rattle.report_setup_spec.specs.declared.Tlast.the-variants.{Wired}
+use Rattle.report_setup_spec.specs.declared.Tlast.{Tlast}
+use Rattle.report_setup_spec.specs.declared.Tlast.the-variants.{Wired, Absent, Low}
 use Rattle.report_setup_spec.specs.declared.Sheet.the-variants.{Read, Refused as NoSheet}
 use Rattle.report_setup_spec.specs.Grammar.{sheetOf}
 use Rattle.report_setup_spec.specs.Answers.{sheetValues}
 use Rattle.report_spec.specs.declared.Tally.{Tally}
 use Rattle.report_spec.specs.declared.Verdict.the-variants.{Clean, Broken, Refused}
 use Rattle.report_spec.specs.Report.{shapeOf, cyclesOf, tally, setupOutcome, sheetOutcome, verdictValues, textOf, whole, reportOf}
-use Rattle.report_spec.specs.Promises.{OctetsOf, isClean, CleanTally, mayShow, orderedChecks, convertedOf, tallyOf, inOrder}
+use Rattle.report_spec.specs.Promises.{OctetsOf, isClean, CleanTally, OnePacketEach, NoPacketEnds, mayShow, orderedChecks, convertedOf, tallyOf, inOrder}
 use Rattle.report_spec.specs.Cases.{says, p1Sheet, p1Take, p1Result, cycle}
-use Rattle.report_spec.proofs.Promises.{reportsSetup, onlyWhenClean, cleanTallies, refusalsShown, neverReservedNorUnclean, packNeverRatio, reportInOrder, textShort, no}
+use Rattle.report_spec.proofs.Promises.{reportsSetup, onlyWhenClean, cleanTallies, tlastNone, tlastLow, refusalsShown, neverReservedNorUnclean, packNeverRatio, reportInOrder, textShort, no}
 
 -- ---- what the promises ask
 
@@ -92,6 +93,16 @@ module _ (sheet : List ℕ) (u : Setup) (e : sheetOf sheet ≡ Read u) (capture 
   pub pack-no-ratio : u .mode ≡ Pack → OctetsOf capture → reportOf (some sheet) capture room .verdict ≡ Refused Ratio → ⊥
   pack-no-ratio m o h = packNeverRatio sheet u e m capture room Ratio o h refl
 
+-- without a TLAST wire the transfers are those of the take as it was sampled, whatever level is filled in
+module _ (u : Setup) (capture : List ℕ) (room : ℕ) (t : Tally) (clean : setupOutcome u (some capture) room .verdict ≡ Clean t) where
+  pub none-sampled : u .tlast ≡ Absent → t .packets ≡ transferCount (shapeOf u) capture
+  none-sampled e =
+      let p = tlastNone u capture room t e clean in
+      p .packets ∙ p .transfers ∙ length-map (handshakes (records (shapeOf u) capture)) (asFilled high)
+
+  pub low-sampled : u .tlast ≡ Low → t .transfers ≡ transferCount (shapeOf u) capture
+  low-sampled e = tlastLow u capture room t e clean .transfers ∙ length-map (handshakes (records (shapeOf u) capture)) (asFilled low)
+
 -- ".. LENGTH, FIELD, a broken verdict, and ROOM last": each kind of verdict, where those before it are not there
 module _ (u : Setup) (capture : List ℕ) (room : ℕ) (o : Octets capture) where
   abbrev tests : Option Refusal
@@ -123,7 +134,7 @@ module _ (u : Setup) (capture : List ℕ) (room : ℕ) (o : Octets capture) wher
       pub else-clean : roomy ≡ none → setupOutcome u (some capture) room .verdict ≡ Clean (tallyOf u capture)
       else-clean k = sound ∙ ap (λ (x : Option Refusal). inOrder none none x (tallyOf u capture)) k
 
--- ---- at examples: P1, a take with a reserved lane, the longest text
+-- ---- at examples: P1, a port without a TLAST wire, a take with a reserved lane, the longest text
 
 abbrev p1 : Setup
 p1 = record { «width_in» = 4; «width_out» = 2; mode = Pack; tlast = Wired }
@@ -131,6 +142,27 @@ p1 = record { «width_in» = 4; «width_out» = 2; mode = Pack; tlast = Wired }
 pub p1-tallied : CleanTally p1 p1Take 18 p1Result (tally 1 1 2)
 unfolding size judgeAnswer repackAnswer
 p1-tallied = cleanTallies p1 p1Take 18 (tally 1 1 2) (octets-tested p1Take .1 refl) refl
+
+-- a data byte and an all-null transfer, sampled without TLAST and with it; at width 2 a record each, or one record for both
+abbrev unwired : Tlast → Setup
+unwired wire = record { «width_in» = 1; «width_out» = 2; mode = Pack; tlast = wire }
+
+abbrev unwiredTake : List ℕ
+unwiredTake = cycle 0x0E 0 1 1 ++ cycle 0x0F 0 0 0
+
+abbrev apartResult : List ℕ
+apartResult = 0x01 ∷ 0x00 ∷ 0x00 ∷ 0x01 ∷ 0x00 ∷ 0x01 ∷ 0x00 ∷ 0x07 ∷ 0x00 ∷ 0x01 ∷ 0x00 ∷ 0x00 ∷ 0x00 ∷ 0x00 ∷ 0x00 ∷ 0x00 ∷ 0x00 ∷ 0x00 ∷ []
+
+abbrev acrossResult : List ℕ
+acrossResult = 0x00 ∷ 0x00 ∷ 0x00 ∷ 0x01 ∷ 0x00 ∷ 0x01 ∷ 0x00 ∷ 0x07 ∷ 0x00 ∷ []
+
+pub none-ends-each : OnePacketEach (unwired Absent) unwiredTake apartResult (tally 2 2 2)
+unfolding size judgeAnswer fillAfter repackAnswer
+none-ends-each = tlastNone (unwired Absent) unwiredTake 18 (tally 2 2 2) refl refl
+
+pub low-ends-none : NoPacketEnds (unwired Low) unwiredTake acrossResult (tally 2 0 1)
+unfolding size judgeAnswer fillAfter repackAnswer
+low-ends-none = tlastLow (unwired Low) unwiredTake 9 (tally 2 0 1) refl refl
 
 -- one octet short
 pub p1-unwritten : (out : List ℕ) → inFront (reportOf p1Sheet (some p1Take) 17 .result) out ≡ out

@@ -101,12 +101,31 @@ cases =
     ∷ tells (says "width_in=1\nwidth_out=1\nmode=pack\ntlast=wired\n") (some (last ++ cycle 0x0E 0 0 1)) 0 (shows saysBroken 0 1 4 0 0 0) "verdict=broken\ncycle=1\nrule=4\n" []
     -- W15: TLAST turns while a transfer waits: broken
     ∷ tells (says "width_in=1\nwidth_out=2\nmode=pack\ntlast=wired\n") (some (plain ++ waits ++ last)) 9 (shows saysBroken 0 2 3 0 0 0) "verdict=broken\ncycle=2\nrule=3\n" []
-    -- W16: the same take with tlast=none: filled in first, so it is clean
-    ∷ tells (says "width_in=1\nwidth_out=2\nmode=pack\ntlast=none\n") (some (plain ++ waits ++ last)) 9
-    (shows saysClean 0 0 0 2 0 1) "verdict=clean\ntransfers=2\npackets=0\nrecords=1\n"
-    (0x00 ∷ 0x00 ∷ 0x00 ∷ 0x03 ∷ 0x00 ∷ 0x03 ∷ 0x00 ∷ 0x07 ∷ 0x07 ∷ [])
+    -- W16: the same take with tlast=none: filled in first, so it is clean; T-03: high, so each transfer is its own packet
+    ∷ tells (says "width_in=1\nwidth_out=2\nmode=pack\ntlast=none\n") (some (plain ++ waits ++ last)) 18
+    (shows saysClean 0 0 0 2 2 2) "verdict=clean\ntransfers=2\npackets=2\nrecords=2\n"
+    (0x01 ∷ 0x00 ∷ 0x00 ∷ 0x01 ∷ 0x00 ∷ 0x01 ∷ 0x00 ∷ 0x07 ∷ 0x00 ∷ 0x01 ∷ 0x00 ∷ 0x00 ∷ 0x01 ∷ 0x00 ∷ 0x01 ∷ 0x00 ∷ 0x07 ∷ 0x00 ∷ [])
     -- W17: three transfers, two packets, and records of twice the width
     ∷ tells (says "width_in=1\nwidth_out=2\nmode=pack\ntlast=wired\n") (some (plain ++ last ++ last)) 18
     (shows saysClean 0 0 0 3 2 2) "verdict=clean\ntransfers=3\npackets=2\nrecords=2\n"
     (0x01 ∷ 0x00 ∷ 0x00 ∷ 0x03 ∷ 0x00 ∷ 0x03 ∷ 0x00 ∷ 0x07 ∷ 0x07 ∷ 0x01 ∷ 0x00 ∷ 0x00 ∷ 0x01 ∷ 0x00 ∷ 0x01 ∷ 0x00 ∷ 0x07 ∷ 0x00 ∷ [])
+    -- W18: T-03: W16's take with tlast=low: one record across both, and no packet ends
+    ∷ tells (says "width_in=1\nwidth_out=2\nmode=pack\ntlast=low\n") (some (plain ++ waits ++ last)) 9
+    (shows saysClean 0 0 0 2 0 1) "verdict=clean\ntransfers=2\npackets=0\nrecords=1\n"
+    (0x00 ∷ 0x00 ∷ 0x00 ∷ 0x03 ∷ 0x00 ∷ 0x03 ∷ 0x00 ∷ 0x07 ∷ 0x07 ∷ [])
+    -- W19: T-03: ROOM comes sooner with tlast=none: W16 with one octet too few, twice what W18 needs
+    ∷ tells (says "width_in=1\nwidth_out=2\nmode=pack\ntlast=none\n") (some (plain ++ waits ++ last)) 17 (shows saysRefused 5 0 0 0 0 0) "verdict=refused\nrefusal=5\nat=0\n" []
+    -- W20: T-03: an all-null transfer does not vanish with tlast=none
+    ∷ tells (says "width_in=1\nwidth_out=1\nmode=pack\ntlast=none\n") (some (cycle 0x0E 3 0 0)) 8
+    (shows saysClean 0 0 0 1 1 1) "verdict=clean\ntransfers=1\npackets=1\nrecords=1\n" (0x01 ∷ 0x00 ∷ 0x03 ∷ 0x00 ∷ 0x00 ∷ 0x00 ∷ 0x00 ∷ 0x00 ∷ [])
+    -- W21: T-03: it does with tlast=low, though its TLAST was sampled high
+    ∷ tells (says "width_in=1\nwidth_out=1\nmode=pack\ntlast=low\n") (some (cycle 0x0F 3 0 0)) 0
+    (shows saysClean 0 0 0 1 0 0) "verdict=clean\ntransfers=1\npackets=0\nrecords=0\n" []
+    -- W22: T-03: tlast=low in lanes mode: P1's slices without TLAST
+    ∷ tells (says "width_in=4\nwidth_out=2\nmode=lanes\ntlast=low\n") (some p1Take) 18 (shows saysClean 0 0 0 1 0 2) "verdict=clean\ntransfers=1\npackets=0\nrecords=2\n"
+    (0x00 ∷ 0x01 ∷ 0x02 ∷ 0x01 ∷ 0x00 ∷ 0x01 ∷ 0x00 ∷ 0x11 ∷ 0x00 ∷ 0x00 ∷ 0x01 ∷ 0x02 ∷ 0x03 ∷ 0x00 ∷ 0x02 ∷ 0x00 ∷ 0x00 ∷ 0x44 ∷ [])
+    -- W23: T-03: there is no word for what tlast=none does
+    ∷ tells (says "width_in=4\nwidth_out=2\nmode=pack\ntlast=high\n") (some p1Take) 65536 (shows saysRefused 15 0 0 0 0 0) "verdict=refused\nrefusal=15\nat=0\n" []
+    -- W24: T-03: fill-in hides nothing but TLAST: TDEST turns while a transfer waits
+    ∷ tells (says "width_in=1\nwidth_out=2\nmode=pack\ntlast=low\n") (some (waits ++ cycle 0x0E 1 1 1)) 9 (shows saysBroken 0 1 3 0 0 0) "verdict=broken\ncycle=1\nrule=3\n" []
     ∷ []

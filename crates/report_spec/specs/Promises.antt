@@ -1,7 +1,7 @@
 -- What is proved of the report, a statement each. Words in quotes are paper 01's. The proofs are in proofs/Promises.
 use mathlib.Core.Path.{_≡_}
 use mathlib.Core.Bool.{Bool, true, false, _||_}
-use mathlib.Core.List.{List, [], _∷_, _++_}
+use mathlib.Core.List.{List, [], _∷_, _++_, map}
 use mathlib.Core.Logic.{_≢_}
 use mathlib.Core.Option.{Option, none, some}
 use Prim.Native.Nat.{ℕ, _*_, _^_, _≤_, _<_}
@@ -9,15 +9,16 @@ use lib.Dec.{eqb}
 use lib.ListN.{length}
 use Rattle.refusal.specs.Code.{codeOf}
 use Rattle.refusal.specs.declared.Refusal.{Refusal}
-use Rattle.stream_spec.specs.Layout.{size, records, streamItems}
+use Rattle.stream_spec.specs.Layout.{size, records, joined, streamItems}
 use Rattle.refusal.specs.Checks.{Check, first}
 use Rattle.stream_spec.specs.Checks.{lengthCheck, cycleChecks, roomCheck}
-use Rattle.stream_spec.specs.Handshake.{Finding, firstFinding, transferCount}
+use Rattle.stream_spec.specs.Handshake.{Finding, firstFinding, handshakes, transferCount, low, high, asFilled}
 use Rattle.stream_spec.specs.Memory.{inFront}
 use Rattle.stream_spec.specs.Legal.{Octets, Legal}
 use Rattle.report_setup_spec.specs.declared.Setup.{Setup}
 use Rattle.report_setup_spec.specs.declared.Mode.{Mode}
 use Rattle.report_setup_spec.specs.declared.Mode.the-variants.{Pack, Lanes}
+use Rattle.report_setup_spec.specs.declared.Tlast.the-variants.{Absent, Low}
 use Rattle.report_setup_spec.specs.declared.Sheet.the-variants.{Read}
 use Rattle.report_setup_spec.specs.Grammar.{sheetOf}
 use Rattle.report_spec.specs.declared.Tally.{Tally}
@@ -58,7 +59,7 @@ OnlyWhenClean =
 
 -- ---- a clean verdict: its numbers are counts of the records harvested and of those in the result, which is a legal stream
 -- with the harvested transfers' items, and fits into the lent output. `packets` counts "harvested TLASTs"; the result has as
--- many.
+-- many, in either mode and with each word of `tlast=`.
 
 pub record CleanTally (u : Setup) (capture : List ℕ) (room : ℕ) (result : List ℕ) (t : Tally) : Type 0 where
   pub transfers : t .transfers ≡ length (records (shapeOf u) (transfersOf u capture))
@@ -74,6 +75,40 @@ abbrev pub CleanTallies : Type 0
 CleanTallies =
     (u : Setup) (capture : List ℕ) (room : ℕ) (t : Tally) → Octets capture → setupOutcome u (some capture) room .verdict ≡ Clean t
     → CleanTally u capture room (setupOutcome u (some capture) room .result) t
+
+-- ---- T-03: ports without a TLAST wire
+
+-- the transfers that were sampled, as records with this level as their TLAST
+abbrev pub sampledAt : Bool → Setup → List ℕ → List (List ℕ)
+sampledAt level u capture = map (asFilled level) (handshakes (records (shapeOf u) capture))
+
+-- what these transfer records become by the sheet: with `mode=pack` their packed form, with `mode=lanes` their slices
+abbrev pub resultOf : Setup → List ℕ → List ℕ
+resultOf u transfers = convertResult (u .mode) (shapeOf u) (u .«width_out») transfers
+
+-- "`tlast=none` now fills in high, each transfer its own packet": as many packets as transfers, and the result is what each
+-- transfer becomes by itself, joined record by record. So one that is all-null does not vanish.
+pub record OnePacketEach (u : Setup) (capture result : List ℕ) (t : Tally) : Type 0 where
+  pub transfers : t .transfers ≡ length (sampledAt high u capture)
+  pub packets : t .packets ≡ t .transfers
+  pub apart : result ≡ joined (map (resultOf u) (sampledAt high u capture))
+
+abbrev pub TlastNone : Type 0
+TlastNone =
+    (u : Setup) (capture : List ℕ) (room : ℕ) (t : Tally) → u .tlast ≡ Absent → setupOutcome u (some capture) room .verdict ≡ Clean t
+    → OnePacketEach u capture (setupOutcome u (some capture) room .result) t
+
+-- ".. count on low and pack across the whole take; they change to the new word `tlast=low`": no packet ends, and the result is
+-- what all transfers become together
+pub record NoPacketEnds (u : Setup) (capture result : List ℕ) (t : Tally) : Type 0 where
+  pub transfers : t .transfers ≡ length (sampledAt low u capture)
+  pub packets : t .packets ≡ 0
+  pub across : result ≡ resultOf u (joined (sampledAt low u capture))
+
+abbrev pub TlastLow : Type 0
+TlastLow =
+    (u : Setup) (capture : List ℕ) (room : ℕ) (t : Tally) → u .tlast ≡ Low → setupOutcome u (some capture) room .verdict ≡ Clean t
+    → NoPacketEnds u capture (setupOutcome u (some capture) room .result) t
 
 -- ---- which refusals show once the sheet is read, by their numbers: 1, 2, 3, 5, and 6 in lanes mode. So 4 and 14 never do: a
 -- reserved lane is R4, and a broken take is a verdict of its own.
@@ -114,7 +149,7 @@ abbrev pub orderedChecks : Setup → List ℕ → List (Check Refusal)
 orderedChecks u cycles = setupChecks u ++ lengthCheck (shapeOf u) cycles ∷ cycleChecks (shapeOf u) 0 (records (shapeOf u) cycles)
 
 abbrev pub convertedOf : Setup → List ℕ → List ℕ
-convertedOf u capture = convertResult (u .mode) (shapeOf u) (u .«width_out») (transfersOf u capture)
+convertedOf u capture = resultOf u (transfersOf u capture)
 
 -- the numbers of a clean verdict
 abbrev pub tallyOf : Setup → List ℕ → Tally

@@ -20,13 +20,13 @@ use Rattle.stream_spec.specs.Layout.{ofWidth, atWidth, bitOf, tlast, records, p
 use Rattle.refusal.specs.Checks.{Check, first}
 use Rattle.stream_spec.specs.Checks.{shapeChecks, ratioCheck}
 use Rattle.stream_spec.specs.Memory.{inFront}
-use Rattle.stream_spec.specs.Handshake.{harvested}
-use Rattle.stream_spec.specs.Answers.{judgeAnswer, fillInAfter, repackAnswer, downsizeAnswer}
+use Rattle.stream_spec.specs.Handshake.{low, high, harvested}
+use Rattle.stream_spec.specs.Answers.{judgeAnswer, fillAfter, repackAnswer, downsizeAnswer}
 use Rattle.report_setup_spec.specs.declared.Setup.{Setup}
 use Rattle.report_setup_spec.specs.declared.Mode.{Mode}
 use Rattle.report_setup_spec.specs.declared.Mode.the-variants.{Pack, Lanes}
 use Rattle.report_setup_spec.specs.declared.Tlast.{Tlast}
-use Rattle.report_setup_spec.specs.declared.Tlast.the-variants.{Wired, Absent}
+use Rattle.report_setup_spec.specs.declared.Tlast.the-variants.{Wired, Absent, Low}
 use Rattle.report_setup_spec.specs.declared.Sheet.{Sheet}
 use Rattle.report_setup_spec.specs.declared.Sheet.the-variants.{Read, Refused as NoSheet}
 use Rattle.report_setup_spec.specs.Grammar.{sheetOf, text as ascii}
@@ -58,19 +58,20 @@ shapeOf u = ofWidth (u .«width_in»)
 abbrev pub outShape : Setup → Shape
 outShape u = atWidth (shapeOf u) (u .«width_out»)
 
--- "`tlast=wired` or `tlast=none` (fill-in first)"
+-- "`tlast=wired` or `tlast=none` (fill-in first)"; T-03: "`tlast=none` now fills in high", "the new word `tlast=low`" low
 abbrev pub prepared : Tlast → Shape → List ℕ → List ℕ
 prepared Wired s capture = capture
-prepared Absent s capture = fillInAfter s capture
+prepared Absent s capture = fillAfter high s capture
+prepared Low s capture = fillAfter low s capture
 
--- the cycles that are judged, and the transfers that are harvested from them
+-- the cycles that are judged, filled in where the sheet says so, and the transfers that are harvested from them
 abbrev pub cyclesOf : Setup → List ℕ → List ℕ
 cyclesOf u capture = prepared (u .tlast) (shapeOf u) capture
 
 abbrev pub transfersOf : Setup → List ℕ → List ℕ
 transfersOf u capture = harvested (shapeOf u) (cyclesOf u capture)
 
--- "`packets` harvested TLASTs": the records that have TLAST
+-- "`packets` harvested TLASTs": the records that have TLAST. T-03: "the packet count of the report reads the filled take".
 abbrev pub lasts : List (List ℕ) → ℕ
 lasts [] = 0
 lasts (r ∷ rs) = bitOf (tlast r) + lasts rs

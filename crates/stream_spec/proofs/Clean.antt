@@ -51,8 +51,11 @@ module _ (s : Shape) (xs : List ℕ) (n : ℕ) (clean : judgeAnswer s xs ≡ Cle
   clean-sound = is .sound
 
   -- width and length have passed their tests
+  pub clean-taken : first (takeChecks s xs) ≡ none
+  clean-taken = append-none (takeChecks s xs) (cycleChecks s 0 (records s xs)) (is .accepted) .0
+
   pub clean-passed : Passed s xs
-  clean-passed = checks-passed s xs (append-none (takeChecks s xs) (cycleChecks s 0 (records s xs)) (is .accepted) .0)
+  clean-passed = checks-passed s xs clean-taken
 
   pub clean-harvested : (room : ℕ) → length (harvested s xs) ≤ room → harvestRefusal s xs room ≡ none
   clean-harvested room h =

@@ -4,19 +4,24 @@ use mathlib.Core.Path.{_≡_, refl, sym, ap, ap₂, _∙_}
 use mathlib.Core.Bool.{Bool, true, false, _&&_, cond}
 use mathlib.Core.List.{List, [], _∷_, _++_, map, append-nil, head?, getLast?}
 use mathlib.Core.Option.{Option, none, some}
-use Prim.Native.Nat.{ℕ, suc, _+_, _*_, _/_, _%_, _<_}
+use Prim.Native.Nat.{ℕ, suc, _+_, _*_, _/_, _%_, _≤_, _<_}
 use native.Mathlib.Omega.{arith}
-use lib.ListN.{length, length-map}
+use lib.ListN.{length, length-map, drop-of-length-le}
+use Rattle.refusal.specs.declared.Refusal.{Refusal}
 use Rattle.stream_spec.specs.declared.Shape.{Shape}
+use Rattle.stream_spec.specs.declared.Verdict.the-variants.{Clean}
 use Rattle.stream_spec.specs.Items.{Pair, Transfer, Item, byte, end, kept, transferItems, items}
 use Rattle.stream_spec.specs.Packed.{pack, apart, parted}
 use Rattle.stream_spec.specs.Layout.{bit, odd, bitOf, size, tlast, lastSet, Kept, records, recordCount, joined, transferOf, octets, packed}
 use Rattle.stream_spec.specs.Handshake.{transferred, handshakes, asTransfer, withLast, filledIn, asFilled}
+use Rattle.stream_spec.specs.Answers.{lentAfter, judgeAnswer, fillRefusal, fillAfter}
 use Rattle.stream_spec.specs.Promises.{FilledHarvest, AllLast, EachItsPacket}
 use Rattle.stream_spec.proofs.Bits.{bit-zero, bit-suc, bit-one, odd-mask, bit-back}
 use Rattle.stream_spec.proofs.Size.{size-pos}
 use Rattle.stream_spec.proofs.Pack.{pack-parted}
-use Rattle.stream_spec.proofs.Records.{Sized, length-joined, records-joined, records-sized, length-pieces, whole-count, octets-append}
+use Rattle.stream_spec.proofs.Passed.{checks-passed}
+use Rattle.stream_spec.proofs.Clean.{clean-taken}
+use Rattle.stream_spec.proofs.Records.{Sized, length-joined, records-joined, record-alone, records-sized, length-pieces, whole-count, octets-append}
 
 -- ---- one record
 
@@ -77,6 +82,20 @@ filled-harvest level s xs =
     ap (λ (rs : List (List ℕ)). joined (map asTransfer (handshakes rs))) (filled-records level s xs)
     ∙ ap joined (filled-handshakes level (size s) (records s xs) (size-pos s) (records-sized s xs))
 
+-- a take that is judged clean after fill-in was filled in: its shape and length were not refused
+pub clean-filled : (level : Bool) (s : Shape) (xs : List ℕ) (n : ℕ) → judgeAnswer s (fillAfter level s xs) ≡ Clean n → fillAfter level s xs ≡ filledIn level s xs
+unfolding fillAfter
+clean-filled level s xs n clean = go (fillRefusal s xs) refl clean
+  where
+    go : (o : Option Refusal) → fillRefusal s xs ≡ o → judgeAnswer s (lentAfter o (filledIn level s xs) xs) ≡ Clean n
+        → lentAfter o (filledIn level s xs) xs ≡ filledIn level s xs
+    go (some r) e clean =
+        let taken : some r ≡ none = sym e ∙ clean-taken s xs n clean in
+        let z : _≡_ {A = ℕ} 0 1 = cc in absurd (omega arith)
+    go none e clean =
+        let all : length xs ≤ length (filledIn level s xs) = omega (arith, filled-long level s xs (checks-passed s xs e .whole)) in
+        ap (λ (ys : List ℕ). filledIn level s xs ++ ys) (drop-of-length-le xs all) ∙ append-nil (filledIn level s xs)
+
 -- ---- the transfers that were sampled, at a level
 
 pub sized-filled : (level : Bool) (n : ℕ) (cs : List (List ℕ)) → 0 < n → Sized n cs → Sized n (map (asFilled level) (handshakes cs))
@@ -122,8 +141,7 @@ last-parted t is e = rw (e, ends-in-end (t .pair) (kept (t .lanes))) (end-apart 
 -- a record alone has its own transfer's items, and nothing more
 alone : (s : Shape) (v : ℕ) (r : List ℕ) → length r ≡ size s → packed s v r ≡ octets (pack v (transferItems (transferOf s r)))
 alone s v r e =
-    let one : records s r ≡ r ∷ [] = ap (records s) (sym (append-nil r)) ∙ records-joined s (r ∷ []) (e, tt) in
-    ap (λ (rs : List (List ℕ)). octets (pack v (items (map (transferOf s) rs)))) one
+    ap (λ (rs : List (List ℕ)). octets (pack v (items (map (transferOf s) rs)))) (record-alone s r e)
     ∙ ap (λ (is : List (Item Kept)). octets (pack v is)) (append-nil (transferItems (transferOf s r)))
 
 each-alone : (s : Shape) (v : ℕ) (rs : List (List ℕ)) → Sized (size s) rs → AllLast rs

@@ -1,7 +1,7 @@
 -- Records and transfers: a stream of whole records divides into them and is joined from them, and a transfer's octets
 -- stand for that transfer. Assumes nothing.
 use mathlib.Core.Path.{_≡_, refl, sym, ap, ap₂, _∙_}
-use mathlib.Core.List.{List, [], _∷_, _++_, map, append-assoc}
+use mathlib.Core.List.{List, [], _∷_, _++_, map, append-assoc, append-nil}
 use mathlib.Core.Option.{Option, none, some}
 use Prim.Native.Nat.{ℕ, zero, suc, _+_, _-_, _*_, _/_, _%_, _≤_, _<_}
 use native.Mathlib.Numerals.{add-one}
@@ -38,6 +38,10 @@ count-joined s rs h = rw (length-joined (size s) rs h) (mul-div-cancel (length r
 -- records joined are these records
 pub records-joined : (s : Shape) (rs : List (List ℕ)) → Sized (size s) rs → records s (joined rs) ≡ rs
 records-joined s rs h = rw (count-joined s rs h) (pieces-joined (size s) rs h)
+
+-- a record alone is one record
+pub record-alone : (s : Shape) (r : List ℕ) → length r ≡ size s → records s r ≡ r ∷ []
+record-alone s r e = ap (records s) (sym (append-nil r)) ∙ records-joined s (r ∷ []) (e, tt)
 
 pieces-append : (z n m : ℕ) (xs ys : List ℕ) → length xs ≡ n * z → pieces (n + m) z (xs ++ ys) ≡ pieces n z xs ++ pieces m z ys
 pieces-append z zero m [] ys h = rw (zero-add m) refl
