@@ -134,10 +134,11 @@ urd_stream_answer urd_judge(size_t width, const uint8_t *capture, size_t capture
  * Lent memory: `out` gets the records and is unchanged after them; refused, it is unchanged. */
 urd_stream_answer urd_harvest(size_t width, const uint8_t *capture, size_t capture_length, uint8_t *out, size_t out_length);
 
-/* Clears TLAST in every record, for ports with no TLAST wire: count of records.
+/* Sets TLAST of every record to a level, for ports with no TLAST wire: count of records. `level` 0 is low, anything else high. Arm
+ * wants high where nobody knows what stands in between (IHI 0051A 3.1.3); the report takes high for `tlast=none`, low for `tlast=low`.
  * Refusals: 1, 2.
- * Lent memory: bit 0 of octet 0 of each record of `capture` becomes 0, nothing else changes; refused, it is unchanged. */
-urd_stream_answer urd_fill_in(size_t width, uint8_t *capture, size_t capture_length);
+ * Lent memory: bit 0 of octet 0 of each record of `capture` becomes the level, nothing else changes; refused, it is unchanged. */
+urd_stream_answer urd_fill_in(size_t width, uint8_t *capture, size_t capture_length, uint32_t level);
 
 /* Writes the packed form, at width v, of a stream of transfer records: count of records.
  * Refusals: 1 (either width), 2, then record by record 3 and 4 (place: the record), 5.

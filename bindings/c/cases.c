@@ -356,13 +356,19 @@ static void layout(void)
 
 static void fill_in(void)
 {
-    uint8_t take[22], expected[22];
+    static const uint32_t high[] = {1, 2, 256, 0x80000000, 0xFFFFFFFF};
+    uint8_t take[22], cleared[22], set[22];
     size_t length = octets_of(TAKE " FE 01 02 0D 00 09 00 11 22 33 45", take);
-    octets_of("0E 01 02 0D 00 09 00 11 22 33 44 FE 01 02 0D 00 09 00 11 22 33 45", expected);
-    stream_is(urd_fill_in(4, take, length - 1), URD_LENGTH, 0, 0, 0, "no whole number of records");
+    octets_of("0E 01 02 0D 00 09 00 11 22 33 44 FE 01 02 0D 00 09 00 11 22 33 45", cleared);
+    octets_of("0F 01 02 0D 00 09 00 11 22 33 44 FF 01 02 0D 00 09 00 11 22 33 45", set);
+    stream_is(urd_fill_in(4, take, length - 1, 0), URD_LENGTH, 0, 0, 0, "no whole number of records");
     check(take[0] == 0x0F, "refused, it is unchanged");
-    stream_is(urd_fill_in(4, take, length), 0, 0, 0, 2, "2 records");
-    check(memcmp(take, expected, length) == 0, "TLAST cleared, nothing else");
+    for (size_t i = 0; i < sizeof high / sizeof high[0]; i++) {
+        stream_is(urd_fill_in(4, take, length, 0), 0, 0, 0, 2, "2 records, low");
+        check(memcmp(take, cleared, length) == 0, "TLAST cleared, nothing else");
+        stream_is(urd_fill_in(4, take, length, high[i]), 0, 0, 0, 2, "2 records, high");
+        check(memcmp(take, set, length) == 0, "TLAST set, nothing else");
+    }
 }
 
 static void data_octets(void)
@@ -429,7 +435,7 @@ static void edges(void)
     static uint8_t over[65537], out[8];
     for (size_t i = 0; i < sizeof width / sizeof width[0]; i++) {
         stream_is(urd_judge(width[i], over, 8), URD_WIDTH, 0, 0, 0, "judge");
-        stream_is(urd_fill_in(width[i], over, 8), URD_WIDTH, 0, 0, 0, "fill-in");
+        stream_is(urd_fill_in(width[i], over, 8, 1), URD_WIDTH, 0, 0, 0, "fill-in");
         stream_is(urd_repack(width[i], 1, over, 8, out, 8), URD_WIDTH, 0, 0, 0, "repack from");
         stream_is(urd_repack(1, width[i], over, 8, out, 8), URD_WIDTH, 0, 0, 0, "repack to");
         stream_is(urd_downsize(width[i], width[i], over, 8, out, 8), URD_WIDTH, 0, 0, 0, "downsize");

@@ -221,8 +221,16 @@ def _():
     take = bytearray(octets(TAKE + TAKE))
     same(urd.data_octets(4, take, 1), urd.PartAnswer(0, 18, 4), "record 1")
     same(urd.data_octets(4, take, 2), urd.PartAnswer(urd.INDEX, 0, 0), "no record 2")
-    same(urd.fill_in(4, take), stream(count=2), "fill-in")
-    same(take, octets(("0E" + TAKE[2:]) * 2), "TLAST cleared, nothing else")
+    for level, flags in ((0, "0E"), (1, "0F"), (False, "0E"), (True, "0F"), (0, "0E"), (-1, "0F"), (0, "0E"), (2**64, "0F")):
+        same(urd.fill_in(4, take, level), stream(count=2), f"fill-in, {level}")
+        same(take, octets((flags + TAKE[2:]) * 2), f"TLAST of each record by {level}, nothing else")
+    same(urd.fill_in(3, take, False), stream(urd.LENGTH), "fill-in, no whole number of records")
+    same(take, octets(TAKE + TAKE), "refused, it is unchanged")
+    for level in ("low", None, 0.0):
+        try:
+            same(urd.fill_in(4, take, level), "TypeError", f"fill-in, {level!r}")
+        except TypeError:
+            same(take, octets(TAKE + TAKE), f"{level!r} is no level")
 
 
 @case("numbers at the edges")
@@ -232,7 +240,7 @@ def _():
         same(urd.repack(wide, 1, b"", bytearray()), stream(urd.WIDTH), f"repack from {wide}")
         same(urd.repack(1, wide, b"", bytearray()), stream(urd.WIDTH), f"repack to {wide}")
         same(urd.downsize(wide, wide, b"", bytearray()), stream(urd.WIDTH), f"downsize {wide}")
-        same(urd.fill_in(wide, bytearray()), stream(urd.WIDTH), f"fill-in {wide}")
+        same(urd.fill_in(wide, bytearray(), True), stream(urd.WIDTH), f"fill-in {wide}")
     for big in (-1, 2**32 - 1, 2**32 + 1, 2**64 + 1):
         same(urd.burst_judge(0, 0, 0, 1, big), burst(urd.BUS), f"bus {big}")
         same(urd.burst_judge(0, 0, big, 1, 4), burst(urd.SIZE), f"size {big}")

@@ -8,6 +8,7 @@ build/lib/liburdhvasolk.so of this project (`make lib`). No call raises on any w
 - lent memory (`out`, and the capture of fill_in) is a bytearray or the like, changed in place as the header says.
 """
 import ctypes
+import operator
 import os
 from collections import namedtuple
 
@@ -66,7 +67,7 @@ _burst_step = _call("urd_burst_step", _Burst, *_burst, _u32)
 _axi3_cut = _call("urd_axi3_cut", _Cut, *_burst, ctypes.POINTER(_u64), _size)
 _judge = _call("urd_judge", _Stream, _size, *_input)
 _harvest = _call("urd_harvest", _Stream, _size, *_input, *_lent)
-_fill_in = _call("urd_fill_in", _Stream, _size, *_lent)
+_fill_in = _call("urd_fill_in", _Stream, _size, *_lent, _u32)
 _repack = _call("urd_repack", _Stream, _size, _size, *_input, *_lent)
 _downsize = _call("urd_downsize", _Stream, _size, _size, *_input, *_lent)
 _data_octets = _call("urd_data_octets", _Part, _size, *_input, _size)
@@ -141,10 +142,12 @@ def harvest(width, capture, out):
     return _plain(StreamAnswer, _harvest(_held(width, _size), capture, len(capture), ctypes.addressof(lent), len(lent)))
 
 
-def fill_in(width, capture):
-    """Clears TLAST of every record in the lent capture: count of records. Refusals 1, 2."""
+def fill_in(width, capture, level):
+    """Sets TLAST of every record in the lent capture, for ports with no TLAST wire: count of records. `level` is True for high,
+    False for low, or a whole number, 0 for low (a text raises: "low" is none of these). Refusals 1, 2."""
     lent = _lend(capture)
-    return _plain(StreamAnswer, _fill_in(_held(width, _size), ctypes.addressof(lent), len(lent)))
+    high = int(operator.index(level) != 0)
+    return _plain(StreamAnswer, _fill_in(_held(width, _size), ctypes.addressof(lent), len(lent), high))
 
 
 def _convert(function, width, v, octets, out):

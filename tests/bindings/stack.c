@@ -50,16 +50,16 @@ static void fill(int kind, int bad)
         take[i] |= 14; /* TVALID, TREADY, ARESETn */
 }
 
-static void write_sheet(int lanes, int none)
+static void write_sheet(int lanes, const char *tlast)
 {
-    sheet_length = (size_t)snprintf((char *)sheet, sizeof sheet, "width_in=%zu\nwidth_out=%zu\nmode=%s\ntlast=%s\n", w, v, lanes ? "lanes" : "pack", none ? "none" : "wired");
+    sheet_length = (size_t)snprintf((char *)sheet, sizeof sheet, "width_in=%zu\nwidth_out=%zu\nmode=%s\ntlast=%s\n", w, v, lanes ? "lanes" : "pack", tlast);
 }
 
 /* ---- the calls; each answers its refusal ---- */
 
 static uint32_t judge(void) { return urd_judge(w, take, length).refusal; }
 static uint32_t harvest(void) { return urd_harvest(w, take, length, lent.octets, sizeof lent.octets).refusal; }
-static uint32_t fill_in(void) { return urd_fill_in(w, take, length).refusal; }
+static uint32_t fill_in(void) { return urd_fill_in(w, take, length, (uint32_t)v % 2).refusal; }
 static uint32_t data_octets(void) { return urd_data_octets(w, take, length, v).refusal; }
 static uint32_t repack(void) { return urd_repack(w, v, transfers, length, lent.octets, sizeof lent.octets).refusal; }
 static uint32_t downsize(void) { return urd_downsize(w, v, transfers, length, lent.octets, sizeof lent.octets).refusal; }
@@ -107,15 +107,16 @@ static void measure(void)
     pthread_attr_destroy(&attributes);
 }
 
-/* One input at some widths out; the report in both modes, with and without TLAST. */
+/* One input at some widths out; the report in both modes, with each word for TLAST. */
 static void measure_widths(int kind, int bad)
 {
     static const size_t widths[] = {1, 2, 3, 8, 9, 16};
+    static const char *const words[] = {"wired", "none", "low"};
     for (size_t i = 0; i < sizeof widths / sizeof widths[0]; i++)
-        for (int sheets = 0; sheets < (asked == report ? 4 : 1); sheets++) {
+        for (int sheets = 0; sheets < (asked == report ? 6 : 1); sheets++) {
             v = widths[i];
             fill(kind, bad);
-            write_sheet(sheets & 1, sheets & 2);
+            write_sheet(sheets % 2, words[sheets / 2]);
             measure();
         }
 }
