@@ -9,6 +9,7 @@ fn main() {
     streams::packed();
     streams::three_pairs();
     streams::findings();
+    streams::levels();
     streams::bounds();
     bursts::beats();
     bursts::wrap();

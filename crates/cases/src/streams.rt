@@ -1,4 +1,4 @@
-// The stream cases S1 to S7, the bounds of a take, and each finding. The output is lent 24 octets EE, and all of them
+// The stream cases S1 to S7, the bounds of a take, each finding, and fill-in. The output is lent 24 octets EE, and all of them
 // are printed, so that what is not written shows.
 use refusal::Refusal;
 use stream_spec::Verdict;
@@ -53,6 +53,16 @@ fn downsize_to(name: &[u8], w: usize, v: usize, input: &[u8]) {
     io::write_all(1, name);
     written(answer);
     octets(&out);
+    io::write_all(1, b"\n");
+}
+
+// Fills in a take of 24 equal octets at a level.
+fn fill_in(name: &[u8], w: usize, octet: u8, level: bool) {
+    let mut capture = [octet; 24];
+    let answer = stream_fill_in::fill_in(stream_record::shape_of(w), &mut capture, level);
+    io::write_all(1, name);
+    written(answer);
+    octets(&capture);
     io::write_all(1, b"\n");
 }
 
@@ -142,6 +152,16 @@ pub fn findings() {
         1,
         b"\x00\x00\x00\x00\x00\x00\x00\x00\x08\x00\x00\x00\x00\x00\x00\x00\x0E\x00\x00\x01\x00\x01\x00\x07",
     );
+}
+
+// T-03: fill-in low and high, where TLAST is the other level and where it is this one; refused, at either level.
+pub fn levels() {
+    fill_in(b"FILL", 1, 0xFF, false);
+    fill_in(b"FILL", 1, 0xFF, true);
+    fill_in(b"FILL", 1, 0xEE, false);
+    fill_in(b"FILL", 1, 0xEE, true);
+    fill_in(b"FILL", 2, 0xFF, false);
+    fill_in(b"FILL", 17, 0xEE, true);
 }
 
 // A take of 65,536 octets at widths 1 and 9, and one record more; widths 0, 16 and 17; each field's bound.
