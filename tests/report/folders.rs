@@ -15,14 +15,16 @@ pub struct Folder { pub group: &'static str, pub setup: Entry, pub take: Entry, 
 
 struct Maker { r: Random, group: &'static str, list: Vec<Folder> }
 
+const WORDS: [&str; 3] = ["wired", "none", "low"]; // T-03's, in a sheet's last line
 const P1_TAKE: [u8; 11] = [0x0F, 1, 2, 0x0D, 0, 9, 0, 0x11, 0x22, 0x33, 0x44];
 
 pub fn all(seed: u64) -> Vec<Folder> {
     let mut m = Maker { r: Random(seed.max(1)), group: "", list: Vec::new() };
-    let parts: [(&'static str, fn(&mut Maker)); 12] = [
+    let parts: [(&'static str, fn(&mut Maker)); 14] = [
         ("P1, and out.bin there before", p1), ("sheets: every octet", sheet_octets), ("sheets: lines", sheet_lines),
         ("sheets: values", sheet_values), ("widths", widths), ("files that are no files", files), ("lengths", lengths),
-        ("each field bit", field_bits), ("rules", rules), ("room", rooms), ("several faults at once", orders), ("random takes", random),
+        ("each field bit", field_bits), ("rules", rules), ("TLAST moves during a wait", moving), ("room", rooms),
+        ("room for each word", rooms_of_words), ("several faults at once", orders), ("random takes", random),
     ];
     for (group, make) in parts {
         m.group = group;
@@ -69,31 +71,36 @@ fn p1(m: &mut Maker) {
     }
 }
 
-/// Each octet left out, doubled, exchanged with the next, each bit of it changed,
-/// something put before it, and the sheet cut off there.
+/// All octets of the good sheets; of the other words only their line, since the lines before are P1's.
 fn sheet_octets(m: &mut Maker) {
-    for (good, take) in good(m) {
-        for at in 0..=good.len() {
-            m.files(&good[..at], &take);
-            for put in *b"\n\r \0=04a" { m.files(&[&good[..at], &[put], &good[at..]].concat(), &take); }
-            if at == good.len() { continue; }
-            m.files(&[&good[..at], &good[at + 1..]].concat(), &take);
-            m.files(&[&good[..=at], &good[at..]].concat(), &take);
-            let mut other = good.clone();
-            other.swap(at, (at + 1) % good.len());
-            m.files(&other, &take);
-            for bit in 0..8 {
-                let mut other = good.clone();
-                other[at] ^= 1 << bit;
-                m.files(&other, &take);
-            }
+    for (good, take) in good(m) { each_octet(m, &good, 0, &take); }
+    let line = sheet(4, 2, "pack", "").len() - b"tlast=\n".len();
+    for tlast in ["none", "low"] { each_octet(m, &sheet(4, 2, "pack", tlast), line, &P1_TAKE); }
+}
+
+/// Each octet from there on left out, doubled, exchanged with the next, each bit of it changed,
+/// something put before it, and the sheet cut off there; and octets behind the sheet.
+fn each_octet(m: &mut Maker, good: &[u8], from: usize, take: &[u8]) {
+    for at in from..=good.len() {
+        m.files(&good[..at], take);
+        for put in *b"\n\r \0=04a" { m.files(&[&good[..at], &[put], &good[at..]].concat(), take); }
+        if at == good.len() { continue; }
+        m.files(&[&good[..at], &good[at + 1..]].concat(), take);
+        m.files(&[&good[..=at], &good[at..]].concat(), take);
+        let mut other = good.to_vec();
+        other.swap(at, (at + 1) % good.len());
+        m.files(&other, take);
+        for bit in 0..8 {
+            let mut other = good.to_vec();
+            other[at] ^= 1 << bit;
+            m.files(&other, take);
         }
-        for octets in (good.len() + 1..=70).chain([127, 128, 129, 255, 256, 257, 4096, 65_535, 65_536, 65_537, 100_000]) {
-            for tail in *b"\n0\0" {
-                let mut long = good.clone();
-                long.resize(octets, tail);
-                m.files(&long, &take);
-            }
+    }
+    for octets in (good.len() + 1..=70).chain([127, 128, 129, 255, 256, 257, 4096, 65_535, 65_536, 65_537, 100_000]) {
+        for tail in *b"\n0\0" {
+            let mut long = good.to_vec();
+            long.resize(octets, tail);
+            m.files(&long, take);
         }
     }
 }
@@ -115,6 +122,9 @@ fn sheet_lines(m: &mut Maker) {
             m.files(other.as_bytes(), &take);
         }
     }
+    for (tlast, again) in WORDS.into_iter().flat_map(|tlast| WORDS.map(|again| (tlast, again))) {
+        m.files(&[sheet(4, 2, "pack", tlast), format!("tlast={again}\n").into_bytes()].concat(), &P1_TAKE);
+    }
 }
 
 fn sheet_values(m: &mut Maker) {
@@ -124,24 +134,25 @@ fn sheet_values(m: &mut Maker) {
     let numbers: Vec<String> = (0..=22).chain(97..=101).map(|n| n.to_string()).chain(odd.map(String::from)).collect();
     for n in &numbers {
         for mode in ["pack", "lanes"] {
-            for values in [[n.as_str(), "2", mode, "wired"], ["4", n.as_str(), mode, "none"], [n.as_str(), n.as_str(), mode, "wired"]] {
+            for values in [[n.as_str(), "2", mode, "wired"], ["4", n.as_str(), mode, "none"], [n.as_str(), n.as_str(), mode, "low"]] {
                 m.files(&of_lines(values), &P1_TAKE);
             }
         }
     }
     for mode in ["", "pack", "lanes", "lane", "packs", "Pack", "PACK", "pack ", " pack", "packlanes", "none", "0", "pack\0"] {
-        for tlast in ["", "wired", "none", "low", "high", "Wired", "wire", "wired ", "wirednone", "pack", "1", "none\0"] {
+        for tlast in ["", "wired", "none", "low", "high", "Wired", "wire", "wired ", "wirednone", "pack", "1", "none\0", "Low", "LOW", "lows",
+            "lo", "ow", "low ", " low", "nonelow", "lownone", "low\0", "low\r", "0"] {
             m.files(&of_lines(["4", "2", mode, tlast]), &P1_TAKE);
         }
     }
 }
 
-/// Every pair of widths, in both modes, with and without a TLAST wire.
+/// Every pair of widths, in both modes, with some word.
 fn widths(m: &mut Maker) {
     for (w, v) in (0..=18).flat_map(|w| (0..=18).map(move |v| (w, v))) {
         for mode in ["pack", "lanes"] {
             let take = cycles(&mut m.r, w.clamp(1, 16), 6);
-            let tlast = m.r.pick(&["wired", "wired", "none"]);
+            let tlast = m.r.pick(&WORDS);
             m.files(&sheet(w, v, mode, tlast), &take);
         }
     }
@@ -151,8 +162,8 @@ fn widths(m: &mut Maker) {
 fn files(m: &mut Maker) {
     let odd = |own| [Missing, Entry::Folder, Link("/dev/null"), Link("/dev/zero"), Link("/proc/self/mem"), Link(own),
         File(vec![]), File(vec![0; MOST_OCTETS + 1])];
-    let sheets = [sheet(4, 2, "pack", "wired"), sheet(4, 2, "lanes", "none"), sheet(17, 2, "pack", "wired"),
-        sheet(4, 0, "pack", "wired"), sheet(4, 3, "lanes", "wired"), b"width_in=4\n".to_vec()];
+    let sheets = [sheet(4, 2, "pack", "wired"), sheet(4, 2, "lanes", "none"), sheet(4, 2, "pack", "low"), sheet(17, 2, "pack", "wired"),
+        sheet(4, 0, "pack", "none"), sheet(4, 3, "lanes", "low"), b"width_in=4\n".to_vec()];
     let broken = [P1_TAKE.to_vec(), [&[0x06], &P1_TAKE[1..]].concat()].concat();
     let takes = [P1_TAKE.to_vec(), broken, [&[0x1F], &P1_TAKE[1..]].concat()].map(File);
     for setup in odd("setup.txt").into_iter().chain(sheets.map(File)) {
@@ -221,7 +232,7 @@ fn lengths(m: &mut Maker) {
         for octets in [1, size - 1, size, size + 1, most - size, most - 1, most, most + 1, most + size, 65_535, 65_536, 65_537, 131_072] {
             let mut take = cycles(&mut m.r, w, octets / size);
             take.resize(octets, 0);
-            let (v, tlast) = (1 + m.r.below(16), m.r.pick(&["wired", "none"]));
+            let (v, tlast) = (1 + m.r.below(16), m.r.pick(&WORDS));
             m.files(&sheet(w, v, "pack", tlast), &take);
         }
     }
@@ -232,7 +243,7 @@ fn field_bits(m: &mut Maker) {
     for (w, bit) in (1..=16).flat_map(|w| (0..56).map(move |bit| (w, bit))) {
         let mut take = cycles(&mut m.r, w, 3);
         take[m.r.below(3) * (7 + w) + bit / 8] ^= 1 << (bit % 8);
-        let tlast = m.r.pick(&["wired", "none"]);
+        let tlast = m.r.pick(&WORDS);
         m.files(&sheet(w, w, "pack", tlast), &take);
     }
 }
@@ -242,14 +253,14 @@ fn field_bits(m: &mut Maker) {
 fn rules(m: &mut Maker) {
     for flags in 0..512u32 {
         let two = [flags as u8 & 15, 0, 0, 1, 0, 1, 0, 0x55, (flags >> 4) as u8 & 15, (flags >> 8) as u8, 0, 1, 0, 1, 0, 0x55];
-        for tlast in ["wired", "none"] { m.files(&sheet(1, 2, "pack", tlast), &two); }
+        for tlast in ["wired", m.r.pick(&["none", "low"])] { m.files(&sheet(1, 2, "pack", tlast), &two); }
     }
     for w in [1, 2, 8, 9, 16] {
         for bit in 0..8 * (7 + w) {
             let wait = record(&mut m.r, w, 10);
             let mut next = wait.clone();
             next[bit / 8] ^= 1 << (bit % 8);
-            let (n, tlast) = (m.r.below(4), m.r.pick(&["wired", "wired", "none"]));
+            let (n, tlast) = (m.r.below(4), m.r.pick(&["wired", "wired", "none", "low"]));
             let before = full(&mut m.r, w, n, false);
             m.files(&sheet(w, 1, "lanes", tlast), &[before, wait, next].concat());
         }
@@ -257,33 +268,64 @@ fn rules(m: &mut Maker) {
             let mut cycle = record(&mut m.r, w, flags);
             cycle[3 + lane / 8] &= !(1 << (lane % 8));
             cycle[5 + lane / 8] |= 1 << (lane % 8);
-            let n = m.r.below(4);
+            let (n, tlast) = (m.r.below(4), m.r.pick(&WORDS));
             let before = full(&mut m.r, w, n, true);
-            m.files(&sheet(w, 1, "pack", "wired"), &[before, cycle].concat());
+            m.files(&sheet(w, 1, "pack", tlast), &[before, cycle].concat());
         }
     }
 }
 
-/// Results of just 65,536 octets, or as near below as records of that width
-/// come, and of one record more; for every pair of widths, and sliced by lanes.
+/// TLAST of two waiting cycles and the handshake behind them, each high or low: R3 where it moves and there is a wire, while
+/// in a filled take it never moves. Good transfers may stand before, with another TLAST.
+fn moving(m: &mut Maker) {
+    for (w, levels) in [1, 2, 8, 9, 16].into_iter().flat_map(|w| (0..8u8).map(move |levels| (w, levels))) {
+        let mut cycle = record(&mut m.r, w, 0);
+        let mut take = full(&mut m.r, w, usize::from(levels) % 3, levels % 2 == 0);
+        for (at, flags) in [10, 10, 14].into_iter().enumerate() {
+            cycle[0] = flags | (levels >> at & 1);
+            take.extend(&cycle);
+        }
+        let (v, mode) = m.r.pick(&[(w, "pack"), (16, "pack"), (1, "lanes")]);
+        for tlast in WORDS { m.files(&sheet(w, v, mode, tlast), &take); }
+    }
+}
+
+/// Results of just 65,536 octets, or as near below as records of that width come, and of one more; for every pair of widths,
+/// and sliced by lanes. Without a wire the take's own TLAST is the other level, so that only the filled take has this result.
 fn rooms(m: &mut Maker) {
     for (w, v) in (1..=16).flat_map(|w| (1..=16).map(move |v| (w, v))) {
         let most = MOST_OCTETS / (7 + v);
+        let across = v < w && m.r.one_in(2); // no end at all, or else each transfer a packet
+        let (tlast, last) = m.r.pick(&if across { [("wired", false), ("low", true)] } else { [("wired", true), ("none", false)] });
         for more in [0, 1] {
-            let take = if v < w { // full records without an end, then the items that are left
+            let take = if across { // full records, then the items that are left
                 let items = most * v + more;
-                let mut rest = full(&mut m.r, w, 1, false);
+                let mut rest = full(&mut m.r, w, 1, last);
                 let keep = (((1u32 << (items % w)) - 1) as u16).to_le_bytes();
                 rest[3..7].copy_from_slice(&[keep[0], keep[1], keep[0], keep[1]]);
-                [full(&mut m.r, w, items / w, false), rest].concat()
+                [full(&mut m.r, w, items / w, last), rest].concat()
             } else {
-                full(&mut m.r, w, most + more, true)
+                full(&mut m.r, w, most / w.div_ceil(v) + more, last)
             };
-            m.files(&sheet(w, v, "pack", "wired"), &take);
+            m.files(&sheet(w, v, "pack", tlast), &take);
             if w % v == 0 {
-                let last = m.r.one_in(2);
+                let (last, tlast) = (m.r.one_in(2), m.r.pick(&WORDS));
                 let take = full(&mut m.r, w, most / (w / v) + more, last);
-                m.files(&sheet(w, v, "lanes", "wired"), &take);
+                m.files(&sheet(w, v, "lanes", tlast), &take);
+            }
+        }
+    }
+}
+
+/// The most transfers whose records fit where each is a packet of its own, and one more, with each word; all data, and all
+/// null. At width 16 a record has 23 octets, at 9 it has 16, and from 16 lanes to 3 a transfer has six records of 10 each.
+fn rooms_of_words(m: &mut Maker) {
+    for (w, v, most) in [(1, 16, 2_849), (1, 9, 4_096), (8, 9, 4_096), (16, 3, 1_092), (5, 2, 2_427)] {
+        for (n, null) in [(most, false), (most + 1, false), (most, true), (most + 1, true)] {
+            for (tlast, last) in [("wired", false), ("wired", true), ("none", false), ("low", true)] {
+                let mut take = full(&mut m.r, w, n, last);
+                if null { for cycle in take.chunks_mut(7 + w) { cycle[3..7].fill(0); } }
+                m.files(&sheet(w, v, "pack", tlast), &take);
             }
         }
     }
@@ -302,8 +344,8 @@ fn orders(m: &mut Maker) {
         if bad_field { take[m.r.pick(&[2, last + 2])] = 16; }
         if bad_length { take.push(0); }
         let v = if bad_width { m.r.pick(&[0, 17, 99]) } else if bad_ratio { 3 } else { 1 };
-        let (mode, tlast) = (m.r.pick(&["pack", "lanes"]), m.r.pick(&["wired", "none"]));
-        let tlast = if bad_sheet { "low" } else { tlast };
+        let mode = m.r.pick(&["pack", "lanes"]);
+        let tlast = if bad_sheet { m.r.pick(&["high", "Low", "lo"]) } else { m.r.pick(&WORDS) };
         m.files(&sheet(w, v, mode, tlast), &take);
     }
 }
@@ -313,8 +355,9 @@ fn random(m: &mut Maker) {
         let (w, n) = (1 + m.r.below(16), m.r.below(60));
         let v = if m.r.one_in(2) { 1 + m.r.below(16) } else { m.r.pick(&[w, 1, w.div_ceil(2), w / 2 + 1]) };
         let mut take = cycles(&mut m.r, w, n);
+        let (mode, tlast) = (m.r.pick(&["pack", "pack", "lanes"]), m.r.pick(&WORDS));
+        if tlast != "wired" { for cycle in take.chunks_mut(7 + w) { cycle[0] ^= m.r.below(2) as u8; } } // any level, without a wire
         if m.r.one_in(3) { damage(&mut m.r, w, &mut take); }
-        let (mode, tlast) = (m.r.pick(&["pack", "pack", "lanes"]), m.r.pick(&["wired", "wired", "none"]));
         m.files(&sheet(w, v, mode, tlast), &take);
     }
 }

@@ -1,6 +1,6 @@
-//! The second program's report: paper 01, "The report program", done plainly.
-//! Written from paper 01 alone, over the stream model of tests/second. Which
-//! file can't be read, or written, is the comparer's business.
+//! The second program's report: paper 01, "The report program", with the words of T-03, done
+//! plainly. Written from the papers alone, over the stream model of tests/second. Which file
+//! can't be read, or written, is the comparer's business.
 use crate::stream::{self, LENGTH, MOST_OCTETS, ROOM, StreamAnswer, UNCLEAN};
 
 pub const SHEET: u32 = 15;
@@ -8,15 +8,17 @@ pub const SHEET: u32 = 15;
 /// What is printed, and what out.bin holds where the verdict is clean.
 pub struct Report { pub text: String, pub out: Option<Vec<u8>> }
 
-struct Sheet { width_in: usize, width_out: usize, lanes: bool, wired: bool }
+/// `fill` is the level that TLAST is filled in with, high or low; a wired port has none.
+struct Sheet { width_in: usize, width_out: usize, lanes: bool, fill: Option<bool> }
+
+const MODES: [(&str, bool); 2] = [("pack", false), ("lanes", true)];
+const TLASTS: [(&str, Option<bool>); 3] = [("wired", None), ("none", Some(true)), ("low", Some(false))];
 
 /// 0 to 99, no leading zeros.
 fn number(text: &str) -> Option<usize> { (0..=99).find(|n| n.to_string() == text) }
 
-/// Which of two words it is.
-fn word(text: &str, no: &str, yes: &str) -> Option<bool> {
-    if text == no { Some(false) } else if text == yes { Some(true) } else { None }
-}
+/// What this word says; nothing where it is not in the list.
+fn word<T: Copy>(text: &str, words: &[(&str, T)]) -> Option<T> { words.iter().find(|(word, _)| *word == text).map(|(_, says)| *says) }
 
 /// Four LF-ended lines in this order, and nothing else.
 fn sheet(octets: &[u8]) -> Option<Sheet> {
@@ -26,8 +28,8 @@ fn sheet(octets: &[u8]) -> Option<Sheet> {
     Some(Sheet {
         width_in: number(width_in.strip_prefix("width_in=")?)?,
         width_out: number(width_out.strip_prefix("width_out=")?)?,
-        lanes: word(mode.strip_prefix("mode=")?, "pack", "lanes")?,
-        wired: word(tlast.strip_prefix("tlast=")?, "none", "wired")?,
+        lanes: word(mode.strip_prefix("mode=")?, &MODES)?,
+        fill: word(tlast.strip_prefix("tlast=")?, &TLASTS)?,
     })
 }
 
@@ -48,18 +50,17 @@ fn clean(sheet_octets: Option<&[u8]>, take: Option<&[u8]>) -> Result<Report, Str
     let convert = if s.lanes { stream::downsize_plan } else { stream::repack_plan };
     convert(s.width_in, s.width_out, &[])?; // WIDTH and RATIO, as of an empty stream
     let mut take = take.ok_or(refused(LENGTH))?.to_vec();
-    if !s.wired {
-        let filled = stream::fill_in(s.width_in, &mut take, 0);
+    if let Some(high) = s.fill {
+        let filled = stream::fill_in(s.width_in, &mut take, high);
         if filled.refusal != 0 { return Err(filled); }
     }
     let harvest = stream::harvest_plan(s.width_in, &take)?;
     let out = convert(s.width_in, s.width_out, &harvest)?;
     if out.len() > MOST_OCTETS { return Err(refused(ROOM)); }
-    let harvested = harvest.chunks(stream::record_octets(s.width_in));
     let text = format!(
         "verdict=clean\ntransfers={}\npackets={}\nrecords={}\n",
-        harvested.len(),
-        harvested.filter(|r| r[0] == 1).count(),
+        harvest.len() / stream::record_octets(s.width_in),
+        take.chunks(stream::record_octets(s.width_in)).filter(|r| r[0] == 0x0F).count(), // handshaken with TLAST, as filled in
         out.len() / stream::record_octets(s.width_out),
     );
     Ok(Report { text, out: Some(out) })

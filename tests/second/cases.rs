@@ -1,4 +1,4 @@
-//! Paper 01's bench cases, and cases of a change request, typed literally. They run against
+//! Paper 01's bench cases, and cases of change requests, typed literally. They run against
 //! any set of calls: the model in the self test, and the library in the compare programs.
 use crate::model::{Burst, BurstAnswer, StreamAnswer};
 use crate::model_axi3::CutAnswer;
@@ -13,11 +13,14 @@ pub struct BurstCalls {
 pub struct StreamCalls {
     pub judge: fn(usize, &[u8]) -> StreamAnswer,
     pub harvest: fn(usize, &[u8], &mut [u8]) -> StreamAnswer,
-    pub fill_in: fn(usize, &mut [u8]) -> StreamAnswer,
+    pub fill_in: FillInCall,
     pub data_octets: fn(usize, &[u8], usize) -> (StreamAnswer, [u64; 2]),
     pub repack: fn(usize, usize, &[u8], &mut [u8]) -> StreamAnswer,
     pub downsize: fn(usize, usize, &[u8], &mut [u8]) -> StreamAnswer,
 }
+
+/// The width, the lent take, and the number that says the level: 0 is low, each other one high.
+pub type FillInCall = fn(usize, &mut [u8], u32) -> StreamAnswer;
 
 /// A burst, and the lent row as numbers, five a description.
 pub type CutCall = fn(Burst, &mut [u64]) -> CutAnswer;
@@ -159,7 +162,7 @@ fn cut_refusals(t: &mut Tally, cut: CutCall) {
 
 const TAIL: u8 = 0xC3;
 
-fn hex(text: &str) -> Vec<u8> { text.split_whitespace().map(|h| u8::from_str_radix(h, 16).expect("a typed octet")).collect() }
+pub fn hex(text: &str) -> Vec<u8> { text.split_whitespace().map(|h| u8::from_str_radix(h, 16).expect("a typed octet")).collect() }
 
 /// An accepted writing call: the octets, the count, and an unchanged tail.
 fn writes(t: &mut Tally, call: impl Fn(&mut [u8]) -> StreamAnswer, count: u64, octets: &str) {
@@ -170,7 +173,49 @@ fn writes(t: &mut Tally, call: impl Fn(&mut [u8]) -> StreamAnswer, count: u64, o
     t.same((answer, room), (StreamAnswer { count, ..Default::default() }, expected), || "writing call".to_string());
 }
 
-const P1_TAKE: &str = "0F 01 02 0D 00 09 00 11 22 33 44";
+/// The answer, and the lent take afterwards. The octet on either side has the other level in bit 0, so that a change shows.
+fn fill_leaves(t: &mut Tally, fill_in: FillInCall, w: usize, level: u32, take: &[u8], answer: StreamAnswer, after: &[u8]) {
+    let side = [if level == 0 { TAIL } else { TAIL - 1 }];
+    let mut lent = [&side, take, &side].concat();
+    let got = fill_in(w, &mut lent[1..=take.len()], level);
+    let inputs = || format!("fill-in {w}, level {level:#x}, {} octets {:02x?}", take.len(), &take[..take.len().min(40)]);
+    t.same(got, answer, inputs);
+    t.check(lent == [&side, after, &side].concat(), || format!("{}\n    other octets {:02x?}", inputs(), &lent[..lent.len().min(42)]));
+}
+
+fn fills(t: &mut Tally, fill_in: FillInCall, w: usize, level: u32, take: &[u8], count: u64, after: &[u8]) {
+    fill_leaves(t, fill_in, w, level, take, StreamAnswer { count, ..Default::default() }, after);
+}
+
+/// Four records of width 1 as sampled, filled in low, and high; then the same octets as two records of width 9, low and high.
+/// Fill-in asks nothing of a record, so there are bits in them that other calls refuse.
+const FILLED: [&str; 5] = [
+    "0F 00 00 01 00 01 00 5A FF FF FF FF FF FF FF FF B0 01 10 01 01 01 01 01 00 00 00 00 00 00 00 00",
+    "0E 00 00 01 00 01 00 5A FE FF FF FF FF FF FF FF B0 01 10 01 01 01 01 01 00 00 00 00 00 00 00 00",
+    "0F 00 00 01 00 01 00 5A FF FF FF FF FF FF FF FF B1 01 10 01 01 01 01 01 01 00 00 00 00 00 00 00",
+    "0E 00 00 01 00 01 00 5A FF FF FF FF FF FF FF FF B0 01 10 01 01 01 01 01 00 00 00 00 00 00 00 00",
+    "0F 00 00 01 00 01 00 5A FF FF FF FF FF FF FF FF B1 01 10 01 01 01 01 01 00 00 00 00 00 00 00 00",
+];
+
+/// Change request T-03's level: 0 is low, and each other number high.
+fn fill_ins(t: &mut Tally, fill_in: FillInCall) {
+    let [take, low, high, wide_low, wide_high] = FILLED.map(hex);
+    t.group("T-03 by hand", |t| for level in [0, 1, 2, 256, 0x8000_0000, u32::MAX] {
+        let (narrow, wide) = if level == 0 { (&low, &wide_low) } else { (&high, &wide_high) };
+        for before in [&take, &low, &high] { fills(t, fill_in, 1, level, before, 4, narrow); }
+        fills(t, fill_in, 9, level, &take, 2, wide);
+        fills(t, fill_in, 1, level, &[], 0, &[]);
+        let (bit, other) = if level == 0 { (0, 1) } else { (1, 0) };
+        fills(t, fill_in, 1, level, &[other; 65_536], 8_192, &[bit, other, other, other, other, other, other, other].repeat(8_192));
+        for (w, octets, refusal) in [(0, 31, 1), (0, 65_544, 1), (17, 48, 1), (usize::MAX - 6, 32, 1), (usize::MAX, 36, 1),
+            (1, 1, 2), (1, 31, 2), (1, 33, 2), (16, 45, 2), (16, 47, 2), (1, 65_537, 2), (1, 65_544, 2), (9, 65_552, 2)] {
+            let refused = StreamAnswer { refusal, ..Default::default() };
+            fill_leaves(t, fill_in, w, level, &vec![other; octets], refused, &vec![other; octets]);
+        }
+    });
+}
+
+pub const P1_TAKE: &str = "0F 01 02 0D 00 09 00 11 22 33 44";
 const P1_TRANSFER: &str = "01 01 02 0D 00 09 00 11 22 33 44";
 const END_ONLY: &str = "01 00 00 00 00 00 00 00"; // the second record of S3
 
@@ -186,10 +231,9 @@ pub fn streams(t: &mut Tally, c: &StreamCalls) {
         pack(t, 4, 2, P1_TRANSFER, 2, "00 01 02 03 00 01 00 11 00 01 01 02 01 00 01 00 44 00");
         let part = (StreamAnswer::default(), [7, 4]);
         t.same((c.data_octets)(4, &take, 0), part, || "P1's data octets".to_string());
-        let mut filled = take.clone();
-        let answer = (c.fill_in)(4, &mut filled);
-        let expected = hex("0E 01 02 0D 00 09 00 11 22 33 44");
-        t.same((answer, filled), (StreamAnswer { count: 1, ..Default::default() }, expected), || "P1 filled in".to_string());
+        let low = hex("0E 01 02 0D 00 09 00 11 22 33 44");
+        fills(t, c.fill_in, 4, 0, &take, 1, &low);
+        fills(t, c.fill_in, 4, 1, &low, 1, &take);
     });
     t.group("case S1", |t| pack(t, 4, 4, P1_TRANSFER, 1, "01 01 02 07 00 05 00 11 00 44 00"));
     t.group("case S2", |t| writes(t, |out| (c.downsize)(4, 2, &p1, out), 2, "00 01 02 01 00 01 00 11 00 01 01 02 03 00 02 00 00 44"));
@@ -242,4 +286,5 @@ pub fn streams(t: &mut Tally, c: &StreamCalls) {
         let none = refused(13, 0, 0);
         t.same((c.data_octets)(2, &hex(field), 1), (none, [0, 0]), || "data octets 13".to_string());
     });
+    fill_ins(t, c.fill_in);
 }

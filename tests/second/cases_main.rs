@@ -61,7 +61,7 @@ fn main() {
     cases::streams(&mut t, &cases::StreamCalls {
         judge: model::judge,
         harvest: model::harvest,
-        fill_in: |w, take| model::fill_in(w, take, 0),
+        fill_in: |w, take, level| model::fill_in(w, take, level != 0),
         data_octets: model::data_octets,
         repack: model::repack,
         downsize: model::downsize,

@@ -4,6 +4,7 @@ use crate::tally::{Random, Tally};
 use crate::{cases, library_stream as library};
 
 const GUARD: usize = 24; // octets before and after each lent room
+const HIGH: [u32; 7] = [1, 2, 255, 256, 0x1_0000, 0x8000_0000, u32::MAX]; // each says that TLAST is filled in high
 
 /// A call that writes into a lent room; `plan` is the model's whole answer.
 struct Writer {
@@ -74,14 +75,18 @@ fn compare_judge(t: &mut Tally, w: usize, take: &[u8]) {
     t.check(take == kept, || format!("judge {w}, {}: take changed", show(&kept)));
 }
 
-fn compare_fill_in(t: &mut Tally, w: usize, take: &[u8]) {
-    let mut lent = [vec![0x5B; GUARD], take.to_vec(), vec![0x5B; GUARD]].concat();
+/// One level, said by this number: 0 is low, each other one high. The guards have the other level in bit 0, so that a change shows.
+fn compare_fill_in(t: &mut Tally, w: usize, take: &[u8], level: u32) {
+    let high = level != 0;
+    let guard = vec![if high { 0x5A } else { 0x5B }; GUARD];
+    let mut lent = [&guard, take, &guard].concat();
     let mut modelled = lent.clone();
-    let answer = library::fill_in(w, &mut lent[GUARD..GUARD + take.len()]);
-    let expected = model::fill_in(w, &mut modelled[GUARD..GUARD + take.len()], 0);
-    note(t, "fill-in", expected);
-    t.same(answer, expected, || format!("fill-in {w}, {}", show(take)));
-    t.check(lent == modelled, || format!("fill-in {w}, {}\n    first other octet {}\n    library  {}\n    expected {}", show(take), first_other(&lent, &modelled), show(&lent), show(&modelled)));
+    let answer = library::fill_in(w, &mut lent[GUARD..GUARD + take.len()], level);
+    let expected = model::fill_in(w, &mut modelled[GUARD..GUARD + take.len()], high);
+    note(t, if high { "fill-in high" } else { "fill-in low" }, expected);
+    let inputs = || format!("fill-in {w}, level {level:#x}, {}", show(take));
+    t.same(answer, expected, inputs);
+    t.check(lent == modelled, || format!("{}\n    first other octet {}\n    library  {}\n    expected {}", inputs(), first_other(&lent, &modelled), show(&lent), show(&modelled)));
 }
 
 fn compare_data_octets(t: &mut Tally, w: usize, take: &[u8]) {
@@ -99,7 +104,7 @@ fn compare_data_octets(t: &mut Tally, w: usize, take: &[u8]) {
 fn cycle_calls(t: &mut Tally, w: usize, take: &[u8]) {
     compare_judge(t, w, take);
     write_all(t, &HARVEST, w, w, take);
-    compare_fill_in(t, w, take);
+    for level in [0, HIGH[take.len() % HIGH.len()]] { compare_fill_in(t, w, take, level); }
     compare_data_octets(t, w, take);
 }
 
@@ -261,6 +266,21 @@ pub fn round(t: &mut Tally, r: &mut Random) {
     parts(t, r, d, pairs);
 }
 
+/// T-03's level, said by 0, by each bit alone, by all but that one, and by any number: on any octets of a good length
+/// or one octet beside it, at good widths and others.
+fn fill_in_levels(t: &mut Tally) {
+    t.seeded_group("fill-in levels", |t, r| for w in WIDTHS {
+        let size = if w == 0 || w > 16 { 8 } else { 7 + w };
+        for octets in [0, 1, size - 1, size, size + 1, 5 * size - 1, 5 * size, 5 * size + 1] {
+            let take: Vec<u8> = (0..octets).map(|_| r.next() as u8).collect();
+            compare_fill_in(t, w, &take, 0);
+            for bit in 0..32 {
+                for level in [1 << bit, !(1 << bit), r.next() as u32] { compare_fill_in(t, w, &take, level); }
+            }
+        }
+    });
+}
+
 /// What the gate asks.
 pub fn all(t: &mut Tally) {
     cases::streams(t, &cases::StreamCalls {
@@ -268,6 +288,7 @@ pub fn all(t: &mut Tally) {
         data_octets: library::data_octets, repack: library::repack, downsize: library::downsize,
     });
 
+    fill_in_levels(t);
     t.seeded_group("widths", |t, r| for w in WIDTHS {
         for octets in [0, 1, 7, 8, 23, 24, 27, 65_536, 65_537] {
             let input = vec![0; octets];
@@ -376,11 +397,12 @@ pub fn all(t: &mut Tally) {
 }
 
 /// What must have occurred by then.
-pub const VERDICTS: [&str; 35] = [
+pub const VERDICTS: [&str; 38] = [
     "judge accepted", "judge broken rule 1", "judge broken rule 2", "judge broken rule 3", "judge broken rule 4",
     "judge refusal 1", "judge refusal 2", "judge refusal 3",
     "harvest accepted", "harvest refusal 1", "harvest refusal 2", "harvest refusal 3", "harvest refusal 5", "harvest refusal 14",
-    "fill-in accepted", "fill-in refusal 1", "fill-in refusal 2",
+    "fill-in low accepted", "fill-in low refusal 1", "fill-in low refusal 2",
+    "fill-in high accepted", "fill-in high refusal 1", "fill-in high refusal 2",
     "data octets accepted", "data octets refusal 1", "data octets refusal 2", "data octets refusal 13",
     "repack accepted", "repack refusal 1", "repack refusal 2", "repack refusal 3", "repack refusal 4", "repack refusal 5",
     "downsize accepted", "downsize refusal 1", "downsize refusal 2", "downsize refusal 3", "downsize refusal 4", "downsize refusal 5", "downsize refusal 6",

@@ -11,7 +11,7 @@ pub struct PartAnswer { pub refusal: u32, pub start: u64, pub length: u64 }
 unsafe extern "C" {
     fn urd_judge(width: usize, take: *const u8, take_len: usize) -> StreamAnswer;
     fn urd_harvest(width: usize, take: *const u8, take_len: usize, out: *mut u8, out_len: usize) -> StreamAnswer;
-    fn urd_fill_in(width: usize, take: *mut u8, take_len: usize) -> StreamAnswer;
+    fn urd_fill_in(width: usize, take: *mut u8, take_len: usize, level: u32) -> StreamAnswer;
     fn urd_data_octets(width: usize, take: *const u8, take_len: usize, k: usize) -> PartAnswer;
     fn urd_repack(width: usize, v: usize, input: *const u8, input_len: usize, out: *mut u8, out_len: usize) -> StreamAnswer;
     fn urd_downsize(width: usize, v: usize, input: *const u8, input_len: usize, out: *mut u8, out_len: usize) -> StreamAnswer;
@@ -31,9 +31,10 @@ pub fn harvest(w: usize, take: &[u8], out: &mut [u8]) -> model::StreamAnswer {
     plain(unsafe { urd_harvest(w, take.as_ptr(), take.len(), out.as_mut_ptr(), out.len()) })
 }
 
-pub fn fill_in(w: usize, take: &mut [u8]) -> model::StreamAnswer {
+/// Level 0 is low, each other number high.
+pub fn fill_in(w: usize, take: &mut [u8], level: u32) -> model::StreamAnswer {
     calls::count("urd_fill_in");
-    plain(unsafe { urd_fill_in(w, take.as_mut_ptr(), take.len()) })
+    plain(unsafe { urd_fill_in(w, take.as_mut_ptr(), take.len(), level) })
 }
 
 /// Its refusals have place and rule 0, and the library shows none.

@@ -264,12 +264,12 @@ fn write(plan: Result<Vec<u8>, StreamAnswer>, width_out: usize, out: &mut [u8]) 
 
 pub fn harvest(w: usize, take: &[u8], out: &mut [u8]) -> StreamAnswer { write(harvest_plan(w, take), w, out) }
 
-/// Fill-in: TLAST of every record becomes `level`; paper 01 itself has level 0.
-pub fn fill_in(w: usize, take: &mut [u8], level: u8) -> StreamAnswer {
+/// Fill-in with the level of T-03: TLAST of every record becomes high or low, and nothing else changes.
+pub fn fill_in(w: usize, take: &mut [u8], high: bool) -> StreamAnswer {
     if width_is_wrong(w) { return refused(WIDTH); }
     if length_is_wrong(w, take) { return refused(LENGTH); }
     for r in take.chunks_mut(record_octets(w)) {
-        r[0] = (r[0] & 0xFE) | level;
+        r[0] = (r[0] & 0xFE) | u8::from(high);
     }
     counted(take.len() / record_octets(w))
 }
