@@ -7,13 +7,13 @@ use mathlib.Core.Option.{Option, none, some}
 use Prim.Native.Nat.{ℕ, zero, suc, _+_, _-_, _*_, _/_, _≤_, _<_}
 use native.Mathlib.Nat.{zero-add}
 use native.Mathlib.Omega.{arith}
-use lib.ListN.{length, getD, take, drop, set, length-drop, length-map, take-append-drop}
+use lib.ListN.{length, getD, take, drop, set, length-drop, take-append-drop}
 use lib.Seq.{take-all}
 use Rattle.refusal.specs.declared.Refusal.{Refusal}
 use Rattle.refusal.specs.Checks.{first}
 use Rattle.stream_spec.specs.declared.Shape.{Shape}
 use Rattle.stream_spec.specs.declared.Written.the-variants.{Records, Refused}
-use Rattle.stream_spec.specs.Layout.{bitOf, size, records, recordCount, joined}
+use Rattle.stream_spec.specs.Layout.{bitOf, size, recordCount, joined}
 use Rattle.stream_spec.specs.Checks.{takeChecks}
 use Rattle.stream_spec.specs.Handshake.{withLast, filledIn}
 use Rattle.stream_spec.specs.Answers.{FilledIn, written, lentAfter, writtenValues, fillRefusal, fillAnswer, fillAfter}

@@ -1,7 +1,7 @@
 -- Fill-in of TLAST: it keeps a record's length and all other wires, so the same cycles are transfers; what is then harvested;
 -- and how records that all have TLAST are packed. Assumes nothing.
 use mathlib.Core.Path.{_≡_, refl, sym, ap, ap₂, _∙_}
-use mathlib.Core.Bool.{Bool, true, false, _&&_, cond}
+use mathlib.Core.Bool.{Bool, true, false}
 use mathlib.Core.List.{List, [], _∷_, _++_, map, append-nil, head?, getLast?}
 use mathlib.Core.Option.{Option, none, some}
 use Prim.Native.Nat.{ℕ, suc, _+_, _*_, _/_, _%_, _≤_, _<_}
@@ -30,12 +30,12 @@ length-last level [] = refl
 length-last level (f ∷ r) = refl
 
 -- TLAST is the level, and every other flag is as it was
-set-low : (level : Bool) (f : ℕ) → bit 0 (lastSet level f) ≡ level
-set-low level f =
+pub set-zero : (level : Bool) (f : ℕ) → bit 0 (lastSet level f) ≡ level
+set-zero level f =
     let same : lastSet level f ≡ bitOf level + 2 * (f / 2) = omega arith in
     bit-zero (lastSet level f) ∙ ap odd same ∙ odd-mask level (f / 2)
 
-set-above : (level : Bool) (x f : ℕ) → bit (suc x) (lastSet level f) ≡ bit (suc x) f
+pub set-above : (level : Bool) (x f : ℕ) → bit (suc x) (lastSet level f) ≡ bit (suc x) f
 set-above level x f =
     let half : lastSet level f / 2 ≡ f / 2 = omega (arith, bit-one level) in
     bit-suc x (lastSet level f) ∙ ap (bit x) half ∙ sym (bit-suc x f)
@@ -47,7 +47,7 @@ filled-transferred level (f ∷ r) = rw (set-above level 2 f, set-above level 0 
 
 filled-kept : (level : Bool) (n : ℕ) (c : List ℕ) → 0 < n → length c ≡ n → asTransfer (withLast level c) ≡ asFilled level c
 filled-kept level n [] h e = absurd (omega arith)
-filled-kept level n (f ∷ r) h e = rw (set-low level f) refl
+filled-kept level n (f ∷ r) h e = rw (set-zero level f) refl
 
 -- ---- all records of a take
 
@@ -66,7 +66,7 @@ filled-long level s xs whole =
     ∙ ap (λ (n : ℕ). n * size s) (length-map (records s xs) (withLast level) ∙ length-pieces (size s) (recordCount s xs) xs)
     ∙ sym (whole-count s xs whole)
 
-filled-handshakes : (level : Bool) (n : ℕ) (cs : List (List ℕ)) → 0 < n → Sized n cs
+pub filled-handshakes : (level : Bool) (n : ℕ) (cs : List (List ℕ)) → 0 < n → Sized n cs
     → map asTransfer (handshakes (map (withLast level) cs)) ≡ map (asFilled level) (handshakes cs)
 filled-handshakes level n [] h z = refl
 filled-handshakes level n (c ∷ cs) h z = go (transferred c) refl (filled-handshakes level n cs h (z .1))
@@ -82,19 +82,24 @@ filled-harvest level s xs =
     ap (λ (rs : List (List ℕ)). joined (map asTransfer (handshakes rs))) (filled-records level s xs)
     ∙ ap joined (filled-handshakes level (size s) (records s xs) (size-pos s) (records-sized s xs))
 
--- a take that is judged clean after fill-in was filled in: its shape and length were not refused
+-- where shape and length are not refused, the lent take is the filled one afterwards
+pub taken-filled : (level : Bool) (s : Shape) (xs : List ℕ) → fillRefusal s xs ≡ none → fillAfter level s xs ≡ filledIn level s xs
+unfolding fillAfter
+taken-filled level s xs e =
+    let all : length xs ≤ length (filledIn level s xs) = omega (arith, filled-long level s xs (checks-passed s xs e .whole)) in
+    rw e (ap (λ (ys : List ℕ). filledIn level s xs ++ ys) (drop-of-length-le xs all) ∙ append-nil (filledIn level s xs))
+
+-- a take that is judged clean after fill-in was filled in
 pub clean-filled : (level : Bool) (s : Shape) (xs : List ℕ) (n : ℕ) → judgeAnswer s (fillAfter level s xs) ≡ Clean n → fillAfter level s xs ≡ filledIn level s xs
 unfolding fillAfter
-clean-filled level s xs n clean = go (fillRefusal s xs) refl clean
+clean-filled level s xs n clean = go (fillRefusal s xs) refl
   where
-    go : (o : Option Refusal) → fillRefusal s xs ≡ o → judgeAnswer s (lentAfter o (filledIn level s xs) xs) ≡ Clean n
-        → lentAfter o (filledIn level s xs) xs ≡ filledIn level s xs
-    go (some r) e clean =
-        let taken : some r ≡ none = sym e ∙ clean-taken s xs n clean in
+    go : (o : Option Refusal) → fillRefusal s xs ≡ o → fillAfter level s xs ≡ filledIn level s xs
+    go (some r) e =
+        let kept : fillAfter level s xs ≡ xs = ap (λ (o : Option Refusal). lentAfter o (filledIn level s xs) xs) e in
+        let taken : some r ≡ none = sym e ∙ clean-taken s xs n (sym (ap (judgeAnswer s) kept) ∙ clean) in
         let z : _≡_ {A = ℕ} 0 1 = cc in absurd (omega arith)
-    go none e clean =
-        let all : length xs ≤ length (filledIn level s xs) = omega (arith, filled-long level s xs (checks-passed s xs e .whole)) in
-        ap (λ (ys : List ℕ). filledIn level s xs ++ ys) (drop-of-length-le xs all) ∙ append-nil (filledIn level s xs)
+    go none e = taken-filled level s xs e
 
 -- ---- the transfers that were sampled, at a level
 

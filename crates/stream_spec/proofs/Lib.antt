@@ -22,6 +22,7 @@ pub mod Only
 pub mod Findings
 pub mod Harvest
 pub mod Fill
+pub mod Alike
 pub mod Clean
 pub mod Promises
 pub mod Tables

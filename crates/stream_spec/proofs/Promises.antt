@@ -20,7 +20,7 @@ use Rattle.stream_spec.specs.Checks.{takeChecks, indexCheck}
 use Rattle.stream_spec.specs.Handshake.{wasReset}
 use Rattle.stream_spec.specs.Walk.{Passed}
 use Rattle.stream_spec.specs.Answers.{judgeAnswer, dataRefusal, dataPart}
-use Rattle.stream_spec.specs.Promises.{SetAbove, cycleBefore, FieldBits, DataHandedOut, WidthExactly, LengthExactly, ByteTypes, RepackingKeeps, PackedLegal, PackedLength, PackedFull, PackedOnly, Holds, Joins, Canonical, LaneKeeping, Findings, ResetQuiet, HarvestLegal, HarvestRepacks, FilledHarvest, EachItsPacket}
+use Rattle.stream_spec.specs.Promises.{SetAbove, cycleBefore, FieldBits, DataHandedOut, WidthExactly, LengthExactly, ByteTypes, RepackingKeeps, PackedLegal, PackedLength, PackedFull, PackedOnly, Holds, Joins, Canonical, LaneKeeping, Findings, ResetQuiet, HarvestLegal, HarvestRepacks, FilledHarvest, JudgedAlike, EachItsPacket}
 use Rattle.stream_spec.proofs.Bits.{bit-zero, bit-suc}
 use Rattle.stream_spec.proofs.Size.{data-long}
 use Rattle.stream_spec.proofs.Bools.{or-split, not-left}
@@ -36,6 +36,7 @@ use Rattle.stream_spec.proofs.Findings.{judges}
 use Rattle.stream_spec.proofs.Clean.{clean-sound}
 use Rattle.stream_spec.proofs.Harvest.{harvestLegal as harvest-legal, harvestRepacks as harvest-repacks}
 use Rattle.stream_spec.proofs.Fill.{filled-harvest, each-its-packet}
+use Rattle.stream_spec.proofs.Alike.{judged-alike}
 
 -- ---- refusals
 
@@ -205,6 +206,9 @@ harvestRepacks = harvest-repacks
 
 pub filledHarvest : FilledHarvest
 filledHarvest = filled-harvest
+
+pub judgedAlike : JudgedAlike
+judgedAlike = judged-alike
 
 pub eachItsPacket : EachItsPacket
 eachItsPacket = each-its-packet

@@ -15,7 +15,7 @@ use Rattle.stream_spec.specs.Packed.{pack}
 use Rattle.stream_spec.specs.Layout.{size, dataLane, nullLane, laneTypes, records, streamItems, packedTransfers, packed, slicedTransfers}
 use Rattle.stream_spec.specs.Checks.{widthCheck}
 use Rattle.stream_spec.specs.Handshake.{low, high, harvested, filledIn}
-use Rattle.stream_spec.specs.Answers.{judgeAnswer, repackRefusal, repackAnswer, repackAfter, dataPart}
+use Rattle.stream_spec.specs.Answers.{judgeAnswer, fillAfter, repackRefusal, repackAnswer, repackAfter, dataPart}
 use Rattle.stream_spec.specs.Legal.{Legal}
 use Rattle.stream_spec.specs.Promises.{Width, SetAbove, Packs, breaks, IsEarliest, Quiet}
 use Rattle.stream_spec.specs.Demand3.{acceptedAt, next, afterCalls, whole}
@@ -23,7 +23,7 @@ use Rattle.stream_spec.specs.Tables.{lanes, stream, isLegal}
 use Rattle.stream_spec.specs.Cases.{p1}
 use Rattle.stream_spec.specs.Witnesses.{first, firstItems, atOne, atFour, atSixteen, endless, endlessItems, lends, refusedCalls, mixedCalls, someParts, someNumbers, someJoined, packedOnes, onesBytes, onesEnds, onesItems, p1Slices, p1Items, p1Packed, wide, brokenTake, cleanTake, resetTake, earlyTake, loudTake, harvest, harvestLow, harvestHigh, lastOnes, lastTwos}
 use Rattle.stream_spec.proofs.Bools.{no-such}
-use Rattle.stream_spec.proofs.Promises.{fieldBits, byteTypes, dataHandedOut, repackingKeeps, packedLegal, packedFull, packedOnly, holds, joins, canonical, laneKeeping, findings, resetQuiet, harvestLegal, harvestRepacks, filledHarvest, eachItsPacket}
+use Rattle.stream_spec.proofs.Promises.{fieldBits, byteTypes, dataHandedOut, repackingKeeps, packedLegal, packedFull, packedOnly, holds, joins, canonical, laneKeeping, findings, resetQuiet, harvestLegal, harvestRepacks, filledHarvest, judgedAlike, eachItsPacket}
 use Rattle.stream_spec.proofs.Demand3.{calls, parts}
 use Rattle.stream_spec.proofs.Tables.{widthTested, octets-tested, legalTested, dividesTested}
 
@@ -190,6 +190,11 @@ filled-low = filledHarvest low (lanes 1) cleanTake
 pub filled-high : harvested (lanes 1) (filledIn high (lanes 1) cleanTake) ≡ harvestHigh
 unfolding size
 filled-high = filledHarvest high (lanes 1) cleanTake
+
+-- what is judged clean at one level is so at the other, though TLAST was sampled high in one transfer and low in the other
+pub judged-alike : judgeAnswer (lanes 1) (fillAfter high (lanes 1) cleanTake) ≡ Clean 2
+unfolding size judgeAnswer fillAfter
+judged-alike = judgedAlike high low (lanes 1) cleanTake
 
 -- an all-null record with TLAST is a packet too
 pub own-packets : packed (lanes 1) 2 lastOnes ≡ lastTwos

@@ -17,7 +17,7 @@ use Rattle.stream_spec.specs.Packed.{fitted, pack, settled, held, parted
 use Rattle.stream_spec.specs.Layout.{bit, widthMost, tlast, tvalid, aresetn, tkeep, tstrb, size, atWidth, nullLane, laneType, laneTypes, Kept, records, joined, streamItems, packedTransfers, packed, slicedTransfers, sliced}
 use Rattle.stream_spec.specs.Checks.{widthCheck, lengthCheck}
 use Rattle.stream_spec.specs.Handshake.{r1, r2, r3, r4, Finding, firstFinding, handshakes, harvested, filledIn, asFilled}
-use Rattle.stream_spec.specs.Answers.{judgeAnswer, repackRefusal, harvestRefusal, dataRefusal, dataPart}
+use Rattle.stream_spec.specs.Answers.{judgeAnswer, fillAfter, repackRefusal, harvestRefusal, dataRefusal, dataPart}
 use Rattle.stream_spec.specs.Legal.{Octets, Legal}
 
 -- a width that is not refused
@@ -200,6 +200,10 @@ abbrev pub FilledHarvest : Type 0
 FilledHarvest =
     (level : Bool) (s : Shape) (xs : List ℕ)
     → harvested s (filledIn level s xs) ≡ joined (map (asFilled level) (handshakes (records s xs)))
+
+-- The level decides nothing that judging answers: a filled take is clean, broken or refused alike at both.
+abbrev pub JudgedAlike : Type 0
+JudgedAlike = (a b : Bool) (s : Shape) (xs : List ℕ) → judgeAnswer s (fillAfter a s xs) ≡ judgeAnswer s (fillAfter b s xs)
 
 -- every one of these records has TLAST
 abbrev pub AllLast : List (List ℕ) → Type 0
