@@ -1,6 +1,8 @@
 // The stream cases S1 to S7, the bounds of a take, each finding, and fill-in. The output is lent 24 octets EE, and all of them
 // are printed, so that what is not written shows.
 use refusal::Refusal;
+use stream_fill_in::HIGH;
+use stream_fill_in::LOW;
 use stream_spec::Verdict;
 use stream_spec::Written;
 
@@ -156,12 +158,12 @@ pub fn findings() {
 
 // T-03: fill-in low and high, where TLAST is the other level and where it is this one; refused, at either level.
 pub fn levels() {
-    fill_in(b"FILL", 1, 0xFF, false);
-    fill_in(b"FILL", 1, 0xFF, true);
-    fill_in(b"FILL", 1, 0xEE, false);
-    fill_in(b"FILL", 1, 0xEE, true);
-    fill_in(b"FILL", 2, 0xFF, false);
-    fill_in(b"FILL", 17, 0xEE, true);
+    fill_in(b"FILL", 1, 0xFF, LOW);
+    fill_in(b"FILL", 1, 0xFF, HIGH);
+    fill_in(b"FILL", 1, 0xEE, LOW);
+    fill_in(b"FILL", 1, 0xEE, HIGH);
+    fill_in(b"FILL", 2, 0xFF, LOW);
+    fill_in(b"FILL", 17, 0xEE, HIGH);
 }
 
 // A take of 65,536 octets at widths 1 and 9, and one record more; widths 0, 16 and 17; each field's bound.

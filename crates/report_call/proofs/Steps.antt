@@ -29,7 +29,7 @@ use Rattle.report_spec.specs.declared.Verdict.the-variants.{Broken, Refused}
 use Rattle.report_call.specs.declared.outcome.Ending.{Ending}
 use Rattle.stream_record.specs.declared.Checked.{Checked}
 use Rattle.stream_record.specs.declared.Checked.the-variants.{Passed, Refused as NotPassed}
-use Rattle.report_spec.specs.Report.{contents, Outcome, refused, shapeOf, prepared, cyclesOf, transfersOf, afterJudging, convertedTransfers, captureOutcome, setupChecks, Passes, unless, setupOutcome, sheetOutcome, outcomeOf, verdictValues, textOf, reportOf, Reported}
+use Rattle.report_spec.specs.Report.{contents, refused, shapeOf, prepared, cyclesOf, transfersOf, afterJudging, convertedTransfers, captureOutcome, setupChecks, Passes, unless, setupOutcome, sheetOutcome, outcomeOf, verdictValues, textOf, reportOf, Reported}
 use Rattle.report_call.specs.Steps.{Came, OfCapture, OfCycles, OfTransfers, OfClean, Rendered}
 use Rattle.report_call.proofs.Told.{prefix-is}
 use Rattle.refusal.proofs.First.{first-none}

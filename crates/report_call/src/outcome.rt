@@ -8,6 +8,8 @@ use report_setup_spec::Sheet;
 use report_setup_spec::Tlast;
 use report_spec::Tally;
 use report_spec::Verdict;
+use stream_fill_in::HIGH;
+use stream_fill_in::LOW;
 use stream_record::Checked;
 use stream_spec::Shape;
 use stream_spec::Written;
@@ -169,10 +171,10 @@ fn prepare(wire: Tlast, s: Shape, capture: &mut [u8])
     match wire {
         Tlast::Wired => {}
         Tlast::Absent => {
-            stream_fill_in::fill_in(s, capture, true);
+            stream_fill_in::fill_in(s, capture, HIGH);
         }
         Tlast::Low => {
-            stream_fill_in::fill_in(s, capture, false);
+            stream_fill_in::fill_in(s, capture, LOW);
         }
     }
 }

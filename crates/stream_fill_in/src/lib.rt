@@ -13,6 +13,11 @@ ghost use Rattle.stream_spec.specs.Answers.{FilledIn};
 ghost use Rattle.stream_spec.specs.Walk.{Passed};
 ghost use Rattle.stream_fill_in.specs.Filling.{Filled};
 
+// The two levels of a wire.
+pub const LOW: bool = false;
+
+pub const HIGH: bool = true;
+
 // A level as a bit.
 fn bit(level: bool) -> u8
     ensures { λ r. ⌜ (r ≡ bitOf level) × (r ≤ 1) ⌝ }

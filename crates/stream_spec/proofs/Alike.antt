@@ -1,20 +1,19 @@
 -- A take that is filled in is judged alike at both levels: no field, no rule and no count tells them apart. Assumes nothing.
 use mathlib.Core.Path.{_≡_, refl, sym, ap, ap₂, _∙_}
-use mathlib.Core.Bool.{Bool, true, false, not, _||_, Bool·beq}
+use mathlib.Core.Bool.{Bool, true, false, Bool·beq}
 use mathlib.Core.List.{List, [], _∷_, _++_, map}
 use mathlib.Core.Option.{Option, none, some}
 use Prim.Native.Nat.{ℕ, suc, _%_, _^_, _<_}
 use native.Mathlib.Omega.{arith}
 use borrow.Author.Tests.{le-leb, lt-leb, leb-true, leb-false}
-use lib.Dec.{eqb, leb, ltb}
+use lib.Dec.{leb}
 use lib.ListN.{length, length-map}
 use Rattle.refusal.specs.declared.Refusal.{Refusal}
-use Rattle.refusal.specs.declared.Refusal.the-variants.{Length}
-use Rattle.refusal.specs.Checks.{Check, check, first}
+use Rattle.refusal.specs.Checks.{Check, first}
 use Rattle.stream_spec.specs.declared.Shape.{Shape}
 use Rattle.stream_spec.specs.declared.Verdict.{Verdict}
 use Rattle.stream_spec.specs.Layout.{size, lastSet, records}
-use Rattle.stream_spec.specs.Checks.{captureMost, cycleFlags, shapeChecks, cycleChecks}
+use Rattle.stream_spec.specs.Checks.{cycleFlags, takeChecks, cycleChecks}
 use Rattle.stream_spec.specs.Handshake.{Finding, ruleChecks, findings, handshakes, asTransfer, withLast, filledIn, asFilled}
 use Rattle.stream_spec.specs.Answers.{verdict, judgeAnswer, fillRefusal, fillAfter}
 use Rattle.stream_spec.specs.Promises.{JudgedAlike}
@@ -76,21 +75,21 @@ module _ (a b : Bool) (s : Shape) where
   findings-alike n h k ((f ∷ r) ∷ cs) z (some (g ∷ q)) w =
       ap₂ {C = List (Check Finding)} (λ x y. x ++ y) (rules-next k g q f r) (findings-alike n h (suc k) cs (z .1) (some (f ∷ r)) (z .0))
 
-  -- judging, of the length of a take and its records
-  abbrev judgedBy : ℕ → List (List ℕ) → Verdict
-  judgedBy n cs =
-      verdict
-      (first ((shapeChecks s [] ++ check (ltb captureMost n || not (eqb (n % size s) 0)) Length ∷ []) ++ cycleChecks s 0 cs))
-      (first (findings s 0 none cs)) (length (handshakes cs))
+  -- judging a filled take: its length is the take's, and its records are these
+  abbrev judgedBy : List ℕ → List (List ℕ) → Verdict
+  judgedBy xs cs = verdict (first (takeChecks s xs ++ cycleChecks s 0 cs)) (first (findings s 0 none cs)) (length (handshakes cs))
+
+  judge-filled : (level : Bool) (xs : List ℕ) → length xs % size s ≡ 0 → judgeAnswer s (filledIn level s xs) ≡ judgedBy xs (map (withLast level) (records s xs))
+  unfolding judgeAnswer
+  judge-filled level xs whole = rw (filled-records level s xs, filled-long level s xs whole) refl
 
   filled-alike : (xs : List ℕ) → length xs % size s ≡ 0 → judgeAnswer s (filledIn a s xs) ≡ judgeAnswer s (filledIn b s xs)
-  unfolding judgeAnswer
   filled-alike xs whole =
       let rs = records s xs in
       let z = records-sized s xs in
-      ap₂ judgedBy (filled-long a s xs whole) (filled-records a s xs)
+      judge-filled a xs whole
       ∙ rw (checks-alike a s 0 rs, checks-alike b s 0 rs, count-alike a (size s) rs (size-pos s) z, count-alike b (size s) rs (size-pos s) z, findings-alike (size s) (size-pos s) 0 rs z none tt) refl
-      ∙ sym (ap₂ judgedBy (filled-long b s xs whole) (filled-records b s xs))
+      ∙ sym (judge-filled b xs whole)
 
 pub judged-alike : JudgedAlike
 unfolding fillAfter

@@ -1,6 +1,6 @@
 -- Fill-in of TLAST: it keeps a record's length and all other wires, so the same cycles are transfers; what is then harvested;
 -- and how records that all have TLAST are packed. Assumes nothing.
-use mathlib.Core.Path.{_≡_, refl, sym, ap, ap₂, _∙_}
+use mathlib.Core.Path.{_≡_, refl, sym, ap, ap₂, _∙_, subst}
 use mathlib.Core.Bool.{Bool, true, false}
 use mathlib.Core.List.{List, [], _∷_, _++_, map, append-nil, head?, getLast?}
 use mathlib.Core.Option.{Option, none, some}
@@ -13,13 +13,14 @@ use Rattle.stream_spec.specs.declared.Verdict.the-variants.{Clean}
 use Rattle.stream_spec.specs.Items.{Pair, Transfer, Item, byte, end, kept, transferItems, items}
 use Rattle.stream_spec.specs.Packed.{pack, apart, parted}
 use Rattle.stream_spec.specs.Layout.{bit, odd, bitOf, size, tlast, lastSet, Kept, records, recordCount, joined, transferOf, octets, packed}
-use Rattle.stream_spec.specs.Handshake.{transferred, handshakes, asTransfer, withLast, filledIn, asFilled}
+use Rattle.stream_spec.specs.Handshake.{high, transferred, handshakes, asTransfer, withLast, filledIn, asFilled}
 use Rattle.stream_spec.specs.Answers.{lentAfter, judgeAnswer, fillRefusal, fillAfter}
 use Rattle.stream_spec.specs.Promises.{FilledHarvest, AllLast, EachItsPacket}
 use Rattle.stream_spec.proofs.Bits.{bit-zero, bit-suc, bit-one, odd-mask, bit-back}
 use Rattle.stream_spec.proofs.Size.{size-pos}
 use Rattle.stream_spec.proofs.Pack.{pack-parted}
 use Rattle.stream_spec.proofs.Passed.{checks-passed}
+use Rattle.stream_spec.proofs.Harvest.{kept-sized}
 use Rattle.stream_spec.proofs.Clean.{clean-taken}
 use Rattle.stream_spec.proofs.Records.{Sized, length-joined, records-joined, record-alone, records-sized, length-pieces, whole-count, octets-append}
 
@@ -104,16 +105,7 @@ clean-filled level s xs n clean = go (fillRefusal s xs) refl
 -- ---- the transfers that were sampled, at a level
 
 pub sized-filled : (level : Bool) (n : ℕ) (cs : List (List ℕ)) → 0 < n → Sized n cs → Sized n (map (asFilled level) (handshakes cs))
-sized-filled level n [] h z = tt
-sized-filled level n (c ∷ cs) h z = go (transferred c) refl (sized-filled level n cs h (z .1))
-  where
-    long : (c : List ℕ) → length c ≡ n → length (asFilled level c) ≡ n
-    long [] e = absurd (omega arith)
-    long (f ∷ r) e = e
-
-    go : (b : Bool) → transferred c ≡ b → Sized n (map (asFilled level) (handshakes cs)) → Sized n (map (asFilled level) (handshakes (c ∷ cs)))
-    go true e rest = rw e (long c (z .0), rest)
-    go false e rest = rw e rest
+sized-filled level n cs h z = subst (Sized n) (filled-handshakes level n cs h z) (kept-sized n (map (withLast level) cs) h (sized-last level n cs z))
 
 -- they are the records of what is harvested
 pub harvest-records : (level : Bool) (s : Shape) (xs : List ℕ)
@@ -124,9 +116,9 @@ harvest-records level s xs =
 pub filled-last : (level : Bool) (c : List ℕ) → tlast (asFilled level c) ≡ level
 filled-last level c = bit-back level
 
-pub all-last : (cs : List (List ℕ)) → AllLast (map (asFilled true) cs)
+pub all-last : (cs : List (List ℕ)) → AllLast (map (asFilled high) cs)
 all-last [] = tt
-all-last (c ∷ cs) = (filled-last true c, all-last cs)
+all-last (c ∷ cs) = (filled-last high c, all-last cs)
 
 -- ---- records that all have TLAST
 

@@ -107,7 +107,7 @@ fewer (c ∷ cs) = go (transferred c) refl (fewer cs)
 
 -- ---- how much is harvested
 
-kept-sized : (n : ℕ) (cs : List (List ℕ)) → 0 < n → Sized n cs → Sized n (map asTransfer (handshakes cs))
+pub kept-sized : (n : ℕ) (cs : List (List ℕ)) → 0 < n → Sized n cs → Sized n (map asTransfer (handshakes cs))
 kept-sized n [] h z = tt
 kept-sized n (c ∷ cs) h z = go (transferred c) refl (kept-sized n cs h (z .1))
   where
