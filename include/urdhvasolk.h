@@ -135,7 +135,8 @@ urd_stream_answer urd_judge(size_t width, const uint8_t *capture, size_t capture
 urd_stream_answer urd_harvest(size_t width, const uint8_t *capture, size_t capture_length, uint8_t *out, size_t out_length);
 
 /* Sets TLAST of every record to a level, for ports with no TLAST wire: count of records. `level` 0 is low, anything else high. Arm
- * wants high where nobody knows what stands in between (IHI 0051A 3.1.3); the report takes high for `tlast=none`, low for `tlast=low`.
+ * recommends high where nobody knows what stands in between (IHI 0051A 3.1.3). The level is there since T-03: a program compiled before
+ * passes none and gets either level, so compile it anew.
  * Refusals: 1, 2.
  * Lent memory: bit 0 of octet 0 of each record of `capture` becomes the level, nothing else changes; refused, it is unchanged. */
 urd_stream_answer urd_fill_in(size_t width, uint8_t *capture, size_t capture_length, uint32_t level);
@@ -169,13 +170,14 @@ typedef struct urd_report_answer {
     uint32_t rule;      /* broken: the rule, 1 to 4 */
     uint64_t place;     /* refused: the record of refusal 3; broken: the cycle */
     uint64_t transfers; /* clean: the transfers harvested */
-    uint64_t packets;   /* clean: how many of them have TLAST */
+    uint64_t packets;   /* clean: how many of them have TLAST, after fill-in */
     uint64_t records;   /* clean: the records written to `out` */
     uint64_t text;      /* octets of the report's text at the front of `text`; 0 where it does not fit (103 are enough) */
     uint64_t octets;    /* clean: octets of the result at the front of `out` */
 } urd_report_answer;
 
 /* The report on cycle records by a setup sheet. `sheet_read` and `capture_read` are 0 where the file can't be read, else not.
+ * In the sheet `tlast=none` fills in high and `tlast=low` low; before T-03 `none` was low.
  * Refusals: 15, 1 (either width), 6 (lanes mode), 2 (a capture that can't be read, too), 3 (place: the record), 5.
  * Lent memory: `out` gets the result if clean, `text` the report's lines if they fit; nothing else in them changes. */
 urd_report_answer urd_report(const uint8_t *sheet, size_t sheet_length, uint32_t sheet_read, const uint8_t *capture, size_t capture_length, uint32_t capture_read, uint8_t *out, size_t out_length, uint8_t *text, size_t text_length);

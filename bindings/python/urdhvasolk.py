@@ -3,7 +3,8 @@
 Only the standard library is used. The shared object is the one of the environment variable URDHVASOLK_LIB, or else
 build/lib/liburdhvasolk.so of this project (`make lib`). No call raises on any whole numbers and octets:
 - a number that the library's argument cannot hold, negative ones too, is passed on as the largest one that it can, which
-  is refused for the same reason; a start that is no 32-bit number has no such stand-in, and the answer is None;
+  is refused for the same reason; a start that is no 32-bit number has no such stand-in, and the answer is None; the level of
+  fill_in is never refused;
 - input is any bytes-like object, and is copied, so it may be the lent memory itself;
 - lent memory (`out`, and the capture of fill_in) is a bytearray or the like, changed in place as the header says.
 """
@@ -143,8 +144,8 @@ def harvest(width, capture, out):
 
 
 def fill_in(width, capture, level):
-    """Sets TLAST of every record in the lent capture, for ports with no TLAST wire: count of records. `level` is True for high,
-    False for low, or a whole number, 0 for low (a text raises: "low" is none of these). Refusals 1, 2."""
+    """Sets TLAST of every record in the lent capture, for ports with no TLAST wire: count of records. False or 0 as the level is
+    low, True or any other whole number high; anything else, the text "low" too, raises TypeError. Refusals 1, 2."""
     lent = _lend(capture)
     high = int(operator.index(level) != 0)
     return _plain(StreamAnswer, _fill_in(_held(width, _size), ctypes.addressof(lent), len(lent), high))
@@ -180,7 +181,8 @@ def _file(octets):
 
 def report(sheet, take):
     """The report on a take by its setup sheet, each None where it can't be read: verdict and numbers, the lines as a str, and
-    the octets of the result, none unless clean. Refusals 15, 1, 6, 2, 3, 5, the last for a result above 65,536 octets."""
+    the octets of the result, none unless clean. In the sheet tlast=none fills in high, tlast=low low; before T-03 none was low.
+    Refusals 15, 1, 6, 2, 3, 5, the last for a result above 65,536 octets."""
     out, text = bytearray(65536), bytearray(128)
     lent_out, lent_text = _lend(out), _lend(text)
     a = _report(*_file(sheet), *_file(take), ctypes.addressof(lent_out), len(out), ctypes.addressof(lent_text), len(text))

@@ -124,7 +124,7 @@ cases =
     -- W22: T-03: tlast=low in lanes mode: P1's slices without TLAST
     ∷ tells (says "width_in=4\nwidth_out=2\nmode=lanes\ntlast=low\n") (some p1Take) 18 (shows saysClean 0 0 0 1 0 2) "verdict=clean\ntransfers=1\npackets=0\nrecords=2\n"
     (0x00 ∷ 0x01 ∷ 0x02 ∷ 0x01 ∷ 0x00 ∷ 0x01 ∷ 0x00 ∷ 0x11 ∷ 0x00 ∷ 0x00 ∷ 0x01 ∷ 0x02 ∷ 0x03 ∷ 0x00 ∷ 0x02 ∷ 0x00 ∷ 0x00 ∷ 0x44 ∷ [])
-    -- W23: T-03: there is no word for what tlast=none does
+    -- W23: T-03: there is no word `high`
     ∷ tells (says "width_in=4\nwidth_out=2\nmode=pack\ntlast=high\n") (some p1Take) 65536 (shows saysRefused 15 0 0 0 0 0) "verdict=refused\nrefusal=15\nat=0\n" []
     -- W24: T-03: fill-in hides nothing but TLAST: TDEST turns while a transfer waits
     ∷ tells (says "width_in=1\nwidth_out=2\nmode=pack\ntlast=low\n") (some (waits ++ cycle 0x0E 1 1 1)) 9 (shows saysBroken 0 1 3 0 0 0) "verdict=broken\ncycle=1\nrule=3\n" []
