@@ -59,10 +59,10 @@ fn downsize_to(name: &[u8], w: usize, v: usize, input: &[u8]) {
 }
 
 // Fills in a take of 24 equal octets at a level.
-fn fill_in(name: &[u8], w: usize, octet: u8, level: bool) {
+fn fill_in(w: usize, octet: u8, level: bool) {
     let mut capture = [octet; 24];
     let answer = stream_fill_in::fill_in(stream_record::shape_of(w), &mut capture, level);
-    io::write_all(1, name);
+    io::write_all(1, b"FILL");
     written(answer);
     octets(&capture);
     io::write_all(1, b"\n");
@@ -158,12 +158,12 @@ pub fn findings() {
 
 // T-03: fill-in low and high, where TLAST is the other level and where it is this one; refused, at either level.
 pub fn levels() {
-    fill_in(b"FILL", 1, 0xFF, LOW);
-    fill_in(b"FILL", 1, 0xFF, HIGH);
-    fill_in(b"FILL", 1, 0xEE, LOW);
-    fill_in(b"FILL", 1, 0xEE, HIGH);
-    fill_in(b"FILL", 2, 0xFF, LOW);
-    fill_in(b"FILL", 17, 0xEE, HIGH);
+    fill_in(1, 0xFF, LOW);
+    fill_in(1, 0xFF, HIGH);
+    fill_in(1, 0xEE, LOW);
+    fill_in(1, 0xEE, HIGH);
+    fill_in(2, 0xFF, LOW);
+    fill_in(17, 0xEE, HIGH);
 }
 
 // A take of 65,536 octets at widths 1 and 9, and one record more; widths 0, 16 and 17; each field's bound.

@@ -35,6 +35,7 @@ use Rattle.report_call.proofs.Told.{prefix-is}
 use Rattle.refusal.proofs.First.{first-none}
 use Rattle.stream_record.specs.Checked.{checkedOf}
 use Rattle.stream_record.proofs.Tests.{refused-is, passed-is}
+use Rattle.stream_spec.proofs.Fill.{refused-kept}
 use Rattle.report_spec.proofs.Passes.{sound-in, fits-in}
 
 -- a refusal leaves the output as it is
@@ -105,8 +106,7 @@ found-alone false q r e = let z : _≡_ {A = ℕ} 0 1 = cc in absurd (omega arit
 -- a take of a bad length is not filled in, and judging refuses it
 ill-kept : (level : Bool) (s : Shape) (capture : List ℕ) → widthCheck (s .width) .found ≡ false → lengthCheck s capture .found ≡ true
     → fillAfter level s capture ≡ capture
-unfolding fillAfter
-ill-kept level s capture w h = rw (w, h) refl
+ill-kept level s capture w h = refused-kept level s capture Length (rw (w, h) refl)
 
 ill-filled : (s : Shape) (wire : Tlast) (capture : List ℕ) → widthCheck (s .width) .found ≡ false → lengthCheck s capture .found ≡ true
     → prepared wire s capture ≡ capture

@@ -192,6 +192,9 @@ tlast-word Wired = refl
 tlast-word Absent = refl
 tlast-word Low = refl
 
+unread-word : (v : List ℕ) → oneOf tlasts v ≡ none → (t : Tlast) → v ≢ tlastWord t
+unread-word v e t p = absurd-none (sym e ∙ ap (oneOf tlasts) p ∙ tlast-word t)
+
 other-word : (v : List ℕ) → (v ≢ text "wired") × (v ≢ text "none") × (v ≢ text "low") → oneOf tlasts v ≡ none
 other-word v h = go (oneOf tlasts v) refl
   where
@@ -209,14 +212,7 @@ wordsExactly =
     record {
       each = tlast-word;
       only = words-only tlastWord tlasts tlasts-spelt;
-      refused = λ v. (
-        (λ e. (
-          (λ p. absurd-none (sym e ∙ ap (oneOf tlasts) p)),
-          (λ p. absurd-none (sym e ∙ ap (oneOf tlasts) p)),
-          (λ p. absurd-none (sym e ∙ ap (oneOf tlasts) p)),
-        )),
-        other-word v,
-      );
+      refused = λ v. ((λ e. (unread-word v e Wired, unread-word v e Absent, unread-word v e Low)), other-word v);
     }
 
 -- ---- the lines of a sheet

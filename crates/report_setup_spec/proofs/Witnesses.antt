@@ -2,7 +2,7 @@
 -- or behind a sheet is not read. A premise that is narrowed, or a conclusion that is dropped, breaks one. Assumes nothing.
 use mathlib.Core.List.{List}
 use mathlib.Core.Logic.{_≢_}
-use mathlib.Core.Option.{some}
+use mathlib.Core.Option.{none, some}
 use mathlib.Core.Path.{_≡_, refl, sym, _∙_}
 use Prim.Native.Nat.{ℕ, _≤_}
 use native.Mathlib.Omega.{arith}
@@ -35,8 +35,11 @@ one-way v w n e f = numbersExactly .only v n e .1 ∙ sym (numbersExactly .only 
 pub low-read : oneOf tlasts (text "low") ≡ some Low
 low-read = wordsExactly .each Low
 
-pub high-is-none : (text "high" ≢ text "wired") × (text "high" ≢ text "none") × (text "high" ≢ text "low")
-high-is-none = wordsExactly .refused (text "high") .0 refl
+pub high-is-no-word : (text "high" ≢ text "wired") × (text "high" ≢ text "none") × (text "high" ≢ text "low")
+high-is-no-word = wordsExactly .refused (text "high") .0 refl
+
+pub high-refused : oneOf tlasts (text "high") ≡ none
+high-refused = wordsExactly .refused (text "high") .1 high-is-no-word
 
 -- what is read as `none` is that word, and no other
 pub only-none : (value : List ℕ) → oneOf tlasts value ≡ some Absent → value ≡ text "none"

@@ -1,4 +1,4 @@
--- Worked cases of the grammar: sheets, and what they say, typed from paper 01 and never computed. One statement covers the
+-- Worked cases of the grammar: sheets, and what they say, typed from papers 01 and 02 and never computed. One statement covers the
 -- list (`worked` of proofs/Cases). A text ends where its quote does: every LF is written out.
 -- Each has an id (W01 and on) by which docs/PROMISES.md may cite it: a new case takes the next free one, and none is given twice.
 use mathlib.Core.List.{List, [], _∷_}

@@ -1,7 +1,8 @@
 -- Paper 01, 'The report program': what a setup sheet says. "four LF-ended lines in this order: `width_in=`, `width_out=`
 -- (0 to 99, no leading zeros), `mode=pack` or `mode=lanes`, `tlast=wired` or `tlast=none`"; 02's T-03: "the new word
 -- `tlast=low`". Nothing else is a sheet: no other order or spelling, no CR, no line more, nothing after the fourth LF.
--- A new word is one line of `modes` or `tlasts`; a new line of the sheet is one line of `sheetOf` and one field of `Setup`.
+-- A new word is one line of `modes` or `tlasts`, and what it means; a new line of the sheet is one line of `sheetOf` and one
+-- field of `Setup`.
 use mathlib.Core.Bool.{Bool, true, false, not, _&&_, cond}
 use mathlib.Core.List.{List, [], _∷_}
 use mathlib.Core.Option.{Option, none, some}

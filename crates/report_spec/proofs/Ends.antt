@@ -16,14 +16,14 @@ use Rattle.stream_spec.proofs.Fill.{filled-last}
 use Rattle.report_spec.specs.Report.{lasts, packetCount}
 
 -- of records that are filled in at a level, all have TLAST or none
-pub lasts-filled : (level : Bool) (cs : List (List ℕ)) → lasts (map (asFilled level) cs) ≡ bitOf level * length (map (asFilled level) cs)
+pub lasts-filled : (level : Bool) (cs : List (List ℕ)) → lasts (map (asFilled level) cs) ≡ bitOf level * length cs
 lasts-filled level [] = sym (mul-zero (bitOf level))
 lasts-filled level (c ∷ cs) =
     omega (
       arith,
       ap bitOf (filled-last level c),
       lasts-filled level cs,
-      mul-suc (bitOf level) (length (map (asFilled level) cs)),
+      mul-suc (bitOf level) (length cs),
     )
 
 abbrev ends : List (Item Kept) → ℕ

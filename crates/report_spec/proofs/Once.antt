@@ -46,13 +46,13 @@ pub items-once : {u : Setup} {capture : List ℕ} {room : ℕ} {o o' : List ℕ}
 items-once p q = (both (p .items) (q .items), sym (p .packetsOut) ∙ both (p .packets) (q .packets) ∙ q .packetsOut)
 
 -- a port without a TLAST wire: the word decides the result, octet for octet, and both counts
-pub each-once : {u : Setup} {capture o o' : List ℕ} {a b : Tally} → OnePacketEach u capture o a → OnePacketEach u capture o' b
+pub absent-once : {u : Setup} {capture o o' : List ℕ} {a b : Tally} → OnePacketEach u capture o a → OnePacketEach u capture o' b
     → (o ≡ o') × (a .transfers ≡ b .transfers) × (a .packets ≡ b .packets)
-each-once p q = (both (p .apart) (q .apart), both (p .transfers) (q .transfers), p .packets ∙ both (p .transfers) (q .transfers) ∙ sym (q .packets))
+absent-once p q = (both (p .apart) (q .apart), both (p .transfers) (q .transfers), p .packets ∙ both (p .transfers) (q .transfers) ∙ sym (q .packets))
 
-pub none-once : {u : Setup} {capture o o' : List ℕ} {a b : Tally} → NoPacketEnds u capture o a → NoPacketEnds u capture o' b
+pub low-once : {u : Setup} {capture o o' : List ℕ} {a b : Tally} → NoPacketEnds u capture o a → NoPacketEnds u capture o' b
     → (o ≡ o') × (a .transfers ≡ b .transfers) × (a .packets ≡ b .packets)
-none-once p q = (both (p .across) (q .across), both (p .transfers) (q .transfers), both (p .packets) (q .packets))
+low-once p q = (both (p .across) (q .across), both (p .transfers) (q .transfers), both (p .packets) (q .packets))
 
 -- a result is a legal stream of so many records, and they fit
 pub result-fits : {u : Setup} {capture : List ℕ} {room : ℕ} {result : List ℕ} {t : Tally} → CleanTally u capture room result t

@@ -2,14 +2,14 @@
 use mathlib.Core.Path.{_≡_, refl, sym, ap, _∙_, subst}
 use mathlib.Core.Bool.{Bool, true, false, cond}
 use mathlib.Core.Logic.{_≢_}
-use mathlib.Core.List.{List, [], _∷_, map}
+use mathlib.Core.List.{List, [], _∷_}
 use mathlib.Core.Option.{Option, none, some}
 use Prim.Native.Nat.{ℕ, suc, _*_, _/_, _%_, _≤_}
 use native.Mathlib.Nat.{le-trans, zero-mul, one-mul, mul-div-cancel}
 use native.Mathlib.Omega.{arith}
 use borrow.Author.Tests.{eqb-true, eqb-false, not-false}
 use lib.Dec.{eqb, ltb}
-use lib.ListN.{length}
+use lib.ListN.{length, length-map}
 use Rattle.refusal.specs.Code.{codeOf}
 use Rattle.refusal.specs.declared.Refusal.{Refusal}
 use Rattle.refusal.specs.declared.Refusal.the-variants.{Length, Room, Setup as BadSheet}
@@ -21,17 +21,16 @@ use Rattle.stream_spec.specs.declared.Written.the-variants.{Records, Refused as
 use Rattle.stream_spec.specs.Layout.{bitOf, size, atWidth, records, recordCount, joined, streamItems, sliced}
 use Rattle.refusal.specs.Checks.{Check, first}
 use Rattle.stream_spec.specs.Checks.{ratioCheck, lengthCheck, cycleChecks, transferChecks, roomCheck}
-use Rattle.stream_spec.specs.Handshake.{Finding, firstFinding, handshakes, transferCount, low, high, harvested, withLast, filledIn}
-use Rattle.stream_spec.specs.Answers.{verdict, written, lentAfter, judgeChecks, judgeAnswer, harvestRefusal, fillRefusal, fillAfter}
+use Rattle.stream_spec.specs.Handshake.{Finding, firstFinding, handshakes, transferCount, low, high, harvested, asFilled}
+use Rattle.stream_spec.specs.Answers.{verdict, written, judgeChecks, judgeAnswer, harvestRefusal, fillAfter}
 use Rattle.stream_spec.specs.Memory.{inFront}
 use Rattle.stream_spec.specs.Legal.{Octets, Legal}
 use Rattle.refusal.proofs.First.{first-none, append-found, append-passed}
-use Rattle.stream_spec.proofs.Legal.{octets-append, octets-drop, EachOctets, pieces-octets}
 use Rattle.stream_spec.proofs.Passed.{fits-length}
 use Rattle.stream_spec.proofs.Size.{size-pos}
 use Rattle.stream_spec.proofs.Records.{length-pieces, records-sized}
 use Rattle.stream_spec.proofs.Harvest.{harvested-count}
-use Rattle.stream_spec.proofs.Fill.{clean-filled, sized-filled, harvest-records, all-last}
+use Rattle.stream_spec.proofs.Fill.{clean-filled, filled-octets, sized-filled, harvest-records, all-last}
 use Rattle.stream_spec.proofs.Clean.{clean-count, clean-passed, clean-harvested}
 use Rattle.stream_spec.proofs.Promises.{repackingKeeps, laneKeeping, harvestLegal, harvestRepacks, packedLegal, filledHarvest}
 use Rattle.report_setup_spec.specs.declared.Setup.{Setup}
@@ -45,7 +44,7 @@ use Rattle.report_setup_spec.specs.Grammar.{sheetOf, text as ascii}
 use Rattle.report_spec.specs.declared.Tally.{Tally}
 use Rattle.report_spec.specs.declared.Verdict.the-variants.{Clean, Broken, Refused}
 use Rattle.report_spec.specs.Report.{Outcome, shapeOf, outShape, prepared, cyclesOf, transfersOf, lasts, packetCount, convertAnswer, convertResult, tally, converted, convertedTransfers, afterJudging, captureOutcome, ratioChecks, setupChecks, Passes, unless, setupOutcome, sheetOutcome, outcomeOf, Whole, whole, reportOf}
-use Rattle.report_spec.specs.Promises.{OctetsOf, ReportsSetup, isClean, OnlyWhenClean, CleanTally, CleanTallies, sampledAt, resultOf, TlastNone, TlastLow, mayShow, RefusalsShown, NeverReservedNorUnclean, PackNeverRatio, orderedChecks, convertedOf, tallyOf, inOrder, ReportInOrder, TextShort}
+use Rattle.report_spec.specs.Promises.{OctetsOf, ReportsSetup, isClean, OnlyWhenClean, CleanTally, CleanTallies, sampledAt, resultBy, TlastNone, TlastLow, mayShow, RefusalsShown, NeverReservedNorUnclean, PackNeverRatio, orderedChecks, convertedOf, tallyOf, inOrder, ReportInOrder, TextShort}
 use Rattle.report_spec.proofs.Passes.{sound-in, sound-out, sound-ratio, fits-out}
 use Rattle.report_spec.proofs.Convert.{convertRefusal, convertCount, answer-is, result-long, result-fits, each-converted, not-written, IsWritten, is-written}
 use Rattle.report_spec.proofs.Ends.{lasts-filled, same-ends}
@@ -95,32 +94,11 @@ onlyWhenClean sheet capture room e =
     let no = quiet sheet capture room e in
     record { nothing = no; kept = λ out. ap (λ (xs : List ℕ). inFront xs out) no }
 
--- ---- octets stay octets when TLAST is filled in
-
-last-octets : (level : Bool) (r : List ℕ) → Octets r → Octets (withLast level r)
-last-octets level [] h = h
-last-octets true (f ∷ r) h = (omega (arith, h .0), h .1)
-last-octets false (f ∷ r) h = (omega (arith, h .0), h .1)
-
-filled-octets : (level : Bool) (rs : List (List ℕ)) → EachOctets rs → Octets (joined (map (withLast level) rs))
-filled-octets level [] h = tt
-filled-octets level (r ∷ rs) h =
-    octets-append (withLast level r) (joined (map (withLast level) rs)) (last-octets level r (h .0)) (filled-octets level rs (h .1))
-
-lent-octets : (o : Option Refusal) (result lent : List ℕ) → Octets result → Octets lent → Octets (lentAfter o result lent)
-lent-octets (some r) result lent h k = k
-lent-octets none result lent h k = octets-append result _ h (octets-drop (length result) lent k)
-
-after-octets : (level : Bool) (s : Shape) (xs : List ℕ) → Octets xs → Octets (fillAfter level s xs)
-unfolding fillAfter
-after-octets level s xs h =
-    lent-octets (fillRefusal s xs) (filledIn level s xs) xs
-    (filled-octets level (records s xs) (pieces-octets (recordCount s xs) (size s) xs h)) h
-
+-- octets stay octets when TLAST is filled in
 prepared-octets : (wire : Tlast) (s : Shape) (xs : List ℕ) → Octets xs → Octets (prepared wire s xs)
 prepared-octets Wired s xs h = h
-prepared-octets Absent s xs h = after-octets high s xs h
-prepared-octets Low s xs h = after-octets low s xs h
+prepared-octets Absent s xs h = filled-octets high s xs h
+prepared-octets Low s xs h = filled-octets low s xs h
 
 -- ---- a clean take's transfers: converting them is refused for want of room, and for nothing else
 
@@ -399,17 +377,18 @@ module _ (u : Setup) (capture : List ℕ) (room : ℕ) (t : Tally) (level : Bool
   records-are : records (shapeOf u) (transfersOf u capture) ≡ sampled
   records-are = ap (records (shapeOf u)) harvest-is ∙ harvest-records level (shapeOf u) capture
 
-  sampled-count : t .transfers ≡ length sampled
+  sampled-count : t .transfers ≡ transferCount (shapeOf u) capture
   sampled-count =
       ap (λ (x : Tally). x .transfers) (r .is) ∙ clean-count (shapeOf u) (cyclesOf u capture) (r .count) (r .clean)
       ∙ sym (harvested-count (shapeOf u) (cyclesOf u capture)) ∙ ap length records-are
+      ∙ length-map (handshakes (records (shapeOf u) capture)) (asFilled level)
 
-  sampled-ends : t .packets ≡ bitOf level * length sampled
+  sampled-ends : t .packets ≡ bitOf level * transferCount (shapeOf u) capture
   sampled-ends =
       ap (λ (x : Tally). x .packets) (r .is) ∙ ap lasts records-are ∙ lasts-filled level (handshakes (records (shapeOf u) capture))
 
-  sampled-result : setupOutcome u (some capture) room .result ≡ resultOf u (joined sampled)
-  sampled-result = result-is u capture room t r ∙ ap (resultOf u) harvest-is
+  sampled-result : setupOutcome u (some capture) room .result ≡ resultBy u (joined sampled)
+  sampled-result = result-is u capture room t r ∙ ap (resultBy u) harvest-is
 
 pub tlastNone : TlastNone
 tlastNone u capture room t w e =
@@ -419,7 +398,7 @@ tlastNone u capture room t w e =
     let count = sampled-count u capture room t high word r in
     record {
       transfers = count;
-      packets = sampled-ends u capture room t high word r ∙ one-mul (length (sampledAt high u capture)) ∙ sym count;
+      packets = sampled-ends u capture room t high word r ∙ one-mul (transferCount (shapeOf u) capture) ∙ sym count;
       apart =
           sampled-result u capture room t high word r
           ∙ each-converted (u .mode) (shapeOf u) (u .«width_out») (sampledAt high u capture)
@@ -432,7 +411,7 @@ tlastLow u capture room t w e =
     let r = reached u capture room t e in
     record {
       transfers = sampled-count u capture room t low word r;
-      packets = sampled-ends u capture room t low word r ∙ zero-mul (length (sampledAt low u capture));
+      packets = sampled-ends u capture room t low word r ∙ zero-mul (transferCount (shapeOf u) capture);
       across = sampled-result u capture room t low word r;
     }
 

@@ -8,15 +8,15 @@ use mathlib.Core.Logic.{_≢_}
 use mathlib.Core.Option.{Option, none, some}
 use Prim.Native.Nat.{ℕ, _≤_}
 use native.Mathlib.Omega.{arith}
-use lib.ListN.{length, length-map}
+use lib.ListN.{length}
 use Rattle.refusal.specs.Code.{codeOf}
 use Rattle.refusal.specs.declared.Refusal.{Refusal}
 use Rattle.refusal.specs.declared.Refusal.the-variants.{Field, Reserved, Room, Ratio, Unclean}
-use Rattle.stream_spec.specs.Layout.{size, records}
+use Rattle.stream_spec.specs.Layout.{size}
 use Rattle.refusal.specs.Checks.{first}
 use Rattle.stream_spec.specs.Checks.{roomCheck}
-use Rattle.stream_spec.specs.Handshake.{Finding, firstFinding, handshakes, transferCount, low, high, asFilled}
-use Rattle.stream_spec.specs.Answers.{judgeAnswer, fillAfter, repackAnswer}
+use Rattle.stream_spec.specs.Handshake.{Finding, firstFinding, transferCount}
+use Rattle.stream_spec.specs.Answers.{judgeAnswer, fillAfter, repackAnswer, downsizeAnswer}
 use Rattle.stream_spec.specs.Memory.{inFront}
 use Rattle.stream_spec.specs.Legal.{Octets}
 use Rattle.stream_spec.proofs.Tables.{octets-tested}
@@ -31,7 +31,7 @@ use Rattle.report_spec.specs.declared.Tally.{Tally}
 use Rattle.report_spec.specs.declared.Verdict.the-variants.{Clean, Broken, Refused}
 use Rattle.report_spec.specs.Report.{shapeOf, cyclesOf, tally, setupOutcome, sheetOutcome, verdictValues, textOf, whole, reportOf}
 use Rattle.report_spec.specs.Promises.{OctetsOf, isClean, CleanTally, OnePacketEach, NoPacketEnds, mayShow, orderedChecks, convertedOf, tallyOf, inOrder}
-use Rattle.report_spec.specs.Cases.{says, p1Sheet, p1Take, p1Result, cycle}
+use Rattle.report_spec.specs.Cases.{says, p1Sheet, p1Take, p1Result, p1Low, p1Slices, cycle}
 use Rattle.report_spec.proofs.Promises.{reportsSetup, onlyWhenClean, cleanTallies, tlastNone, tlastLow, refusalsShown, neverReservedNorUnclean, packNeverRatio, reportInOrder, textShort, no}
 
 -- ---- what the promises ask
@@ -96,12 +96,10 @@ module _ (sheet : List ℕ) (u : Setup) (e : sheetOf sheet ≡ Read u) (capture 
 -- without a TLAST wire the transfers are those of the take as it was sampled, whatever level is filled in
 module _ (u : Setup) (capture : List ℕ) (room : ℕ) (t : Tally) (clean : setupOutcome u (some capture) room .verdict ≡ Clean t) where
   pub none-sampled : u .tlast ≡ Absent → t .packets ≡ transferCount (shapeOf u) capture
-  none-sampled e =
-      let p = tlastNone u capture room t e clean in
-      p .packets ∙ p .transfers ∙ length-map (handshakes (records (shapeOf u) capture)) (asFilled high)
+  none-sampled e = let p = tlastNone u capture room t e clean in p .packets ∙ p .transfers
 
   pub low-sampled : u .tlast ≡ Low → t .transfers ≡ transferCount (shapeOf u) capture
-  low-sampled e = tlastLow u capture room t e clean .transfers ∙ length-map (handshakes (records (shapeOf u) capture)) (asFilled low)
+  low-sampled e = tlastLow u capture room t e clean .transfers
 
 -- ".. LENGTH, FIELD, a broken verdict, and ROOM last": each kind of verdict, where those before it are not there
 module _ (u : Setup) (capture : List ℕ) (room : ℕ) (o : Octets capture) where
@@ -163,6 +161,18 @@ none-ends-each = tlastNone (unwired Absent) unwiredTake 18 (tally 2 2 2) refl re
 pub low-ends-none : NoPacketEnds (unwired Low) unwiredTake acrossResult (tally 2 0 1)
 unfolding size judgeAnswer fillAfter repackAnswer
 low-ends-none = tlastLow (unwired Low) unwiredTake 9 (tally 2 0 1) refl refl
+
+-- in lanes mode too there are as many TLASTs in the result: P1's transfer sampled without TLAST, and its two slices
+abbrev sliced : Setup
+sliced = record { «width_in» = 4; «width_out» = 2; mode = Lanes; tlast = Absent }
+
+pub sliced-tallied : CleanTally sliced p1Low 18 p1Slices (tally 1 1 2)
+unfolding size judgeAnswer fillAfter downsizeAnswer
+sliced-tallied = cleanTallies sliced p1Low 18 (tally 1 1 2) (octets-tested p1Low .1 refl) refl
+
+pub sliced-each : OnePacketEach sliced p1Low p1Slices (tally 1 1 2)
+unfolding size judgeAnswer fillAfter downsizeAnswer
+sliced-each = tlastNone sliced p1Low 18 (tally 1 1 2) refl refl
 
 -- one octet short
 pub p1-unwritten : (out : List ℕ) → inFront (reportOf p1Sheet (some p1Take) 17 .result) out ≡ out

@@ -54,6 +54,14 @@ abbrev pub p1Result : List ℕ
 p1Result =
     0x00 ∷ 0x01 ∷ 0x02 ∷ 0x03 ∷ 0x00 ∷ 0x01 ∷ 0x00 ∷ 0x11 ∷ 0x00 ∷ 0x01 ∷ 0x01 ∷ 0x02 ∷ 0x01 ∷ 0x00 ∷ 0x01 ∷ 0x00 ∷ 0x44 ∷ 0x00 ∷ []
 
+-- the take with TLAST sampled low; P1's transfer in two slices, as in S2
+abbrev pub p1Low : List ℕ
+p1Low = 0x0E ∷ 0x01 ∷ 0x02 ∷ 0x0D ∷ 0x00 ∷ 0x09 ∷ 0x00 ∷ 0x11 ∷ 0x22 ∷ 0x33 ∷ 0x44 ∷ []
+
+abbrev pub p1Slices : List ℕ
+p1Slices =
+    0x00 ∷ 0x01 ∷ 0x02 ∷ 0x01 ∷ 0x00 ∷ 0x01 ∷ 0x00 ∷ 0x11 ∷ 0x00 ∷ 0x01 ∷ 0x01 ∷ 0x02 ∷ 0x03 ∷ 0x00 ∷ 0x02 ∷ 0x00 ∷ 0x00 ∷ 0x44 ∷ []
+
 -- a cycle of width 1 with this octet 0, TDEST, TKEEP, TSTRB; TID is 0 and the data 7
 abbrev pub cycle : ℕ → ℕ → ℕ → ℕ → List ℕ
 cycle flags tdest tkeep tstrb = flags ∷ 0x00 ∷ tdest ∷ tkeep ∷ 0x00 ∷ tstrb ∷ 0x00 ∷ 0x07 ∷ []
@@ -73,8 +81,7 @@ cases =
     -- W01: case P1
     tells p1Sheet (some p1Take) 65536 (shows saysClean 0 0 0 1 1 2) "verdict=clean\ntransfers=1\npackets=1\nrecords=2\n" p1Result
     -- W02: the same take sliced, as in S2
-    ∷ tells (says "width_in=4\nwidth_out=2\nmode=lanes\ntlast=wired\n") (some p1Take) 18 (shows saysClean 0 0 0 1 1 2) "verdict=clean\ntransfers=1\npackets=1\nrecords=2\n"
-    (0x00 ∷ 0x01 ∷ 0x02 ∷ 0x01 ∷ 0x00 ∷ 0x01 ∷ 0x00 ∷ 0x11 ∷ 0x00 ∷ 0x01 ∷ 0x01 ∷ 0x02 ∷ 0x03 ∷ 0x00 ∷ 0x02 ∷ 0x00 ∷ 0x00 ∷ 0x44 ∷ [])
+    ∷ tells (says "width_in=4\nwidth_out=2\nmode=lanes\ntlast=wired\n") (some p1Take) 18 (shows saysClean 0 0 0 1 1 2) "verdict=clean\ntransfers=1\npackets=1\nrecords=2\n" p1Slices
     -- W03: ROOM: one octet short
     ∷ tells p1Sheet (some p1Take) 17 (shows saysRefused 5 0 0 0 0 0) "verdict=refused\nrefusal=5\nat=0\n" []
     -- W04: SHEET: neither file can be read
@@ -113,7 +120,7 @@ cases =
     ∷ tells (says "width_in=1\nwidth_out=2\nmode=pack\ntlast=low\n") (some (plain ++ waits ++ last)) 9
     (shows saysClean 0 0 0 2 0 1) "verdict=clean\ntransfers=2\npackets=0\nrecords=1\n"
     (0x00 ∷ 0x00 ∷ 0x00 ∷ 0x03 ∷ 0x00 ∷ 0x03 ∷ 0x00 ∷ 0x07 ∷ 0x07 ∷ [])
-    -- W19: T-03: ROOM comes sooner with tlast=none: W16 with one octet too few, twice what W18 needs
+    -- W19: T-03: ROOM comes sooner with tlast=none: 18 octets are needed where W18 needs 9, and there are 17
     ∷ tells (says "width_in=1\nwidth_out=2\nmode=pack\ntlast=none\n") (some (plain ++ waits ++ last)) 17 (shows saysRefused 5 0 0 0 0 0) "verdict=refused\nrefusal=5\nat=0\n" []
     -- W20: T-03: an all-null transfer does not vanish with tlast=none
     ∷ tells (says "width_in=1\nwidth_out=1\nmode=pack\ntlast=none\n") (some (cycle 0x0E 3 0 0)) 8
@@ -128,4 +135,6 @@ cases =
     ∷ tells (says "width_in=4\nwidth_out=2\nmode=pack\ntlast=high\n") (some p1Take) 65536 (shows saysRefused 15 0 0 0 0 0) "verdict=refused\nrefusal=15\nat=0\n" []
     -- W24: T-03: fill-in hides nothing but TLAST: TDEST turns while a transfer waits
     ∷ tells (says "width_in=1\nwidth_out=2\nmode=pack\ntlast=low\n") (some (waits ++ cycle 0x0E 1 1 1)) 9 (shows saysBroken 0 1 3 0 0 0) "verdict=broken\ncycle=1\nrule=3\n" []
+    -- W25: T-03: tlast=none in lanes mode: W02's result, though TLAST was sampled low
+    ∷ tells (says "width_in=4\nwidth_out=2\nmode=lanes\ntlast=none\n") (some p1Low) 18 (shows saysClean 0 0 0 1 1 2) "verdict=clean\ntransfers=1\npackets=1\nrecords=2\n" p1Slices
     ∷ []

@@ -1,4 +1,5 @@
--- What is proved of the report, a statement each. Words in quotes are paper 01's. The proofs are in proofs/Promises.
+-- What is proved of the report, a statement each. Words in quotes are paper 01's or, where it is said, a request's of paper 02.
+-- The proofs are in proofs/Promises.
 use mathlib.Core.Path.{_≡_}
 use mathlib.Core.Bool.{Bool, true, false, _||_}
 use mathlib.Core.List.{List, [], _∷_, _++_, map}
@@ -83,27 +84,27 @@ abbrev pub sampledAt : Bool → Setup → List ℕ → List (List ℕ)
 sampledAt level u capture = map (asFilled level) (handshakes (records (shapeOf u) capture))
 
 -- what these transfer records become by the sheet: with `mode=pack` their packed form, with `mode=lanes` their slices
-abbrev pub resultOf : Setup → List ℕ → List ℕ
-resultOf u transfers = convertResult (u .mode) (shapeOf u) (u .«width_out») transfers
+abbrev pub resultBy : Setup → List ℕ → List ℕ
+resultBy u transfers = convertResult (u .mode) (shapeOf u) (u .«width_out») transfers
 
--- "`tlast=none` now fills in high, each transfer its own packet": as many packets as transfers, and the result is what each
--- transfer becomes by itself, joined record by record. So one that is all-null does not vanish.
+-- "`tlast=none` now fills in high, each transfer its own packet": the transfers are those that were sampled, there are as many
+-- packets, and the result is what each transfer becomes by itself, joined record by record. So one that is all-null does not vanish.
 pub record OnePacketEach (u : Setup) (capture result : List ℕ) (t : Tally) : Type 0 where
-  pub transfers : t .transfers ≡ length (sampledAt high u capture)
+  pub transfers : t .transfers ≡ transferCount (shapeOf u) capture
   pub packets : t .packets ≡ t .transfers
-  pub apart : result ≡ joined (map (resultOf u) (sampledAt high u capture))
+  pub apart : result ≡ joined (map (resultBy u) (sampledAt high u capture))
 
 abbrev pub TlastNone : Type 0
 TlastNone =
     (u : Setup) (capture : List ℕ) (room : ℕ) (t : Tally) → u .tlast ≡ Absent → setupOutcome u (some capture) room .verdict ≡ Clean t
     → OnePacketEach u capture (setupOutcome u (some capture) room .result) t
 
--- ".. count on low and pack across the whole take; they change to the new word `tlast=low`": no packet ends, and the result is
--- what all transfers become together
+-- ".. count on low and pack across the whole take; they change to the new word `tlast=low`": the transfers are those that were
+-- sampled, no packet ends, and the result is what all transfers become together
 pub record NoPacketEnds (u : Setup) (capture result : List ℕ) (t : Tally) : Type 0 where
-  pub transfers : t .transfers ≡ length (sampledAt low u capture)
+  pub transfers : t .transfers ≡ transferCount (shapeOf u) capture
   pub packets : t .packets ≡ 0
-  pub across : result ≡ resultOf u (joined (sampledAt low u capture))
+  pub across : result ≡ resultBy u (joined (sampledAt low u capture))
 
 abbrev pub TlastLow : Type 0
 TlastLow =
@@ -149,7 +150,7 @@ abbrev pub orderedChecks : Setup → List ℕ → List (Check Refusal)
 orderedChecks u cycles = setupChecks u ++ lengthCheck (shapeOf u) cycles ∷ cycleChecks (shapeOf u) 0 (records (shapeOf u) cycles)
 
 abbrev pub convertedOf : Setup → List ℕ → List ℕ
-convertedOf u capture = resultOf u (transfersOf u capture)
+convertedOf u capture = resultBy u (transfersOf u capture)
 
 -- the numbers of a clean verdict
 abbrev pub tallyOf : Setup → List ℕ → Tally

@@ -1,6 +1,6 @@
 -- The report (paper 01, 'The report program'): from a setup sheet and a take of cycle records to a verdict, the text that is
--- printed and the octets of the result. Words in quotes are 01's. What a sheet says is report_setup_spec's `sheetOf`; what
--- judging, harvesting, fill-in, repacking and downsizing answer is stream_spec's.
+-- printed and the octets of the result. Words in quotes are 01's or, where it is said, T-03's (paper 02). What a sheet says is
+-- report_setup_spec's `sheetOf`; what judging, harvesting, fill-in, repacking and downsizing answer is stream_spec's.
 use mathlib.Core.Path.{_≡_}
 use mathlib.Core.Bool.{Bool, true, false, cond}
 use mathlib.Core.List.{List, [], _∷_, _++_}

@@ -14,7 +14,7 @@ use lib.ListN.{length, getD, take, drop, length-drop}
 use lib.Seq.{drop-cons, drop-drop, getD-take, getD-drop, ext-getD}
 use Rattle.stream_spec.specs.Layout.{bit, body}
 use Rattle.stream_spec.specs.Handshake.{sameOctets, differs}
-use Rattle.stream_spec.proofs.Bools.{and-left, and-right, no-such}
+use Rattle.stream_spec.proofs.Bools.{and-left, and-right, no-such, beq-refl}
 use Rattle.words.specs.Words.{wordAt}
 
 -- ---- lists of octets
@@ -53,10 +53,6 @@ pub words-differ : (p r : List ℕ) (k i : ℕ) → ((j : ℕ) → getD p j 0 < 
 words-differ p r k i b c h l x y e f = ap₂ (λ (x y : ℕ). not (eqb x y)) e f ∙ ap not (word-group p r k i b c h l)
 
 -- ---- TLAST is the lowest bit
-
-beq-refl : (b : Bool) → Bool·beq b b ≡ true
-beq-refl true = refl
-beq-refl false = refl
 
 last-same : (a b : ℕ) → a % 2 ≡ b % 2 → Bool·beq (bit 0 a) (bit 0 b) ≡ true
 last-same a b e = rw (div-one a, div-one b, e) (beq-refl (eqb (b % 2) 1))

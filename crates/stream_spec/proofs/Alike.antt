@@ -1,6 +1,6 @@
 -- A take that is filled in is judged alike at both levels: no field, no rule and no count tells them apart. Assumes nothing.
 use mathlib.Core.Path.{_≡_, refl, sym, ap, ap₂, _∙_}
-use mathlib.Core.Bool.{Bool, true, false, Bool·beq}
+use mathlib.Core.Bool.{Bool, true, false}
 use mathlib.Core.List.{List, [], _∷_, _++_, map}
 use mathlib.Core.Option.{Option, none, some}
 use Prim.Native.Nat.{ℕ, suc, _%_, _^_, _<_}
@@ -17,19 +17,20 @@ use Rattle.stream_spec.specs.Checks.{cycleFlags, takeChecks, cycleChecks
 use Rattle.stream_spec.specs.Handshake.{Finding, ruleChecks, findings, handshakes, asTransfer, withLast, filledIn, asFilled}
 use Rattle.stream_spec.specs.Answers.{verdict, judgeAnswer, fillRefusal, fillAfter}
 use Rattle.stream_spec.specs.Promises.{JudgedAlike}
+use Rattle.stream_spec.proofs.Bools.{beq-refl}
 use Rattle.stream_spec.proofs.Bits.{bit-one}
 use Rattle.stream_spec.proofs.Size.{size-pos}
 use Rattle.stream_spec.proofs.Passed.{checks-passed}
 use Rattle.stream_spec.proofs.Records.{Sized, records-sized}
-use Rattle.stream_spec.proofs.Fill.{set-zero, set-above, filled-handshakes, filled-records, filled-long, taken-filled}
+use Rattle.stream_spec.proofs.Fill.{set-zero, set-above, filled-handshakes, filled-records, filled-long, refused-kept, taken-filled}
 
 -- the flags above bit 3 are as they were, so FIELD is
 flags-alike : (level : Bool) (f : ℕ) → leb (2 ^ cycleFlags) (lastSet level f) ≡ leb (2 ^ cycleFlags) f
-flags-alike level f = go (leb 16 f) refl
+flags-alike level f = go (leb (2 ^ cycleFlags) f) refl
   where
-    go : (b : Bool) → leb 16 f ≡ b → leb 16 (lastSet level f) ≡ leb 16 f
-    go true e = le-leb 16 (lastSet level f) (omega (arith, leb-true 16 f e)) ∙ sym e
-    go false e = lt-leb 16 (lastSet level f) (omega (arith, leb-false 16 f e, bit-one level)) ∙ sym e
+    go : (b : Bool) → leb (2 ^ cycleFlags) f ≡ b → leb (2 ^ cycleFlags) (lastSet level f) ≡ leb (2 ^ cycleFlags) f
+    go true e = le-leb (2 ^ cycleFlags) (lastSet level f) (omega (arith, leb-true (2 ^ cycleFlags) f e)) ∙ sym e
+    go false e = lt-leb (2 ^ cycleFlags) (lastSet level f) (omega (arith, leb-false (2 ^ cycleFlags) f e, bit-one level)) ∙ sym e
 
 checks-alike : (level : Bool) (s : Shape) (k : ℕ) (cs : List (List ℕ)) → cycleChecks s k (map (withLast level) cs) ≡ cycleChecks s k cs
 checks-alike level s k [] = refl
@@ -40,10 +41,6 @@ count-alike : (level : Bool) (n : ℕ) (cs : List (List ℕ)) → 0 < n → Size
 count-alike level n cs h z =
     sym (length-map (handshakes (map (withLast level) cs)) asTransfer)
     ∙ ap {B = ℕ} length (filled-handshakes level n cs h z) ∙ length-map (handshakes cs) (asFilled level)
-
-same-level : (a : Bool) → Bool·beq a a ≡ true
-same-level true = refl
-same-level false = refl
 
 -- the cycle before, filled in; where there is one, it is a whole record
 abbrev filledBefore : Bool → Option (List ℕ) → Option (List ℕ)
@@ -62,8 +59,8 @@ module _ (a b : Bool) (s : Shape) where
   rules-next : (k g : ℕ) (q : List ℕ) (f : ℕ) (r : List ℕ)
       → ruleChecks s k (some (withLast a (g ∷ q))) (withLast a (f ∷ r)) ≡ ruleChecks s k (some (withLast b (g ∷ q))) (withLast b (f ∷ r))
   rules-next k g q f r =
-      rw (set-above a 0 f, set-above a 2 f, set-above a 0 g, set-above a 1 g, set-above a 2 g, set-zero a f, set-zero a g, same-level a)
-      (rw (set-above b 0 f, set-above b 2 f, set-above b 0 g, set-above b 1 g, set-above b 2 g, set-zero b f, set-zero b g, same-level b) refl)
+      rw (set-above a 0 f, set-above a 2 f, set-above a 0 g, set-above a 1 g, set-above a 2 g, set-zero a f, set-zero a g, beq-refl a)
+      (rw (set-above b 0 f, set-above b 2 f, set-above b 0 g, set-above b 1 g, set-above b 2 g, set-zero b f, set-zero b g, beq-refl b) refl)
 
   findings-alike : (n : ℕ) → 0 < n → (k : ℕ) (cs : List (List ℕ)) → Sized n cs → (before : Option (List ℕ)) → BeforeSized n before
       → findings s k (filledBefore a before) (map (withLast a) cs) ≡ findings s k (filledBefore b before) (map (withLast b) cs)
@@ -92,10 +89,9 @@ module _ (a b : Bool) (s : Shape) where
       ∙ sym (judge-filled b xs whole)
 
 pub judged-alike : JudgedAlike
-unfolding fillAfter
 judged-alike a b s xs = go (fillRefusal s xs) refl
   where
     go : (o : Option Refusal) → fillRefusal s xs ≡ o → judgeAnswer s (fillAfter a s xs) ≡ judgeAnswer s (fillAfter b s xs)
-    go (some r) e = rw e refl
+    go (some r) e = ap (judgeAnswer s) (refused-kept a s xs r e ∙ sym (refused-kept b s xs r e))
     go none e =
         ap (judgeAnswer s) (taken-filled a s xs e) ∙ filled-alike a b s xs (checks-passed s xs e .whole) ∙ sym (ap (judgeAnswer s) (taken-filled b s xs e))

@@ -1,13 +1,17 @@
 -- Truth values: what follows from a conjunction or a disjunction. Assumes nothing.
 use mathlib.Core.Path.{_≡_, refl}
 use mathlib.Core.Logic.{_⊎_, inl, inr}
-use mathlib.Core.Bool.{Bool, true, false, _&&_, _||_}
+use mathlib.Core.Bool.{Bool, true, false, _&&_, _||_, Bool·beq}
 use Prim.Native.Nat.{ℕ}
 use native.Mathlib.Omega.{arith}
 
 -- nothing is both
 pub no-such : {A : Type 0} {b : Bool} → b ≡ false → b ≡ true → A
 no-such e h = let z : _≡_ {A = ℕ} 0 1 = cc in absurd (omega arith)
+
+pub beq-refl : (b : Bool) → Bool·beq b b ≡ true
+beq-refl true = refl
+beq-refl false = refl
 
 pub and-left : (a b : Bool) → (a && b) ≡ true → a ≡ true
 and-left true b e = refl

@@ -2,7 +2,7 @@
 -- such division. Where demand 3's condition holds, two lists of items are cut apart. Assumes nothing.
 use mathlib.Core.Path.{_≡_, refl, ap, _∙_}
 use mathlib.Core.Bool.{Bool, true, false, not, _||_, cond, or-true}
-use mathlib.Core.List.{List, [], _∷_, _++_, map, head?, append-assoc, append-nil}
+use mathlib.Core.List.{List, [], _∷_, _++_, map, head?, getLast?, append-assoc, append-nil}
 use mathlib.Core.Option.{some}
 use lib.Dec.{eqb}
 use borrow.Author.Tests.{eqb-true, eq-eqb, not-true}
@@ -88,6 +88,12 @@ module _ {A : Type 0} where
     where
       go : Begins (itemPair j) (cut (j ∷ js)) → attach (byte p a) (cut (j ∷ js)) ≡ attach (byte p a) [] ++ cut (j ∷ js)
       go b = rw (b .is) (rw (b .pair) (rw (not-true (samePair p (itemPair j)) e) refl))
+
+  -- the last item of two lists is that of the second, where it has one
+  pub last-append : (is : List (Item A)) (j : Item A) (js : List (Item A)) → getLast? (is ++ j ∷ js) ≡ getLast? (j ∷ js)
+  last-append [] j js = refl
+  last-append (i ∷ []) j js = refl
+  last-append (i ∷ i' ∷ is) j js = last-append (i' ∷ is) j js
 
   -- under demand 3's condition two lists of items are cut apart
   pub cut-parted : (is js : List (Item A)) → parted is js ≡ true → cut (is ++ js) ≡ cut is ++ cut js

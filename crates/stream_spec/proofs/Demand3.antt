@@ -2,7 +2,7 @@
 -- and `parts` over every list of parts, by induction on that. Assumes nothing.
 use mathlib.Core.Path.{_≡_, refl, sym, ap, ap₂, _∙_, subst}
 use mathlib.Core.Bool.{true}
-use mathlib.Core.List.{List, [], _∷_, _++_, getLast?, append-nil}
+use mathlib.Core.List.{List, [], _∷_, _++_, append-nil}
 use mathlib.Core.Option.{Option, none, some}
 use Prim.Native.Nat.{ℕ, _+_, _%_, _≤_, _<_}
 use native.Mathlib.Nat.{zero-div}
@@ -14,6 +14,7 @@ use Rattle.stream_spec.specs.Packed.{pack, parted}
 use Rattle.stream_spec.specs.Layout.{Kept, size, atWidth, streamItems, octets, packedTransfers, packed}
 use Rattle.stream_spec.specs.Legal.{Legal}
 use Rattle.stream_spec.specs.Demand3.{Call, answerTo, accepted, Standing, acceptedAt, next, afterCalls, later, lastAccepted, packedAt, Demand3·calls, Part, whole, partCall, AllAccepted, Divides, PartsJoin, Demand3·parts}
+use Rattle.stream_spec.proofs.Cut.{last-append}
 use Rattle.stream_spec.proofs.Pack.{pack-parted}
 use Rattle.stream_spec.proofs.Records.{packed-items, streamItems-append, octets-append}
 use Rattle.stream_spec.proofs.Legal.{packed-legal}
@@ -114,11 +115,6 @@ calls st l cs = record { stands = k .stands; straight = straight; legal = subst 
         (a, next-accepted st c (length (packedTransfers (st .shape) (c .width) (st .octets))) a ∙ sym (k .stands ∙ ap (packedAt st) e))
 
 -- ---- lists of parts
-
-last-append : (is : List (Item Kept)) (j : Item Kept) (js : List (Item Kept)) → getLast? (is ++ j ∷ js) ≡ getLast? (j ∷ js)
-last-append [] j js = refl
-last-append (i ∷ []) j js = refl
-last-append (i ∷ i' ∷ is) j js = last-append (i' ∷ is) j js
 
 -- a condition on all that stands before a division holds of the later part of it
 parted-later : (is js ks : List (Item Kept)) → parted (is ++ js) ks ≡ true → parted js ks ≡ true

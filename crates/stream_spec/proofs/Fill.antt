@@ -2,7 +2,7 @@
 -- and how records that all have TLAST are packed. Assumes nothing.
 use mathlib.Core.Path.{_≡_, refl, sym, ap, ap₂, _∙_, subst}
 use mathlib.Core.Bool.{Bool, true, false}
-use mathlib.Core.List.{List, [], _∷_, _++_, map, append-nil, head?, getLast?}
+use mathlib.Core.List.{List, [], _∷_, _++_, map, append-nil, head?}
 use mathlib.Core.Option.{Option, none, some}
 use Prim.Native.Nat.{ℕ, suc, _+_, _*_, _/_, _%_, _≤_, _<_}
 use native.Mathlib.Omega.{arith}
@@ -14,12 +14,15 @@ use Rattle.stream_spec.specs.Items.{Pair, Transfer, Item, byte, end, kep
 use Rattle.stream_spec.specs.Packed.{pack, apart, parted}
 use Rattle.stream_spec.specs.Layout.{bit, odd, bitOf, size, tlast, lastSet, Kept, records, recordCount, joined, transferOf, octets, packed}
 use Rattle.stream_spec.specs.Handshake.{high, transferred, handshakes, asTransfer, withLast, filledIn, asFilled}
+use Rattle.stream_spec.specs.Legal.{Octets}
 use Rattle.stream_spec.specs.Answers.{lentAfter, judgeAnswer, fillRefusal, fillAfter}
 use Rattle.stream_spec.specs.Promises.{FilledHarvest, AllLast, EachItsPacket}
 use Rattle.stream_spec.proofs.Bits.{bit-zero, bit-suc, bit-one, odd-mask, bit-back}
 use Rattle.stream_spec.proofs.Size.{size-pos}
+use Rattle.stream_spec.proofs.Cut.{last-append}
 use Rattle.stream_spec.proofs.Pack.{pack-parted}
 use Rattle.stream_spec.proofs.Passed.{checks-passed}
+use Rattle.stream_spec.proofs.Legal.{octets-append as octets-join, EachOctets, pieces-octets}
 use Rattle.stream_spec.proofs.Harvest.{kept-sized}
 use Rattle.stream_spec.proofs.Clean.{clean-taken}
 use Rattle.stream_spec.proofs.Records.{Sized, length-joined, records-joined, record-alone, records-sized, length-pieces, whole-count, octets-append}
@@ -83,7 +86,11 @@ filled-harvest level s xs =
     ap (λ (rs : List (List ℕ)). joined (map asTransfer (handshakes rs))) (filled-records level s xs)
     ∙ ap joined (filled-handshakes level (size s) (records s xs) (size-pos s) (records-sized s xs))
 
--- where shape and length are not refused, the lent take is the filled one afterwards
+-- refused, the lent take is as it was; else it is the filled one
+pub refused-kept : (level : Bool) (s : Shape) (xs : List ℕ) (r : Refusal) → fillRefusal s xs ≡ some r → fillAfter level s xs ≡ xs
+unfolding fillAfter
+refused-kept level s xs r e = ap (λ (o : Option Refusal). lentAfter o (filledIn level s xs) xs) e
+
 pub taken-filled : (level : Bool) (s : Shape) (xs : List ℕ) → fillRefusal s xs ≡ none → fillAfter level s xs ≡ filledIn level s xs
 unfolding fillAfter
 taken-filled level s xs e =
@@ -92,15 +99,32 @@ taken-filled level s xs e =
 
 -- a take that is judged clean after fill-in was filled in
 pub clean-filled : (level : Bool) (s : Shape) (xs : List ℕ) (n : ℕ) → judgeAnswer s (fillAfter level s xs) ≡ Clean n → fillAfter level s xs ≡ filledIn level s xs
-unfolding fillAfter
 clean-filled level s xs n clean = go (fillRefusal s xs) refl
   where
     go : (o : Option Refusal) → fillRefusal s xs ≡ o → fillAfter level s xs ≡ filledIn level s xs
     go (some r) e =
-        let kept : fillAfter level s xs ≡ xs = ap (λ (o : Option Refusal). lentAfter o (filledIn level s xs) xs) e in
-        let taken : some r ≡ none = sym e ∙ clean-taken s xs n (sym (ap (judgeAnswer s) kept) ∙ clean) in
+        let taken : some r ≡ none = sym e ∙ clean-taken s xs n (sym (ap (judgeAnswer s) (refused-kept level s xs r e)) ∙ clean) in
         let z : _≡_ {A = ℕ} 0 1 = cc in absurd (omega arith)
     go none e = taken-filled level s xs e
+
+-- ---- octets stay octets
+
+last-octets : (level : Bool) (r : List ℕ) → Octets r → Octets (withLast level r)
+last-octets level [] h = h
+last-octets level (f ∷ r) h = (omega (arith, h .0, bit-one level), h .1)
+
+each-octets : (level : Bool) (rs : List (List ℕ)) → EachOctets rs → Octets (joined (map (withLast level) rs))
+each-octets level [] h = tt
+each-octets level (r ∷ rs) h =
+    octets-join (withLast level r) (joined (map (withLast level) rs)) (last-octets level r (h .0)) (each-octets level rs (h .1))
+
+pub filled-octets : (level : Bool) (s : Shape) (xs : List ℕ) → Octets xs → Octets (fillAfter level s xs)
+filled-octets level s xs h = go (fillRefusal s xs) refl
+  where
+    go : (o : Option Refusal) → fillRefusal s xs ≡ o → Octets (fillAfter level s xs)
+    go (some r) e = subst Octets (sym (refused-kept level s xs r e)) h
+    go none e =
+        subst Octets (sym (taken-filled level s xs e)) (each-octets level (records s xs) (pieces-octets (recordCount s xs) (size s) xs h))
 
 -- ---- the transfers that were sampled, at a level
 
@@ -123,17 +147,12 @@ all-last (c ∷ cs) = (filled-last high c, all-last cs)
 -- ---- records that all have TLAST
 
 -- the items of a transfer with TLAST end in an end, so what follows is packed apart
-ends-in-end : (p : Pair) (bytes : List Kept) → getLast? (map (byte p) bytes ++ (end p ∷ [])) ≡ some (end p)
-ends-in-end p [] = refl
-ends-in-end p (a ∷ []) = refl
-ends-in-end p (a ∷ b ∷ bytes) = ends-in-end p (b ∷ bytes)
-
 end-apart : (p : Pair) (next : Option (Item Kept)) → apart (some (end p)) next ≡ true
 end-apart p none = refl
 end-apart p (some i) = refl
 
 last-parted : (t : Transfer Kept) (is : List (Item Kept)) → t .last ≡ true → parted (transferItems t) is ≡ true
-last-parted t is e = rw (e, ends-in-end (t .pair) (kept (t .lanes))) (end-apart (t .pair) (head? is))
+last-parted t is e = rw (e, last-append (map (byte (t .pair)) (kept (t .lanes))) (end (t .pair)) []) (end-apart (t .pair) (head? is))
 
 -- a record alone has its own transfer's items, and nothing more
 alone : (s : Shape) (v : ℕ) (r : List ℕ) → length r ≡ size s → packed s v r ≡ octets (pack v (transferItems (transferOf s r)))

@@ -21,9 +21,9 @@ pub mod Full
 pub mod Only
 pub mod Findings
 pub mod Harvest
+pub mod Clean
 pub mod Fill
 pub mod Alike
-pub mod Clean
 pub mod Promises
 pub mod Tables
 pub mod Long

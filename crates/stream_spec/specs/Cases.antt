@@ -322,7 +322,7 @@ workedCases =
     ∷ refuses (fillIn high (lanes 17) (one 0xFE 0 0 0 0 0)) 1 0 (one 0xFE 0 0 0 0 0)
     -- W84: T-03: 2 of fill-in high, which leaves the take as it was
     ∷ refuses (fillIn high (lanes 1) (one 0xFE 0 0 0 0 0 ++ (0 ∷ []))) 2 0 (one 0xFE 0 0 0 0 0 ++ (0 ∷ []))
-    -- W85: T-03: each transfer its own packet: two transfers that were filled in high, the second all-null, pack to two records
+    -- W85: T-03: each transfer its own packet: two records with TLAST, the second all-null, give a record each
     ∷ gives (repack (lanes 1) 2 (one 0x01 0 0 1 1 7 ++ one 0x01 0 0 0 0 0) (eight ++ eight ++ ee)) 2
     (0x01 ∷ 0x00 ∷ 0x00 ∷ 0x01 ∷ 0x00 ∷ 0x01 ∷ 0x00 ∷ 0x07 ∷ 0x00 ∷ 0x01 ∷ 0x00 ∷ 0x00 ∷ 0x00 ∷ 0x00 ∷ 0x00 ∷ 0x00 ∷ 0x00 ∷ 0x00 ∷ 0xEE ∷ 0xEE ∷ [])
     ∷ []

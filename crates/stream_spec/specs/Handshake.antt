@@ -1,5 +1,5 @@
--- Handshake findings (paper 01, 'Handshake findings', with paper 02's T-01; Arm IHI 0051A 2.2.1, 2.4.3, 2.7.2): rules R1 to
--- R4 on a cycle and the cycle before it, the first finding of a take, its transfers, and fill-in of TLAST.
+-- Handshake findings (paper 01, 'Handshake findings', with paper 02's T-01 and T-03; Arm IHI 0051A 2.2.1, 2.4.3, 2.7.2,
+-- 3.1.3): rules R1 to R4 on a cycle and the cycle before it, the first finding of a take, its transfers, and fill-in of TLAST.
 use mathlib.Core.Bool.{Bool, true, false, not, _&&_, _||_, cond, Bool·beq}
 use mathlib.Core.List.{List, [], _∷_, _++_, map}
 use mathlib.Core.Option.{Option, none, some}

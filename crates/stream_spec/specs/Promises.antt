@@ -1,5 +1,5 @@
--- What is proved of the definitions, a statement each. Words in quotes are paper 01's or, where it is said, a demand's.
--- Demand 3 has a page of its own. The proofs are in proofs/Promises.
+-- What is proved of the definitions, a statement each. Words in quotes are paper 01's or, where it is said, a demand's or a
+-- request's. Demand 3 has a page of its own. The proofs are in proofs/Promises.
 use mathlib.Core.Path.{_≡_}
 use mathlib.Core.Bool.{Bool, true, false, not, _&&_, _||_, cond}
 use mathlib.Core.List.{List, [], _∷_, _++_, map}
