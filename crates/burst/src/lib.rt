@@ -218,8 +218,8 @@ fn leaves_block(b: Burst) -> bool
         Kind::Fixed => false,
         Kind::Incr => {
             let bytes = bytes_of(b.size);
-            let first = round_down(b.start, bytes);
-            let offset = low_part(first, BLOCK);
+            let aligned = round_down(b.start, bytes);
+            let offset = low_part(aligned, BLOCK);
             let beats = wide(b.len + 1);
             BLOCK < offset + beats * bytes
         }
@@ -240,8 +240,8 @@ fn incr_address(b: Burst, k: u32) -> Address
         return start;
     }
     let bytes = bytes_of(b.size);
-    let first = round_down(start, bytes);
-    first + wide(k) * bytes
+    let aligned = round_down(start, bytes);
+    aligned + wide(k) * bytes
 }
 
 // WRAP: the offset from the wrap boundary goes round in the burst's container. The container's end is never worked out: at
@@ -280,8 +280,8 @@ fn beat_at(b: Burst, address: Address) -> Beat
 {
     let bytes = bytes_of(b.size);
     let bus = wide(b.bus);
-    let first = round_down(address, bytes);
-    let highest = first + (bytes - 1);
+    let aligned = round_down(address, bytes);
+    let highest = aligned + (bytes - 1);
     Beat {
         address,
         lower: lane(low_part(address, bus)),
@@ -300,7 +300,7 @@ fn distance(from: Address, to: Address) -> i32
     0 - ((from - to) as i32)
 }
 
-// Powers of two, and rounding to them. `low_part` is the one place that divides; T-04 puts a mask there, under its contract.
+// Powers of two, and rounding to them by masks. Nothing in this file divides (T-04; docs/BEATS.md shows it line by line).
 
 // The bytes in a beat.
 fn bytes_of(size: u32) -> Address
@@ -310,20 +310,22 @@ fn bytes_of(size: u32) -> Address
     1 << size
 }
 
-// How far an address lies above a multiple of `bytes`.
+// How far an address lies above a multiple of `bytes`: the bits that its mask has.
 fn low_part(address: Address, bytes: Address) -> Address
     requires { ⌜ Power bytes ⌝ }
     ensures { λ r. ⌜ r ≡ address % bytes ⌝ }
 {
-    address % bytes
+    let mask = bytes - 1;
+    address & mask
 }
 
-// The address rounded down to a multiple of `bytes`.
+// The address rounded down to a multiple of `bytes`: the bits that the mask has not.
 fn round_down(address: Address, bytes: Address) -> Address
     requires { ⌜ Power bytes ⌝ }
     ensures { λ r. ⌜ r ≡ roundDown address bytes ⌝ }
 {
-    address - low_part(address, bytes)
+    let mask = bytes - 1;
+    address & !mask
 }
 
 // Numbers to and from the width of an address: the only casts between the two.
