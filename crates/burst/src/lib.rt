@@ -300,7 +300,7 @@ fn distance(from: Address, to: Address) -> i32
     0 - ((from - to) as i32)
 }
 
-// Powers of two, and rounding to them by masks. Nothing in this file divides (T-04; docs/BEATS.md shows it line by line).
+// Powers of two, and rounding to them by masks. Nothing in this file divides (T-04): docs/BEAT-ADDRESSES.md has it line by line.
 
 // The bytes in a beat.
 fn bytes_of(size: u32) -> Address
