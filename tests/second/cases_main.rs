@@ -2,6 +2,7 @@
 #![allow(dead_code)]
 mod cases;
 mod least;
+mod masks;
 mod model;
 mod model_axi3;
 mod tally;
@@ -22,6 +23,41 @@ fn formula(b: Burst, k: u64) -> (u64, u64, u64) {
         _ => lowest + (s - lowest + k * bytes) % (bytes * n),
     };
     (address, address % bus, (address - address % bytes + bytes - 1) % bus)
+}
+
+/// Beat k of an accepted burst as T-04's engineer has it, on a core of 32 bits that cannot divide: the low bits of the beat,
+/// of the container and of the bus are masks. Only WRAP rounds to a container, and there N is a power of two.
+fn masked(b: Burst, k: u32) -> (u32, u32, u32) {
+    let (beat, container, bus) = ((1 << b.size) - 1, ((b.len + 1) << b.size) - 1, b.bus - 1);
+    let on = k << b.size;
+    let address = match b.kind {
+        FIXED => b.start,
+        INCR if k == 0 => b.start,
+        INCR => (b.start & !beat) + on,
+        _ => (b.start & !container) + (((b.start & container) + on) & container),
+    };
+    (address, address & bus, ((address & !beat) + beat) & bus)
+}
+
+/// Each beat by masks, against A3.4.2's pseudo code, which divides.
+fn masks_agree(t: &mut Tally, b: Burst) {
+    for (k, beat) in (0..).zip(model::judge_burst(b).beats) {
+        let (address, lower, upper) = masked(b, k);
+        let got = Beat { address: address.into(), lower: lower.into(), upper: upper.into() };
+        t.same(got, beat, || format!("{b:?} beat {k}"));
+    }
+}
+
+fn masks_of_bursts(t: &mut Tally, r: &mut Random) {
+    t.group("masks agree with the pseudo code", |t| {
+        for b in (0..32).flat_map(masks::at_bit).chain(masks::edges().flat_map(masks::at_edge)) { masks_agree(t, b); }
+        for _ in 0..20_000 {
+            let (size, kind) = (r.below(8) as u32, r.below(3) as u32);
+            let any = r.next() as u32;
+            let start = if kind == WRAP { any - any % (1 << size) } else { any };
+            masks_agree(t, Burst { start, len: r.pick(&[0, 1, 3, 7, 15]), size, kind, bus: 128 >> r.below(8 - size as usize) });
+        }
+    });
 }
 
 /// T-02's words and closed formulas, to set against the model's cut of an INCR.
@@ -95,6 +131,7 @@ fn main() {
         }
     });
     cut_bursts(&mut t, &mut r);
+    masks_of_bursts(&mut t, &mut r);
     t.every_group_ran();
     t.finish()
 }

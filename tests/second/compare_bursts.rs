@@ -1,7 +1,7 @@
 //! The library's burst calls against the model, on many bursts.
 use crate::model::{self, Burst, FIXED, INCR, WRAP};
 use crate::tally::{Random, Tally};
-use crate::{cases, library_burst as library};
+use crate::{cases, library_burst as library, masks};
 
 /// Judging, then each beat and step up to the last, and indexes beyond.
 fn compare(t: &mut Tally, b: Burst) {
@@ -78,6 +78,17 @@ fn at_the_edge(t: &mut Tally, r: &mut Random) {
     }
 }
 
+/// Each size from each offset in a block, the upper bits random: every value of the bits that a mask takes away or keeps.
+fn every_offset(t: &mut Tally, r: &mut Random) {
+    for (offset, size) in (0..4096).flat_map(|offset| (0..8).map(move |size| (offset, size))) {
+        let start = (r.next() as u32 & 0xFFFF_F000) + offset;
+        let bus = 1 << (size as usize + r.below(8 - size as usize));
+        for (kind, lengths) in [(FIXED, &[1][..]), (INCR, &[0, 1, 4]), (WRAP, &[1, 3, 7, 15])] {
+            for &len in lengths { compare(t, Burst { start, len, size, kind, bus }); }
+        }
+    }
+}
+
 /// One round of the soak.
 pub fn round(t: &mut Tally, r: &mut Random) {
     for kind in [FIXED, INCR, WRAP] { let b = random_of_kind(r, kind); compare(t, b); }
@@ -85,6 +96,8 @@ pub fn round(t: &mut Tally, r: &mut Random) {
     let b = wild(r);
     compare(t, b);
     at_the_edge(t, r);
+    let edge = (r.next() as u32) << r.below(32); // the gate has those with a single bit
+    compare(t, r.pick(&masks::at_edge(edge)));
 }
 
 /// What the gate asks.
@@ -107,6 +120,9 @@ pub fn all(t: &mut Tally) {
         let (size, len) = (r.below(8) as u32, r.pick(&[0, 1, 3, 7, 15]));
         for kind in 0..3 { compare(t, Burst { start, len, size, kind, bus: 128 }); }
     });
+    t.group("each bit of a start", |t| for b in (0..32).flat_map(masks::at_bit) { compare(t, b) });
+    t.group("each edge of a mask", |t| for b in masks::edges().flat_map(masks::at_edge) { compare(t, b) });
+    t.seeded_group("every offset in a block", every_offset);
 }
 
 /// What must have occurred by then.

@@ -9,7 +9,7 @@ pub const SELF_TEST: Least = &[
     ("case S3", 1), ("case S4", 1), ("case S5", 1), ("case S6", 16), ("case S7", 16), ("handshake findings", 11),
     ("stream refusals in order", 12), ("T-03 by hand", 228), ("pseudo code and formulas agree", 646_508),
     ("packing twice, and downsizing first, change nothing", 4384), ("T-02 by hand", 84), ("T-02 refusals in order", 45),
-    ("cut bursts have the old beats", 142_837), ("every group ran", 1),
+    ("cut bursts have the old beats", 142_837), ("masks agree with the pseudo code", 1_905_288), ("every group ran", 1),
 ];
 
 /// The library against the model.
@@ -17,7 +17,8 @@ pub const COMPARE: Least = &[
     ("case B1", 8), ("case B2", 8), ("case B3", 10), ("case B4", 12), ("case B5", 2), ("case B6", 4),
     ("burst refusals in order", 8), ("burst up to 2^32", 6), ("fixed random", 350_000), ("incr random", 700_000),
     ("wrap random", 315_000), ("damaged", 800_000), ("all arguments wild", 140_000), ("exact bounds", 738_232),
-    ("4KB edge", 570_000), ("every start of the last block", 188_000), ("T-02 by hand", 84), ("T-02 refusals in order", 45),
+    ("4KB edge", 570_000), ("every start of the last block", 188_000), ("each bit of a start", 2_795_449),
+    ("each edge of a mask", 2_519_768), ("every offset in a block", 2_968_748), ("T-02 by hand", 84), ("T-02 refusals in order", 45),
     ("cut incr random", 1_500_000), ("cut fixed random", 116_000), ("cut wrap random", 112_500), ("cut damaged", 510_000),
     ("cut all arguments wild", 120_000), ("cut refusals before room", 3330), ("cut into every row", 30_240),
     ("cut exact bounds", 2_617_344), ("cut unaligned starts", 87_405), ("cut 4KB edge", 720_000),

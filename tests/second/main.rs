@@ -14,6 +14,7 @@ mod library_axi3;
 mod library_burst;
 mod library_report;
 mod library_stream;
+mod masks;
 mod model;
 mod model_axi3;
 #[path = "../report/model.rs"]
