@@ -72,7 +72,7 @@ typedef struct urd_burst_answer {
  * Lent memory: none. */
 urd_burst_answer urd_burst_judge(uint32_t start, uint32_t len, uint32_t size, uint32_t kind, uint32_t bus);
 
-/* Beat k: its address, and its byte lanes lower to upper. Worked out by masks: no burst call but the cut divides.
+/* Beat k: its address, and its byte lanes lower to upper. Worked out by masks: judge, beat and step divide nowhere.
  * Refusals: 7, 8, 9, 10, 11, 12, then 13 where the burst has no beat k.
  * Lent memory: none. */
 urd_burst_answer urd_burst_beat(uint32_t start, uint32_t len, uint32_t size, uint32_t kind, uint32_t bus, uint32_t k);

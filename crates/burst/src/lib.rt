@@ -280,8 +280,8 @@ fn beat_at(b: Burst, address: Address) -> Beat
 {
     let bytes = bytes_of(b.size);
     let bus = wide(b.bus);
-    let aligned = round_down(address, bytes);
-    let highest = aligned + (bytes - 1);
+    let first = round_down(address, bytes);
+    let highest = first + (bytes - 1);
     Beat {
         address,
         lower: lane(low_part(address, bus)),
@@ -300,7 +300,8 @@ fn distance(from: Address, to: Address) -> i32
     0 - ((from - to) as i32)
 }
 
-// Powers of two, and rounding to them by masks. Nothing in this file divides (T-04): docs/BEAT-ADDRESSES.md has it line by line.
+// Powers of two, and rounding to them by masks. Nothing in this file divides (T-04); docs/BEAT-ADDRESSES.md has
+// the address functions beside A3.4.2.
 
 // The bytes in a beat.
 fn bytes_of(size: u32) -> Address
