@@ -8,11 +8,11 @@ use Rattle.burst_spec.specs.Address.{roundDown}
 use Rattle.burst_spec.specs.Legal.{Power}
 use Rattle.burst.proofs.Formulas.{addressBits, power}
 
--- what is left of an address: the bits that the mask has
+-- what is left of an address: its bits in the mask
 pub low-masked : (a b : ℕ) → Power b → bitAnd a (b - 1) ≡ a % b
 low-masked a b p = rw (p .is) (and-mask a (p .log))
 
--- the bits that the mask of i has not, of j + i
+-- the complement of a mask of i bits, in j + i bits
 above : (j i : ℕ) → 2 ^ (j + i) - 1 - (2 ^ i - 1) ≡ 2 ^ (j + i) - 2 ^ i
 above j i = omega (arith, pow-pos i)
 
@@ -21,7 +21,7 @@ unfolding roundDown
 round-masked-by j i a h =
     ap (bitAnd a) (above j i) ∙ and-high a j i ∙ ap (λ q. q * 2 ^ i) (shr-mod j i h)
 
--- an address of w bits, rounded down: the bits that the mask has not. The one law of masks that knows how wide an address is.
+-- an address of w bits, rounded down: its bits outside the mask. The one law of masks that knows how wide an address is.
 pub round-masked : (w a b : ℕ) → Power b → b < 2 ^ w → a < 2 ^ w → bitAnd a (2 ^ w - 1 - (b - 1)) ≡ roundDown a b
 round-masked w a b p s h =
     let i = p .log in

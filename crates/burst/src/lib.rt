@@ -311,7 +311,7 @@ fn bytes_of(size: u32) -> Address
     1 << size
 }
 
-// How far an address lies above a multiple of `bytes`: the bits that its mask has.
+// How far an address lies above a multiple of `bytes`: its bits in the mask.
 fn low_part(address: Address, bytes: Address) -> Address
     requires { ⌜ Power bytes ⌝ }
     ensures { λ r. ⌜ r ≡ address % bytes ⌝ }
@@ -320,7 +320,7 @@ fn low_part(address: Address, bytes: Address) -> Address
     address & mask
 }
 
-// The address rounded down to a multiple of `bytes`: the bits that the mask has not.
+// The address rounded down to a multiple of `bytes`: its bits outside the mask.
 fn round_down(address: Address, bytes: Address) -> Address
     requires { ⌜ Power bytes ⌝ }
     ensures { λ r. ⌜ r ≡ roundDown address bytes ⌝ }
