@@ -12,7 +12,7 @@ use lib.ListN.{length, take, drop, length-map, length-append, length-drop}
 use lib.Seq.{length-take-le, take-all, take-at, drop-at, take-append-le, drop-append-le}
 use Rattle.stream_spec.specs.declared.Shape.{Shape}
 use Rattle.stream_spec.specs.Items.{Transfer, items}
-use Rattle.stream_spec.specs.Layout.{maskOf, size, atWidth, typesOf, laneType, laneOf, lanesOf, Kept, octet, position, keepBit, strbBit, laneOctet, transferOf, octetsOf, pieces, recordCount, records, joined, transfers, octets, streamItems, packedTransfers, packed}
+use Rattle.stream_spec.specs.Layout.{maskOf, size, atWidth, typesOf, laneType, laneOf, lanesOf, Kept, octet, position, keepBit, strbBit, laneOctet, transferOf, octetsOf, pieces, piecesOf, recordCount, records, joined, transfers, octets, streamItems, packedTransfers, packed}
 use Rattle.stream_spec.proofs.Bits.{bit-back, odd-mask, half-mask, two-octets}
 use Rattle.stream_spec.proofs.Size.{size-pos, length-octetsOf}
 use Rattle.stream_spec.proofs.Pack.{map-append, items-append, items-pack, wide-pack, Wide}
@@ -72,22 +72,26 @@ records-append s xs ys h =
 whole-fits : (n z : ℕ) → n % z ≡ 0 → 0 < n → z ≤ n
 whole-fits n z w h = elim (decLe z n) [ yes p ↦ p | no p ↦ let short : n < z = omega arith in absurd (omega (arith, mod-eq-of-lt short)) ]
 
--- the first of the whole records, and the others
-pub record FirstRecord (s : Shape) (xs : List ℕ) : Type 0 where
-  pub fits : size s ≤ length xs
-  pub is : records s xs ≡ take (size s) xs ∷ records s (drop (size s) xs)
-  pub whole : length (drop (size s) xs) % size s ≡ 0
+-- the first of the whole pieces, and the others
+pub record FirstPiece (z : ℕ) (xs : List ℕ) : Type 0 where
+  pub fits : z ≤ length xs
+  pub is : piecesOf z xs ≡ take z xs ∷ piecesOf z (drop z xs)
+  pub whole : length (drop z xs) % z ≡ 0
 
-pub first-record : (s : Shape) (xs : List ℕ) → length xs % size s ≡ 0 → 0 < length xs → FirstRecord s xs
-first-record s xs w h =
-    let fits : size s ≤ length xs = whole-fits (length xs) (size s) w h in
+pub first-piece : (z : ℕ) → 0 < z → (xs : List ℕ) → length xs % z ≡ 0 → 0 < length xs → FirstPiece z xs
+first-piece z pos xs w h =
+    let fits : z ≤ length xs = whole-fits (length xs) z w h in
     record {
       fits = fits;
       is =
-          ap (λ (n : ℕ). pieces n (size s) xs)
-          (div-eq-sub-div (size-pos s) fits ∙ add-one ((length xs - size s) / size s) ∙ ap (λ (n : ℕ). suc (n / size s)) (sym (length-drop (size s) xs)));
-      whole = rw (length-drop (size s) xs) (sym (mod-eq-sub-mod fits) ∙ w);
+          ap (λ (n : ℕ). pieces n z xs)
+          (div-eq-sub-div pos fits ∙ add-one ((length xs - z) / z) ∙ ap (λ (n : ℕ). suc (n / z)) (sym (length-drop z xs)));
+      whole = rw (length-drop z xs) (sym (mod-eq-sub-mod fits) ∙ w);
     }
+
+-- the same of records
+pub first-record : (s : Shape) (xs : List ℕ) → length xs % size s ≡ 0 → 0 < length xs → FirstPiece (size s) xs
+first-record s xs w h = first-piece (size s) (size-pos s) xs w h
 
 pub records-sized : (s : Shape) (xs : List ℕ) → Sized (size s) (records s xs)
 records-sized s xs = pieces-sized (size s) (recordCount s xs) xs (div-mul-le-self (length xs) (size s))

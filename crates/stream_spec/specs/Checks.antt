@@ -69,7 +69,7 @@ reservedFault s r = anyReserved (laneTypes s r)
 
 -- the checks of each record, the records in order; the place is the record, counted from k. A fault that a later request
 -- gives to records is one more check in the list of one record; the laws are in proofs/RecordChecks.
-abbrev pub each : (ℕ → List ℕ → List (Check Refusal)) → ℕ → List (List ℕ) → List (Check Refusal)
+abbrev pub each : {X : Type 0} → (ℕ → List ℕ → List (Check X)) → ℕ → List (List ℕ) → List (Check X)
 each checks k [] = []
 each checks k (r ∷ rs) = checks k r ++ each checks (suc k) rs
 

@@ -227,12 +227,16 @@ abbrev pub pieces : ℕ → ℕ → List ℕ → List (List ℕ)
 pieces zero octets xs = []
 pieces (suc n) octets xs = take octets xs ∷ pieces n octets (drop octets xs)
 
+-- all whole pieces of so many octets
+abbrev pub piecesOf : ℕ → List ℕ → List (List ℕ)
+piecesOf octets xs = pieces (length xs / octets) octets xs
+
 -- how many whole records stand in these octets, and the records, one after the other
 abbrev pub recordCount : Shape → List ℕ → ℕ
 recordCount s xs = length xs / size s
 
 abbrev pub records : Shape → List ℕ → List (List ℕ)
-records s xs = pieces (recordCount s xs) (size s) xs
+records s xs = piecesOf (size s) xs
 
 -- octets of records, one record after the other
 abbrev pub joined : List (List ℕ) → List ℕ

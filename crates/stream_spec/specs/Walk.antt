@@ -15,10 +15,14 @@ pub record Passed (s : Shape) (xs : List ℕ) : Type 0 where
   pub whole : length xs % size s ≡ 0
   pub short : length xs ≤ captureMost
 
--- from octet `at` on whole records are left, or none
-pub record Left (s : Shape) (xs : List ℕ) (at : ℕ) : Type 0 where
+-- from octet `at` on whole pieces of z octets are left, or none
+pub record LeftBy (z : ℕ) (xs : List ℕ) (at : ℕ) : Type 0 where
   pub within : at ≤ length xs
-  pub whole : length (drop at xs) % size s ≡ 0
+  pub whole : length (drop at xs) % z ≡ 0
+
+-- the same of records of a shape
+abbrev pub Left : Shape → List ℕ → ℕ → Type 0
+Left s xs at = LeftBy (size s) xs at
 
 -- z octets from octet `at` on, as code lends them: the record there, where z is a record's size
 abbrev pub recordAt : List ℕ → ℕ → ℕ → List ℕ

@@ -1,0 +1,2 @@
+-- The laws of write beats. Read in this order.
+pub mod Cases
