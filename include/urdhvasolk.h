@@ -18,6 +18,9 @@
  *   octet 1, 2  TID 0 to 255, TDEST 0 to 15
  *   octet 3, 4  TKEEP, low octet first; octet 5, 6 TSTRB, the same way; bits at or above width are zero
  *   octet 7 on  data of lane 0, lane 1, up to width - 1
+ * A take of write beats is records of 1 + bus/8 octets, bus/8 rounded up, at most 65,536 octets in all, too:
+ *   octet 0     bit 0 WLAST; the other bits are zero
+ *   octet 1 on  WSTRB, low octet first, lane 0 in the lowest bit; bits at or above bus are zero
  * Records, cycles and beats count from 0. The refusals of a call stand in the order in which they are tested.
  *
  * Built by `make lib` for x86-64: build/lib/liburdhvasolk.a and build/lib/liburdhvasolk.so. Plain C99; C++ can include it. */
@@ -104,6 +107,22 @@ typedef struct urd_cut_answer {
  * Refusals: 7, 8, 9, 10, 11, 12, then 5 where the row is too short.
  * Lent memory: `row` gets the bursts and is unchanged after them; refused, it is unchanged. */
 urd_cut_answer urd_axi3_cut(uint32_t start, uint32_t len, uint32_t size, uint32_t kind, uint32_t bus, uint64_t *row, size_t row_length);
+
+/* What urd_judge_writes answers. */
+typedef struct urd_write_answer {
+    uint32_t refusal; /* the refusal's number, or 0 */
+    uint32_t rule;    /* broken rule 1 to 5, or 0 */
+    uint64_t place;   /* the record of refusal 3; the beat of rules 1 to 4; of rule 5 how many beats were given */
+    uint64_t strobes; /* clean: the strobes that are high, in all beats */
+} urd_write_answer;
+
+/* Judges the write beats of a burst. Clean: rule 0, the number of high strobes. Broken: the lowest rule at beat `place`, the first one that
+ * breaks any: 1 a strobe high outside the lanes of the beat (urd_burst_beat: lower to upper), 2 WLAST before the last beat, 3 the last beat
+ * without WLAST, 4 a beat past the last, which no other rule reads; or, where no beat breaks one of these, 5 too few beats, `place` being
+ * how many were given. A beat may have no strobe at all, and an empty take is rule 5.
+ * Refusals: 7, 8, 9, 10, 11, 12, 2, then 3 (place: the record), in records past the last beat too, and before any rule.
+ * Lent memory: read only. */
+urd_write_answer urd_judge_writes(uint32_t start, uint32_t len, uint32_t size, uint32_t kind, uint32_t bus, const uint8_t *beats, size_t beats_length);
 
 /* ---- streams ---- */
 

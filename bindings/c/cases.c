@@ -1,5 +1,6 @@
 /* Paper 01's bench cases P1, S1 to S7 and B1 to B6 through C, with every answer and every octet typed from the paper;
- * then the layout of the structs, the refusals that no bench case gives, and numbers at the edges.
+ * then cuts and write beats (paper 02, T-02 and T-05), the layout of the structs, the refusals that no bench case gives,
+ * and numbers at the edges.
  * The last line is 'N passed, M failed'. A case passes if all its checks do. */
 #include "urdhvasolk.h"
 
@@ -311,6 +312,159 @@ static void cut_others(void)
     cut_is(0x1010, 256, 4, URD_INCR, 16, 0, 0, URD_FENCE, NULL, 0, "12 before 5");
 }
 
+/* ---- write beats (paper 02, T-05) ---- */
+
+#define B1 0x1002, 2, 2, URD_INCR, 4                   /* lanes 2-3, 0-3, 0-3 */
+#define B2(beats) 0x1002, (beats) - 1, 2, URD_FIXED, 4 /* lanes 2-3 in each beat */
+#define B3 0x34, 3, 2, URD_WRAP, 8                     /* lanes 4-7, 0-3, 4-7, 0-3 */
+#define ONE 0x1000, 0, 2, URD_INCR, 4                  /* one beat of four lanes */
+#define TWO 0x1000, 1, 2, URD_INCR, 4                  /* two of them */
+
+static void write_is(urd_write_answer a, uint32_t refusal, uint32_t rule, uint64_t place, uint64_t strobes, const char *what)
+{
+    int good = a.refusal == refusal && a.rule == rule && a.place == place && a.strobes == strobes;
+    check(good, what);
+    if (!good)
+        printf("    refusal %" PRIu32 ", rule %" PRIu32 ", place %" PRIu64 ", strobes %" PRIu64 "\n", a.refusal, a.rule, a.place, a.strobes);
+}
+
+static void beats_are(uint32_t start, uint32_t len, uint32_t size, uint32_t kind, uint32_t bus, const char *hex, uint32_t refusal, uint32_t rule, uint64_t place, uint64_t strobes, const char *what)
+{
+    uint8_t take[64];
+    size_t length = octets_of(hex, take);
+    write_is(urd_judge_writes(start, len, size, kind, bus, take, length), refusal, rule, place, strobes, what);
+}
+
+/* On a bus of 8 lanes or fewer, each strobe of each beat alone: clean on the lanes of the beat, W1 at that beat on any other. */
+static void lanes_are(uint32_t start, uint32_t len, uint32_t size, uint32_t kind, uint32_t bus, const uint8_t *lanes, uint64_t all, const char *what)
+{
+    uint8_t take[2 * 16] = {0};
+    take[2 * len] = 1;
+    for (uint32_t k = 0; k <= len; k++)
+        for (uint32_t lane = 0; lane < bus; lane++) {
+            uint32_t stray = !(lanes[k] >> lane & 1);
+            take[2 * k + 1] = (uint8_t)(1 << lane);
+            write_is(urd_judge_writes(start, len, size, kind, bus, take, 2 * (len + 1)), 0, stray, stray ? k : 0, !stray, what);
+            take[2 * k + 1] = 0;
+        }
+    write_is(urd_judge_writes(start, len, size, kind, bus, take, 2 * (len + 1)), 0, 0, 0, 0, "no strobe at all");
+    for (uint32_t k = 0; k <= len; k++)
+        take[2 * k + 1] = lanes[k];
+    write_is(urd_judge_writes(start, len, size, kind, bus, take, 2 * (len + 1)), 0, 0, 0, all, "every lane of each beat");
+}
+
+static void write_lanes(void)
+{
+    static const uint8_t lanes1[] = {0x0C, 0x0F, 0x0F}, lanes3[] = {0xF0, 0x0F, 0xF0, 0x0F};
+    uint8_t lanes2[16];
+    memset(lanes2, 0x0C, sizeof lanes2);
+    lanes_are(B1, lanes1, 10, "B1");
+    for (uint32_t beats = 1; beats <= 16; beats++)
+        lanes_are(B2(beats), lanes2, 2 * beats, "B2");
+    lanes_are(B3, lanes3, 16, "B3");
+    beats_are(B1, "00 04 00 00 01 0A", 0, 0, 0, 3, "some lanes of each beat");
+    beats_are(0x34, 1, 2, URD_WRAP, 16, "00 F0 00 01 0F 00", 0, 0, 0, 8, "a WRAP within the bus: lanes 4-7, 0-3");
+    beats_are(0x34, 1, 2, URD_WRAP, 16, "00 F0 00 01 00 0F", 0, 1, 1, 0, "and not those of an INCR, 4-7, 8-11");
+    beats_are(0xFFFFFFFB, 1, 2, URD_INCR, 8, "00 08 01 F0", 0, 0, 0, 5, "up to the last byte of memory");
+}
+
+static void write_rules(void)
+{
+    beats_are(B1, "00 0E 00 0F 01 0F", 0, 1, 0, 0, "W1 below the lower lane");
+    beats_are(B3, "00 F0 00 1F 00 F0 01 0F", 0, 1, 1, 0, "W1 above the upper lane");
+    beats_are(B3, "00 F0 00 0F 00 F8 01 0F", 0, 1, 2, 0, "W1 in beat 2");
+    beats_are(B1, "00 0C 01 0F 01 0F", 0, 2, 1, 0, "W2");
+    beats_are(B1, "00 0C 00 0F 00 0F", 0, 3, 2, 0, "W3");
+    beats_are(TWO, "00 0F 01 0F 00 00", 0, 4, 2, 0, "W4");
+    beats_are(TWO, "00 0F 01 0F 01 0F 01 0F", 0, 4, 2, 0, "W4 with WLAST and strobes, the first of two");
+    beats_are(0x1000, 1, 0, URD_INCR, 4, "00 01 01 02 01 0F", 0, 4, 2, 0, "W1 does not read a beat past the last");
+    beats_are(B1, "00 0C 00 0F", 0, 5, 2, 0, "W5");
+    beats_are(B1, "", 0, 5, 0, 0, "W5 of an empty take");
+    beats_are(B1, "01 0F 00 0F 01 0F", 0, 1, 0, 0, "W1 before W2 in a beat");
+    beats_are(B3, "00 F0 00 0F 00 F0 00 FF", 0, 1, 3, 0, "W1 before W3 in a beat");
+    beats_are(B1, "01 0C 00 0F 01 0F", 0, 2, 0, 0, "W2 in beat 0");
+    beats_are(B2(2), "01 0C 01 0F", 0, 2, 0, 0, "an earlier W2 before a later W1");
+    beats_are(TWO, "00 0F 00 0F 01 0F", 0, 3, 1, 0, "three beats for two, WLAST on the third: W3 at 1");
+    beats_are(B1, "00 0C 01 0F", 0, 2, 1, 0, "too few, and one that is given breaks a rule");
+    beats_are(ONE, "01 0A", 0, 0, 0, 2, "one beat");
+    beats_are(ONE, "00 0F", 0, 3, 0, 0, "W3 of one beat");
+    beats_are(ONE, "01 0F 00 0F", 0, 4, 1, 0, "W4 of one beat");
+    beats_are(ONE, "", 0, 5, 0, 0, "W5 of one beat");
+}
+
+#define LONGEST 0x1000, 255, 0, URD_INCR, 8 /* 256 beats of one byte, beat k on lane k mod 8 */
+
+static void write_lengths(void)
+{
+    static uint8_t take[65552];
+    for (uint32_t size = 0, bus = 1; bus <= 128; size++, bus *= 2) {
+        uint32_t length = bus < 8 ? 2 : 1 + bus / 8;
+        memset(take, 0, sizeof take);
+        take[0] = 1;
+        memset(take + 1, bus < 8 ? (1 << bus) - 1 : 0xFF, length - 1);
+        write_is(urd_judge_writes(0, 0, size, URD_INCR, bus, take, length), 0, 0, 0, bus, "all lanes of a bus");
+        write_is(urd_judge_writes(bus - 1, 0, 0, URD_INCR, bus, take, length), 0, bus > 1, 0, bus == 1, "all lanes, and only the highest is the beat's");
+        write_is(urd_judge_writes(0, 0, size, URD_INCR, bus, take, length - 1), URD_LENGTH, 0, 0, 0, "an octet too few");
+    }
+    beats_are(8, 0, 3, URD_INCR, 16, "01 00 FF", 0, 0, 0, 8, "low octet first");
+    beats_are(8, 0, 3, URD_INCR, 16, "01 FF 00", 0, 1, 0, 0, "and not high octet first");
+    beats_are(3, 0, 5, URD_INCR, 32, "01 F8 FF FF FF", 0, 0, 0, 29, "lanes 3 to 31");
+    memset(take, 0, sizeof take);
+    for (size_t k = 0; k < 256; k++)
+        take[2 * k + 1] = (uint8_t)(1 << k % 8);
+    write_is(urd_judge_writes(LONGEST, take, 510), 0, 5, 255, 0, "255 beats for 256");
+    write_is(urd_judge_writes(LONGEST, take, 512), 0, 3, 255, 0, "256 beats and no WLAST");
+    take[510] = 1;
+    write_is(urd_judge_writes(LONGEST, take, 512), 0, 0, 0, 256, "256 beats");
+    write_is(urd_judge_writes(LONGEST, take, 514), 0, 4, 256, 0, "257 beats for 256");
+    write_is(urd_judge_writes(LONGEST, take, 65536), 0, 4, 256, 0, "65,536 octets");
+    write_is(urd_judge_writes(LONGEST, take, 65538), URD_LENGTH, 0, 0, 0, "one record more");
+    write_is(urd_judge_writes(0xFF2, 4, 2, URD_INCR, 4, take, 65538), URD_FENCE, 0, 0, 0, "12 before 2 of a take that is too long");
+    take[65535] = 0x80;
+    write_is(urd_judge_writes(LONGEST, take, 65536), 0, 4, 256, 0, "any strobe in the last record");
+    take[65534] = 0x80;
+    write_is(urd_judge_writes(LONGEST, take, 65536), URD_FIELD, 0, 32767, 0, "3 in the last record");
+    memset(take, 0, sizeof take);
+    take[0] = 1;
+    write_is(urd_judge_writes(0, 0, 7, URD_INCR, 128, take, 3855 * 17), 0, 4, 1, 0, "65,535 octets of 17 each");
+    write_is(urd_judge_writes(0, 0, 7, URD_INCR, 128, take, 3856 * 17), URD_LENGTH, 0, 0, 0, "one more of 17");
+}
+
+static void write_refusals(void)
+{
+    static const uint32_t big[] = {256, 0x7FFFFFFF, 0x80000000, 0xFFFFFFFF};
+    uint8_t take[2];
+    for (uint32_t bit = 1; bit < 8; bit++)
+        for (uint8_t last = 0; last < 2; last++) {
+            take[0] = (uint8_t)(1 << bit | last), take[1] = 0x0F;
+            write_is(urd_judge_writes(ONE, take, 2), URD_FIELD, 0, 0, 0, "3 for a bit beside WLAST");
+        }
+    for (uint32_t bus = 1; bus <= 4; bus *= 2)
+        for (uint32_t bit = bus; bit < 8; bit++) {
+            take[0] = 1, take[1] = (uint8_t)(1 << bit);
+            write_is(urd_judge_writes(0, 0, 0, URD_INCR, bus, take, 2), URD_FIELD, 0, 0, 0, "3 and not W1 for a strobe at or above the bus");
+        }
+    beats_are(TWO, "01 0F 01 1F", URD_FIELD, 0, 1, 0, "3 behind a broken rule");
+    beats_are(ONE, "01 0F 00 0F 04 00", URD_FIELD, 0, 2, 0, "3 in a beat past the last");
+    beats_are(B1, "02 0C", URD_FIELD, 0, 0, 0, "3 where there are too few");
+    beats_are(B1, "00 0C 02 0F 03 0F", URD_FIELD, 0, 1, 0, "the first of two");
+    beats_are(ONE, "02", URD_LENGTH, 0, 0, 0, "2 before 3");
+    beats_are(8, 0, 3, URD_INCR, 16, "01 FF", URD_LENGTH, 0, 0, 0, "two octets where a record has three");
+    beats_are(0x1FFF, 256, 8, 3, 3, "02", URD_BUS, 0, 0, 0, "7 first");
+    beats_are(0x1FFF, 256, 8, 3, 4, "02", URD_SIZE, 0, 0, 0, "8 before 9");
+    beats_are(0x1FFF, 256, 2, 3, 4, "02", URD_TYPE, 0, 0, 0, "9 before 10");
+    beats_are(0xFF1, 256, 2, URD_INCR, 4, "02", URD_COUNT, 0, 0, 0, "10 before 12");
+    beats_are(0x32, 3, 2, URD_WRAP, 4, "02", URD_ALIGN, 0, 0, 0, "11 before 2");
+    beats_are(0xFF2, 4, 2, URD_INCR, 4, "02", URD_FENCE, 0, 0, 0, "12 before 2");
+    beats_are(0xFF2, 4, 2, URD_INCR, 4, "02 00", URD_FENCE, 0, 0, 0, "12 before 3");
+    for (size_t i = 0; i < sizeof big / sizeof big[0]; i++) {
+        beats_are(0, 0, 0, 1, big[i], "01 01", URD_BUS, 0, 0, 0, "bus");
+        beats_are(0, 0, big[i], 1, 4, "01 01", URD_SIZE, 0, 0, 0, "size");
+        beats_are(0, 0, 0, big[i], 4, "01 01", URD_TYPE, 0, 0, 0, "kind");
+        beats_are(0, big[i], 0, 1, 4, "01 01", URD_COUNT, 0, 0, 0, "len");
+    }
+}
+
 /* ---- what no bench case shows ---- */
 
 /* A field's offset and its octets. */
@@ -323,7 +477,7 @@ static void layout(void)
     memset(&ones, 0xFF, sizeof ones);
     check((int64_t)ones.step == -1, "step is signed");
     check(sizeof(size_t) == 8 && sizeof(urd_burst_answer) == 24 && sizeof(urd_stream_answer) == 24 && sizeof(urd_part_answer) == 24 && sizeof(urd_report_answer) == 64, "sizes");
-    check(sizeof(urd_burst) == 5 * sizeof(uint64_t) && sizeof(urd_cut_answer) == 16, "sizes of a row's burst and of a cut's answer");
+    check(sizeof(urd_burst) == 5 * sizeof(uint64_t) && sizeof(urd_cut_answer) == 16 && sizeof(urd_write_answer) == 24, "sizes of a row's burst, of a cut's answer and of write beats'");
     IS(urd_burst_answer, refusal, 0, 4);
     IS(urd_burst_answer, lower, 4, 4);
     IS(urd_burst_answer, upper, 8, 4);
@@ -336,6 +490,10 @@ static void layout(void)
     IS(urd_burst, bus, 32, 8);
     IS(urd_cut_answer, refusal, 0, 4);
     IS(urd_cut_answer, count, 8, 8);
+    IS(urd_write_answer, refusal, 0, 4);
+    IS(urd_write_answer, rule, 4, 4);
+    IS(urd_write_answer, place, 8, 8);
+    IS(urd_write_answer, strobes, 16, 8);
     IS(urd_stream_answer, refusal, 0, 4);
     IS(urd_stream_answer, rule, 4, 4);
     IS(urd_stream_answer, place, 8, 8);
@@ -474,6 +632,10 @@ int main(void)
     run("T-02, cuts", cuts);
     run("T-02, the longest", cut_longest);
     run("T-02, others and refusals", cut_others);
+    run("T-05, write beats", write_lanes);
+    run("T-05, W1 to W5", write_rules);
+    run("T-05, every bus, the longest", write_lengths);
+    run("T-05, refusals", write_refusals);
     run("layout of the structs", layout);
     run("fill-in", fill_in);
     run("data octets", data_octets);

@@ -1,5 +1,5 @@
 /* A short tour in C: judge a capture, harvest it, repack it to another width, walk through a burst,
- * cut one for an older board, and make a report.
+ * cut one for an older board, judge the write beats of one, and make a report.
  * It prints bindings/example.out. `make lib` first, then: gcc -std=c99 -Iinclude bindings/c/example.c build/lib/liburdhvasolk.a -o build/example */
 #include "urdhvasolk.h"
 
@@ -58,6 +58,18 @@ static void axi3(void)
         printf("%" PRIu64 " beats from 0x%" PRIx64 "\n", row[j].len + 1, row[j].start);
 }
 
+/* The write beats of that WRAP burst, WLAST and then a strobe for each lane: beat 2 has a stray one, on lane 3. */
+static void writes(void)
+{
+    uint8_t beats[] = {0x00, 0xF0, 0x00, 0x0F, 0x00, 0xF8, 0x01, 0x0F};
+
+    urd_write_answer stray = urd_judge_writes(0x34, 3, 2, URD_WRAP, 8, beats, sizeof beats);
+    printf("write beat %" PRIu64 " breaks W%" PRIu32 "\n", stray.place, stray.rule);
+    beats[5] = 0xF0;
+    urd_write_answer clean = urd_judge_writes(0x34, 3, 2, URD_WRAP, 8, beats, sizeof beats);
+    printf("without the stray one clean, %" PRIu64 " strobes\n", clean.strobes);
+}
+
 /* All of it in one call: a setup sheet and a take give the report's lines and the result. */
 static void report(void)
 {
@@ -74,6 +86,7 @@ int main(void)
     stream();
     burst();
     axi3();
+    writes();
     report();
     return 0;
 }

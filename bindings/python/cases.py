@@ -204,6 +204,134 @@ def _():
     same(urd.axi3_cut(2**32, 0, 0, urd.INCR, 1), None, "no 32-bit start")
 
 
+def written(refusal=0, rule=0, place=0, strobes=0):
+    return urd.WriteAnswer(refusal, rule, place, strobes)
+
+
+def beats_are(b, text, expected, what):
+    same(urd.judge_writes(*b, octets(text)), expected, what)
+
+
+W_B1 = (0x1002, 2, 2, urd.INCR, 4)  # lanes 2-3, 0-3, 0-3
+W_B3 = (0x34, 3, 2, urd.WRAP, 8)  # lanes 4-7, 0-3, 4-7, 0-3
+ONE, TWO = (0x1000, 0, 2, urd.INCR, 4), (0x1000, 1, 2, urd.INCR, 4)  # one beat of four lanes, and two
+LONGEST = (0x1000, 255, 0, urd.INCR, 8)  # 256 beats of one byte, beat k on lane k mod 8
+
+
+def lanes_are(b, lanes, strobes):
+    """On a bus of 8 lanes or fewer, each strobe of each beat alone: clean on the lanes of the beat, W1 at that beat on any other."""
+    take = bytearray(2 * len(lanes))
+    take[-2] = 1
+    for k, inside in enumerate(lanes):
+        for lane in range(b[4]):
+            take[2 * k + 1] = 1 << lane
+            expected = written(strobes=1) if inside >> lane & 1 else written(rule=1, place=k)
+            same(urd.judge_writes(*b, take), expected, f"{b}, lane {lane} of beat {k}")
+        take[2 * k + 1] = 0
+    same(urd.judge_writes(*b, take), written(), f"{b}, no strobe at all")
+    take[1::2] = lanes
+    same(urd.judge_writes(*b, take), written(strobes=strobes), f"{b}, every lane of each beat")
+
+
+@case("T-05, write beats")
+def _():
+    lanes_are(W_B1, bytes([0x0C, 0x0F, 0x0F]), 10)
+    for n in range(1, 17):
+        lanes_are((0x1002, n - 1, 2, urd.FIXED, 4), bytes([0x0C] * n), 2 * n)
+    lanes_are(W_B3, bytes([0xF0, 0x0F, 0xF0, 0x0F]), 16)
+    beats_are(W_B1, "00 04 00 00 01 0A", written(strobes=3), "some lanes of each beat")
+    beats_are((0x34, 1, 2, urd.WRAP, 16), "00 F0 00 01 0F 00", written(strobes=8), "a WRAP within the bus: lanes 4-7, 0-3")
+    beats_are((0x34, 1, 2, urd.WRAP, 16), "00 F0 00 01 00 0F", written(rule=1, place=1), "and not those of an INCR, 4-7, 8-11")
+    beats_are((0xFFFFFFFB, 1, 2, urd.INCR, 8), "00 08 01 F0", written(strobes=5), "up to the last byte of memory")
+    take = octets("00 0C 00 0F 01 0F")
+    for kind in (bytes, bytearray, memoryview):
+        same(urd.judge_writes(*W_B1, kind(take)), written(strobes=10), f"a take as {kind.__name__}")
+    same(urd.judge_writes(*W_B1, memoryview(b"\xFF" + take)[1:]), written(strobes=10), "a part of another object")
+
+
+@case("T-05, W1 to W5")
+def _():
+    two_fixed = (0x1002, 1, 2, urd.FIXED, 4)
+    for b, text, rule, place, what in (
+        (W_B1, "00 0E 00 0F 01 0F", 1, 0, "W1 below the lower lane"),
+        (W_B3, "00 F0 00 1F 00 F0 01 0F", 1, 1, "W1 above the upper lane"),
+        (W_B3, "00 F0 00 0F 00 F8 01 0F", 1, 2, "W1 in beat 2"),
+        (W_B1, "00 0C 01 0F 01 0F", 2, 1, "W2"),
+        (W_B1, "00 0C 00 0F 00 0F", 3, 2, "W3"),
+        (TWO, "00 0F 01 0F 00 00", 4, 2, "W4"),
+        (TWO, "00 0F 01 0F 01 0F 01 0F", 4, 2, "W4 with WLAST and strobes, the first of two"),
+        ((0x1000, 1, 0, urd.INCR, 4), "00 01 01 02 01 0F", 4, 2, "W1 does not read a beat past the last"),
+        (W_B1, "00 0C 00 0F", 5, 2, "W5"),
+        (W_B1, "", 5, 0, "W5 of an empty take"),
+        (W_B1, "01 0F 00 0F 01 0F", 1, 0, "W1 before W2 in a beat"),
+        (W_B3, "00 F0 00 0F 00 F0 00 FF", 1, 3, "W1 before W3 in a beat"),
+        (W_B1, "01 0C 00 0F 01 0F", 2, 0, "W2 in beat 0"),
+        (two_fixed, "01 0C 01 0F", 2, 0, "an earlier W2 before a later W1"),
+        (TWO, "00 0F 00 0F 01 0F", 3, 1, "three beats for two, WLAST on the third: W3 at 1"),
+        (W_B1, "00 0C 01 0F", 2, 1, "too few, and one that is given breaks a rule"),
+        (ONE, "00 0F", 3, 0, "W3 of one beat"),
+        (ONE, "01 0F 00 0F", 4, 1, "W4 of one beat"),
+        (ONE, "", 5, 0, "W5 of one beat"),
+    ):
+        beats_are(b, text, written(rule=rule, place=place), what)
+    beats_are(ONE, "01 0A", written(strobes=2), "one beat")
+
+
+@case("T-05, every bus, the longest")
+def _():
+    for size in range(8):
+        bus = 2**size
+        take = bytes([1]) + (2**bus - 1).to_bytes((bus + 7) // 8, "little")
+        same(urd.judge_writes(0, 0, size, urd.INCR, bus, take), written(strobes=bus), f"all lanes of bus {bus}")
+        same(urd.judge_writes(0, 0, size, urd.INCR, bus, take[:-1]), written(urd.LENGTH), f"bus {bus}, an octet too few")
+    beats_are((8, 0, 3, urd.INCR, 16), "01 00 FF", written(strobes=8), "low octet first")
+    beats_are((8, 0, 3, urd.INCR, 16), "01 FF 00", written(rule=1), "and not high octet first")
+    beats_are((3, 0, 5, urd.INCR, 32), "01 F8 FF FF FF", written(strobes=29), "lanes 3 to 31")
+    take = bytearray(octets("00 01 00 02 00 04 00 08 00 10 00 20 00 40 00 80") * 32)
+    same(urd.judge_writes(*LONGEST, take[:-2]), written(rule=5, place=255), "255 beats for 256")
+    same(urd.judge_writes(*LONGEST, take), written(rule=3, place=255), "256 beats and no WLAST")
+    take[510] = 1
+    same(urd.judge_writes(*LONGEST, take), written(strobes=256), "256 beats")
+    same(urd.judge_writes(*LONGEST, take + bytes(2)), written(rule=4, place=256), "257 beats for 256")
+    same(urd.judge_writes(*LONGEST, take + bytes(65024)), written(rule=4, place=256), "65,536 octets")
+    same(urd.judge_writes(*LONGEST, take + bytes(65026)), written(urd.LENGTH), "one record more")
+    same(urd.judge_writes(0xFF2, 4, 2, urd.INCR, 4, bytes(65538)), written(urd.FENCE), "12 before 2 of a take that is too long")
+    same(urd.judge_writes(*LONGEST, take + bytes(65022) + b"\x80\0"), written(urd.FIELD, place=32767), "3 in the last record")
+
+
+@case("T-05, refusals")
+def _():
+    for bit in range(1, 8):
+        for last in range(2):
+            same(urd.judge_writes(*ONE, bytes([1 << bit | last, 15])), written(urd.FIELD), f"3 for bit {bit} beside WLAST")
+    for bus in (1, 2, 4):
+        for bit in range(bus, 8):
+            same(urd.judge_writes(0, 0, 0, urd.INCR, bus, bytes([1, 1 << bit])), written(urd.FIELD), f"3: strobe {bit}, bus {bus}")
+    beats_are(TWO, "01 0F 01 1F", written(urd.FIELD, place=1), "3 behind a broken rule")
+    beats_are(ONE, "01 0F 00 0F 04 00", written(urd.FIELD, place=2), "3 in a beat past the last")
+    beats_are(W_B1, "02 0C", written(urd.FIELD), "3 where there are too few")
+    beats_are(W_B1, "00 0C 02 0F 03 0F", written(urd.FIELD, place=1), "the first of two")
+    beats_are(ONE, "02", written(urd.LENGTH), "2 before 3")
+    for b, refusal in (
+        ((0x1FFF, 256, 8, 3, 3), urd.BUS),
+        ((0x1FFF, 256, 8, 3, 4), urd.SIZE),
+        ((0x1FFF, 256, 2, 3, 4), urd.TYPE),
+        ((0xFF1, 256, 2, urd.INCR, 4), urd.COUNT),
+        ((0x32, 3, 2, urd.WRAP, 4), urd.ALIGN),
+        ((0xFF2, 4, 2, urd.INCR, 4), urd.FENCE),
+    ):
+        beats_are(b, "02", written(refusal), f"{refusal} before 2")
+        beats_are(b, "02 00", written(refusal), f"{refusal} before 3")
+    for big in (-1, 2**32 - 1, 2**32 + 1, 2**64 + 1):
+        beats_are((0, 0, 0, 1, big), "01 01", written(urd.BUS), f"bus {big}")
+        beats_are((0, 0, big, 1, 4), "01 01", written(urd.SIZE), f"size {big}")
+        beats_are((0, 0, 0, big, 4), "01 01", written(urd.TYPE), f"kind {big}")
+        beats_are((0, big, 0, 1, 4), "01 01", written(urd.COUNT), f"len {big}")
+    for start in (2**32, -1):
+        beats_are((start, 0, 0, 1, 1), "01 01", None, f"start {start} is no 32-bit number")
+    beats_are((2**32 - 1, 0, 0, 1, 1), "01 01", written(strobes=1), "the last byte of memory")
+
+
 @case("findings and UNCLEAN")
 def _():
     cycle = " 00 00 01 00 01 00 55"

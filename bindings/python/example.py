@@ -35,6 +35,15 @@ def axi3():
         print(f"{b.len_ + 1} beats from {b.start:#x}")
 
 
+def writes():
+    """The write beats of that WRAP burst, WLAST and then a strobe for each lane: beat 2 has a stray one, on lane 3."""
+    wrap, beats = (0x34, 3, 2, urd.WRAP, 8), bytearray.fromhex("00 F0 00 0F 00 F8 01 0F")
+    stray = urd.judge_writes(*wrap, beats)
+    print(f"write beat {stray.place} breaks W{stray.rule}")
+    beats[5] = 0xF0
+    print(f"without the stray one clean, {urd.judge_writes(*wrap, beats).strobes} strobes")
+
+
 def report():
     """All of it in one call: a setup sheet and a take give the report's lines and the result."""
     print(urd.report(b"width_in=4\nwidth_out=2\nmode=pack\ntlast=wired\n", CAPTURE).text, end="")
@@ -43,4 +52,5 @@ def report():
 stream()
 burst()
 axi3()
+writes()
 report()

@@ -20,6 +20,7 @@ CLEAN, BROKEN, REFUSED = range(3)
 BurstAnswer = namedtuple("BurstAnswer", "refusal lower upper step address")
 Burst = namedtuple("Burst", "start len_ size kind bus")
 CutAnswer = namedtuple("CutAnswer", "refusal bursts")
+WriteAnswer = namedtuple("WriteAnswer", "refusal rule place strobes")
 StreamAnswer = namedtuple("StreamAnswer", "refusal rule place count")
 PartAnswer = namedtuple("PartAnswer", "refusal start length")
 ReportAnswer = namedtuple("ReportAnswer", "verdict refusal rule place transfers packets records text result")
@@ -33,6 +34,10 @@ class _Burst(ctypes.Structure):
 
 class _Cut(ctypes.Structure):
     _fields_ = [("refusal", _u32), ("count", _u64)]
+
+
+class _Write(ctypes.Structure):
+    _fields_ = [("refusal", _u32), ("rule", _u32), ("place", _u64), ("strobes", _u64)]
 
 
 class _Stream(ctypes.Structure):
@@ -66,6 +71,7 @@ _burst_judge = _call("urd_burst_judge", _Burst, *_burst)
 _burst_beat = _call("urd_burst_beat", _Burst, *_burst, _u32)
 _burst_step = _call("urd_burst_step", _Burst, *_burst, _u32)
 _axi3_cut = _call("urd_axi3_cut", _Cut, *_burst, ctypes.POINTER(_u64), _size)
+_judge_writes = _call("urd_judge_writes", _Write, *_burst, *_input)
 _judge = _call("urd_judge", _Stream, _size, *_input)
 _harvest = _call("urd_harvest", _Stream, _size, *_input, *_lent)
 _fill_in = _call("urd_fill_in", _Stream, _size, *_lent, _u32)
@@ -127,6 +133,17 @@ def axi3_cut(start, len_, size, kind, bus, room=16):
     row = (_u64 * (numbers * min(max(room, 0), 16)))()
     a = _axi3_cut(start, *(_held(n, _u32) for n in (len_, size, kind, bus)), row, len(row))
     return CutAnswer(a.refusal, [Burst(*row[numbers * j : numbers * (j + 1)]) for j in range(a.count)])
+
+
+def judge_writes(start, len_, size, kind, bus, beats):
+    """The write beats of a burst: octet 0 of each WLAST, then WSTRB, low octet first. Clean: rule 0 and the number of high
+    strobes. Broken: the lowest rule at beat `place`, the first one: 1 a strobe high outside the lanes of the beat, 2 WLAST before
+    the last beat, 3 the last beat without WLAST, 4 a beat past the last; 5 too few beats, `place` being how many were given.
+    Refusals 7 to 12, then 2, 3."""
+    if not 0 <= start < 2**32:
+        return None
+    beats = _read(beats)
+    return _plain(WriteAnswer, _judge_writes(start, *(_held(n, _u32) for n in (len_, size, kind, bus)), beats, len(beats)))
 
 
 def judge(width, capture):

@@ -20,9 +20,9 @@
 
 enum { DATA, POSITIONS, MIXED, ENDS, KINDS }; /* what is in its lanes */
 
-static uint8_t take[MOST], transfers[MOST], text[128], sheet[64];
+static uint8_t take[MOST], transfers[MOST], beats[MOST], text[128], sheet[64];
 static union { uint8_t octets[16 * MOST]; uint64_t numbers[2 * MOST]; } lent;
-static size_t w, v, length, sheet_length; /* widths in and out, octets of take and transfers */
+static size_t w, v, length, sheet_length, beats_length; /* widths in and out, octets of take and transfers, of sheet, of beats */
 
 static void put_record(uint8_t *r, size_t i, int kind)
 {
@@ -55,6 +55,25 @@ static void write_sheet(int lanes, const char *tlast)
     sheet_length = (size_t)snprintf((char *)sheet, sizeof sheet, "width_in=%zu\nwidth_out=%zu\nmode=%s\ntlast=%s\n", w, v, lanes ? "lanes" : "pack", tlast);
 }
 
+/* Write beats of one byte each, of each kind of burst, on a bus of 1 to 128 bytes: clean ones of DATA, else as many as a take can have.
+ * With `bad` a bit that must be zero is set in the very last one. */
+static uint32_t burst_kind(void) { return (uint32_t)v % 3; }
+static uint32_t burst_len(void) { return burst_kind() == URD_INCR ? 255 : 15; }
+static uint32_t burst_bus(void) { return 1u << (w - 1) / 2; }
+
+static void fill_beats(int kind, int bad)
+{
+    size_t each = 1 + (burst_bus() + 7) / 8, last = kind == DATA ? burst_len() : MOST / each - 1;
+    memset(beats, 0, sizeof beats);
+    for (size_t k = 0; k <= burst_len(); k++) {
+        size_t lane = burst_kind() == URD_FIXED ? 0 : k % burst_bus();
+        beats[k * each + 1 + lane / 8] = (uint8_t)(1 << lane % 8);
+    }
+    beats[burst_len() * each] = 1; /* WLAST */
+    beats[last * each] |= bad ? 2 : 0;
+    beats_length = (last + 1) * each;
+}
+
 /* ---- the calls; each answers its refusal ---- */
 
 static uint32_t judge(void) { return urd_judge(w, take, length).refusal; }
@@ -68,12 +87,14 @@ static uint32_t burst_judge(void) { return urd_burst_judge(64, 15, 2, (uint32_t)
 static uint32_t burst_beat(void) { return urd_burst_beat(64, 15, 2, (uint32_t)v % 3, 4, (uint32_t)w - 1).refusal; }
 static uint32_t burst_step(void) { return urd_burst_step(64, 15, 2, (uint32_t)v % 3, 4, (uint32_t)w - 1).refusal; }
 static uint32_t axi3_cut(void) { return urd_axi3_cut(64, 16 * (uint32_t)w - 1, 0, URD_INCR, 4, lent.numbers, 5 * v).refusal; }
+static uint32_t judge_writes(void) { return urd_judge_writes(0, burst_len(), 0, burst_kind(), burst_bus(), beats, beats_length).refusal; }
 
 /* limit: which argument of the program is the call's. */
 static const struct { const char *name; uint32_t (*call)(void); int limit; } calls[] = {
     {"urd_report", report, 1}, {"urd_repack", repack, 2}, {"urd_downsize", downsize, 3}, {"urd_judge", judge, 3},
     {"urd_harvest", harvest, 3}, {"urd_fill_in", fill_in, 3}, {"urd_data_octets", data_octets, 3},
     {"urd_burst_judge", burst_judge, 3}, {"urd_burst_beat", burst_beat, 3}, {"urd_burst_step", burst_step, 3}, {"urd_axi3_cut", axi3_cut, 3},
+    {"urd_judge_writes", judge_writes, 3},
 };
 
 /* ---- measuring ---- */
@@ -116,6 +137,7 @@ static void measure_widths(int kind, int bad)
         for (int sheets = 0; sheets < (asked == report ? 6 : 1); sheets++) {
             v = widths[i];
             fill(kind, bad);
+            fill_beats(kind, bad);
             write_sheet(sheets % 2, words[sheets / 2]);
             measure();
         }
