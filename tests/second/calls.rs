@@ -1,8 +1,8 @@
 //! How often each function of the library was called.
 use std::sync::atomic::{AtomicU64, Ordering::Relaxed};
 
-pub const NAMES: [&str; 11] = [
-    "urd_burst_judge", "urd_burst_beat", "urd_burst_step", "urd_axi3_cut",
+pub const NAMES: [&str; 12] = [
+    "urd_burst_judge", "urd_burst_beat", "urd_burst_step", "urd_axi3_cut", "urd_judge_writes",
     "urd_judge", "urd_harvest", "urd_fill_in", "urd_data_octets", "urd_repack", "urd_downsize",
     "urd_report",
 ];

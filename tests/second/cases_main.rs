@@ -1,12 +1,15 @@
 //! The self test: the model against the papers' own cases and formulas.
 #![allow(dead_code)]
 mod cases;
+mod cases_writes;
 mod least;
 mod masks;
 mod model;
 mod model_axi3;
+mod model_writes;
 mod tally;
 use model::{Beat, Burst, FIXED, INCR, WRAP};
+use model_writes::WriteAnswer;
 use tally::{Random, Tally};
 
 const AXI3_BEATS: u32 = 16; // at most, as T-02 says
@@ -83,6 +86,50 @@ fn cut_bursts(t: &mut Tally, r: &mut Random) {
     });
 }
 
+/// Paper 01's lanes of beat k as bits.
+fn lane_bits(b: Burst, k: usize) -> u128 {
+    let (_, lower, upper) = formula(b, k as u64);
+    u128::MAX >> (127 - upper) & u128::MAX << lower
+}
+
+/// T-05 in other words, for WLAST and strobes that are not FIELD: of all findings of all beats the least, else the strobes.
+fn least_finding(b: Burst, beats: &[(bool, u128)]) -> WriteAnswer {
+    let n = b.len as usize + 1;
+    let mut findings = vec![(n, 4); usize::from(beats.len() > n)];
+    findings.extend(vec![(beats.len(), 5); usize::from(beats.len() < n)]);
+    for (k, &(last, strobes)) in beats.iter().enumerate().take(n) {
+        if strobes & !lane_bits(b, k) != 0 { findings.push((k, 1)); }
+        if last != (k == n - 1) { findings.push((k, if last { 2 } else { 3 })); }
+    }
+    match findings.iter().min() {
+        Some(&(k, rule)) => WriteAnswer { rule, place: k as u64, ..Default::default() },
+        None => WriteAnswer { strobes: beats.iter().map(|(_, strobes)| u64::from(strobes.count_ones())).sum(), ..Default::default() },
+    }
+}
+
+/// Beats of an accepted burst, up to two too few or too many, now and then with a wrong WLAST or a stray strobe.
+fn some_beats(r: &mut Random, b: Burst) -> Vec<(bool, u128)> {
+    let (n, often) = (b.len as usize + 1, 1 + r.below(40));
+    let given = if r.one_in(2) { n } else { (n + r.below(5)).saturating_sub(2) };
+    (0..given).map(|k| {
+        let any = (u128::from(r.next()) << 64 | u128::from(r.next())) & u128::MAX >> (128 - b.bus);
+        let strobes = if r.one_in(often) { any } else { any & lane_bits(b, k.min(n - 1)) };
+        (r.one_in(often) != (k == n - 1), strobes)
+    }).collect()
+}
+
+fn write_beats(t: &mut Tally, r: &mut Random) {
+    t.group("T-05 by its least finding", |t| for _ in 0..20_000 {
+        let (size, kind) = (r.below(8) as u32, r.below(3) as u32);
+        let b = Burst { start: r.next() as u32, len: r.pick(&[0, 1, 2, 3, 7, 15, 16, 99]), size, kind, bus: 128 >> r.below(8 - size as usize) };
+        if model::judge_burst(b).refusal != 0 { continue; }
+        let beats = some_beats(r, b);
+        let octets = b.bus.div_ceil(8) as usize;
+        let take: Vec<u8> = beats.iter().flat_map(|&(last, strobes)| [&[u8::from(last)], &strobes.to_le_bytes()[..octets]].concat()).collect();
+        t.same(model_writes::judge(b, &take), least_finding(b, &beats), || format!("writes of {b:?}, {take:02x?}"));
+    });
+}
+
 fn main() {
     let mut t = Tally::default();
     t.least = least::SELF_TEST;
@@ -94,6 +141,7 @@ fn main() {
         step: |b, k| model::step(&model::judge_burst(b), k),
     });
     cases::cuts(&mut t, model_axi3::cut);
+    cases_writes::writes(&mut t, |b, take| model_writes::judge(b, take));
     cases::streams(&mut t, &cases::StreamCalls {
         judge: model::judge,
         harvest: model::harvest,
@@ -132,6 +180,7 @@ fn main() {
     });
     cut_bursts(&mut t, &mut r);
     masks_of_bursts(&mut t, &mut r);
+    write_beats(&mut t, &mut r);
     t.every_group_ran();
     t.finish()
 }

@@ -163,7 +163,7 @@ fn rows(t: &mut Tally, r: &mut Random) {
 }
 
 /// Each of 7 to 12: alone, then with as many later ones as can be broken with it.
-const REFUSED: [(u32, [u32; 5]); 18] = [
+pub const REFUSED: [(u32, [u32; 5]); 18] = [
     (7, [0x1000, 16, 0, INCR, 3]), (7, [0x1000, 16, 0, INCR, 256]), (7, [0x1FFF, 256, 8, 3, 0]),
     (8, [0x1000, 16, 3, INCR, 4]), (8, [0x1000, 16, 8, INCR, 128]), (8, [0x1FFF, 256, 2, 3, 2]),
     (9, [0x1000, 16, 2, 3, 4]), (9, [0x1000, 16, 2, u32::MAX, 4]), (9, [0x1FFF, 256, 2, 3, 4]),

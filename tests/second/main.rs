@@ -5,21 +5,26 @@
 #![allow(dead_code)]
 mod calls;
 mod cases;
+mod cases_writes;
 mod compare_axi3;
 mod compare_bursts;
 mod compare_report;
 mod compare_streams;
+mod compare_writes;
 mod least;
 mod library_axi3;
 mod library_burst;
 mod library_report;
 mod library_stream;
+mod library_writes;
 mod masks;
 mod model;
 mod model_axi3;
+mod model_writes;
 #[path = "../report/model.rs"]
 mod report_model;
 mod tally;
+mod write_takes;
 use model as stream; // the report's model has it by this name
 use std::time::{Duration, Instant, SystemTime};
 use tally::{Random, Tally};
@@ -32,12 +37,14 @@ fn gate(seed: u64, only: Option<String>) -> ! {
     (t.seed, t.only, t.least) = (Some(seed), only, least::COMPARE);
     compare_bursts::all(&mut t);
     compare_axi3::all(&mut t);
+    compare_writes::all(&mut t);
     compare_streams::all(&mut t);
     compare_report::all(&mut t);
     calls::show();
     t.seed = None; // the last two groups are about the run as a whole
-    let verdicts = [&compare_bursts::VERDICTS[..], &compare_axi3::VERDICTS, &compare_streams::VERDICTS, &compare_report::VERDICTS];
-    t.show_verdicts(&verdicts.concat());
+    let bursts = [&compare_bursts::VERDICTS[..], &compare_axi3::VERDICTS, &compare_writes::VERDICTS];
+    let streams = [&compare_streams::VERDICTS[..], &compare_report::VERDICTS];
+    t.show_verdicts(&[bursts.concat(), streams.concat()].concat());
     t.every_group_ran();
     println!("{} calls in all", calls::all());
     t.finish()
@@ -60,6 +67,7 @@ fn soak(seconds: u64, first: u64) -> ! {
         let mut r = Random::of_seed(seed);
         compare_bursts::round(&mut t, &mut r);
         compare_axi3::round(&mut t, &mut r);
+        compare_writes::round(&mut t, &mut r);
         compare_streams::round(&mut t, &mut r);
         compare_report::round(&mut t, &mut r);
         if began.elapsed() >= Duration::from_secs(seconds) { break; }

@@ -5,7 +5,7 @@ use crate::model::{Burst, FIXED, INCR, WRAP};
 const BLOCK: u32 = 4096;
 
 /// Each size, with each bus that takes it.
-fn sizes_and_buses() -> impl Iterator<Item = (u32, u32)> { (0..8).flat_map(|size| (size..8).map(move |n| (size, 1 << n))) }
+pub fn sizes_and_buses() -> impl Iterator<Item = (u32, u32)> { (0..8).flat_map(|size| (size..8).map(move |n| (size, 1 << n))) }
 
 fn distinct(mut starts: Vec<u32>) -> Vec<u32> {
     starts.sort();
