@@ -6,6 +6,7 @@ use mathlib.Core.List.{List}
 use Prim.Native.Nat.{ℕ}
 use Rattle.axi3_spec.specs.Answers as axi3
 use Rattle.burst_spec.specs.Answers as burst
+use Rattle.write_data_spec.specs.Answers as writes
 use Rattle.stream_spec.specs.declared.Shape.{Shape}
 use Rattle.stream_spec.specs.Answers.{Values}
 use Rattle.report_spec.specs.declared.Verdict.{Verdict}
@@ -16,7 +17,8 @@ use Rattle.capi.specs.declared.burst_calls.BurstAnswer.{BurstAnswer}
 use Rattle.capi.specs.declared.stream_calls.PartAnswer.{PartAnswer}
 use Rattle.capi.specs.declared.stream_calls.StreamAnswer.{StreamAnswer}
 use Rattle.capi.specs.declared.report_calls.ReportAnswer.{ReportAnswer}
-use Rattle.capi.specs.Shows.{ShowsBurst, ShowsCut, ShowsStream, ShowsPart}
+use Rattle.capi.specs.declared.write_calls.WriteAnswer.{WriteAnswer}
+use Rattle.capi.specs.Shows.{ShowsBurst, ShowsCut, ShowsWrite, ShowsStream, ShowsPart}
 use Rattle.capi.specs.Reports.{ShowsVerdict, ShowsWhole}
 
 pub burst-once : {a b : BurstAnswer} {values : burst.Values} → ShowsBurst a values → ShowsBurst b values → a ≡ b
@@ -30,6 +32,14 @@ burst-once p q = λ i. record {
 
 pub cut-once : {a b : CutAnswer} {values : axi3.Values} → ShowsCut a values → ShowsCut b values → a ≡ b
 cut-once p q = λ i. record { refusal = both (p .refusal) (q .refusal) i; count = both (p .count) (q .count) i }
+
+pub write-once : {a b : WriteAnswer} {values : writes.Values} → ShowsWrite a values → ShowsWrite b values → a ≡ b
+write-once p q = λ i. record {
+  refusal = both (p .refusal) (q .refusal) i;
+  rule = both (p .rule) (q .rule) i;
+  place = both (p .place) (q .place) i;
+  strobes = both (p .strobes) (q .strobes) i;
+}
 
 pub stream-once : {a b : StreamAnswer} {values : Values} → ShowsStream a values → ShowsStream b values → a ≡ b
 stream-once p q = λ i. record {

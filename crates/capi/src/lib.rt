@@ -4,6 +4,7 @@ mod axi3_calls;
 mod burst_calls;
 mod report_calls;
 mod stream_calls;
+mod write_calls;
 
 pub use axi3_calls::urd_axi3_cut;
 pub use burst_calls::urd_burst_beat;
@@ -16,3 +17,4 @@ pub use stream_calls::urd_fill_in;
 pub use stream_calls::urd_harvest;
 pub use stream_calls::urd_judge;
 pub use stream_calls::urd_repack;
+pub use write_calls::urd_judge_writes;

@@ -67,14 +67,17 @@ pub record Values : Type 0 where
 abbrev pub values : ℕ → ℕ → ℕ → ℕ → Values
 values refusal place rule strobes = record { refusal = refusal; place = place; rule = rule; strobes = strobes }
 
+abbrev pub refusalValues : Refusal → Values
+refusalValues r = values (codeOf r .0) (codeOf r .1) (codeOf r .2) 0
+
 abbrev pub writeValues : WriteVerdict → Values
 writeValues (Clean n) = values 0 0 0 n
 writeValues (Broken place rule) = values 0 place rule 0
-writeValues (Refused r) = values (codeOf r .0) (codeOf r .1) (codeOf r .2) 0
+writeValues (Refused r) = refusalValues r
 
 -- the same of the first refusal and the first finding
 abbrev pub valuesFor : Option Refusal → Option Finding → ℕ → Values
-valuesFor (some r) f n = values (codeOf r .0) (codeOf r .1) (codeOf r .2) 0
+valuesFor (some r) f n = refusalValues r
 valuesFor none (some f) n = values 0 (f .place) (f .rule) 0
 valuesFor none none n = values 0 0 0 n
 

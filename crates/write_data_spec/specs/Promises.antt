@@ -3,7 +3,7 @@
 use mathlib.Core.Bool.{Bool, true, false}
 use mathlib.Core.List.{List, []}
 use mathlib.Core.Logic.{_⊎_, _↔_, _≢_}
-use mathlib.Core.Option.{Option, none, some}
+use mathlib.Core.Option.{none, some}
 use mathlib.Core.Path.{_≡_}
 use Prim.Native.Nat.{ℕ, zero, suc, _+_, _*_, _/_, _%_, _≤_, _<_}
 use lib.Dec.{eqb}
@@ -15,7 +15,7 @@ use Rattle.burst_spec.specs.declared.Judgement.the-variants as judged
 use Rattle.burst_spec.specs.Address.{beats, beatOf}
 use Rattle.burst_spec.specs.Answers.{judgement}
 use Rattle.write_data_spec.specs.declared.WriteVerdict.the-variants.{Clean, Broken, Refused}
-use Rattle.write_data_spec.specs.Layout.{writeBeats, flags, wlast, strobe, highStrobes, allStrobes}
+use Rattle.write_data_spec.specs.Layout.{writeBeats, flags, wlast, strobe, allStrobes}
 use Rattle.write_data_spec.specs.Rules.{w1, w2, w3, w4, Finding, firstFinding}
 use Rattle.write_data_spec.specs.Answers.{fieldFault, writeRefusal, writeAnswer}
 
