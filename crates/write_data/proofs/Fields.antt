@@ -16,7 +16,7 @@ use Rattle.burst_spec.proofs.Known.{Each, among-each}
 use Rattle.write_data_spec.specs.Layout.{lanesEach, strobesAt, strobeOctets, beatSize, flags, strobe}
 use Rattle.write_data_spec.specs.Answers.{strobeFault, fieldFault}
 use Rattle.write_data.proofs.Octets.{high-none, high-some}
-use Rattle.write_data.proofs.Sums.{some-at}
+use Rattle.write_data_spec.proofs.Sums.{some-at}
 
 -- ---- the bus
 

@@ -12,7 +12,7 @@ use Rattle.burst_spec.proofs.Below.{none-below, found-below}
 use Rattle.write_data_spec.specs.Layout.{lanesEach, strobeOctets, strobe, countBelow, highStrobes}
 use Rattle.write_data.specs.Scan.{BeatRecord, octetStray, strayBelow, octetHigh}
 use Rattle.write_data.proofs.Fields.{size-is, strobe-at, sound-above}
-use Rattle.write_data.proofs.Sums.{some-at, some-add, some-same, count-add, count-same, count-none, count-most}
+use Rattle.write_data_spec.proofs.Sums.{some-at, some-add, some-same, count-add, count-same, count-none, count-most}
 
 -- whether a lane lies outside these lanes, and whether its strobe is high and it does
 abbrev outside : ℕ → ℕ → ℕ → Bool

@@ -1,5 +1,4 @@
 -- The laws that the proofs of the functions rest on. Read in this order.
-pub mod Sums
 pub mod Octets
 pub mod Fields
 pub mod Lanes

@@ -19,7 +19,7 @@ use Rattle.burst_spec.specs.Checks.{between, someBelow}
 use Rattle.burst_spec.proofs.Below.{none-below}
 use Rattle.write_data_spec.specs.Layout.{countBelow}
 use Rattle.write_data.specs.Scan.{octetStray, octetHigh}
-use Rattle.write_data.proofs.Sums.{some-at}
+use Rattle.write_data_spec.proofs.Sums.{some-at}
 
 -- ---- bits below and above a place
 

@@ -1,19 +1,16 @@
 -- The refusals of a take as the code finds them, and its answer. Assumes nothing.
-use mathlib.Core.Bool.{Bool, true, false, not, cond}
+use mathlib.Core.Bool.{Bool, true, false, cond}
 use mathlib.Core.List.{List, [], _∷_, _++_}
 use mathlib.Core.Option.{Option, none, some}
 use mathlib.Core.Path.{_≡_, refl, sym, ap, ap₂, _∙_}
-use Prim.Native.Nat.{ℕ, _+_, _%_}
+use Prim.Native.Nat.{ℕ, _+_}
 use native.Mathlib.Nat.{zero-add}
-use borrow.Author.Tests.{ltb-false, eqb-true, not-false}
-use lib.Dec.{ltb, eqb}
 use lib.ListN.{length}
 use Rattle.refusal.specs.declared.Refusal.{Refusal}
 use Rattle.refusal.specs.declared.Refusal.the-variants.{Length}
 use Rattle.refusal.specs.Checks.{first}
 use Rattle.refusal.proofs.First.{cond-none, append-none}
-use Rattle.stream_spec.specs.Checks.{captureMost, each}
-use Rattle.stream_spec.proofs.Bools.{neither}
+use Rattle.stream_spec.specs.Checks.{each}
 use Rattle.burst_spec.specs.declared.Burst.{Burst}
 use Rattle.burst_spec.specs.declared.Judgement.{Judgement}
 use Rattle.burst_spec.specs.declared.Judgement.the-variants as judged
@@ -27,17 +24,13 @@ use Rattle.write_data_spec.specs.Rules.{Finding, ruleChecks, countCheck, firstF
 use Rattle.write_data_spec.specs.Answers.{lengthFault, takeChecks, writeRefusal, verdict, writeAnswer, WritesJudged}
 use Rattle.write_data_spec.specs.Promises.{IsAccepted}
 use Rattle.write_data_spec.proofs.Answers.{judged-is, refused-answer, refusal-judged, refusal-accepted}
+use Rattle.write_data_spec.proofs.Refusals.{length-good}
 use Rattle.write_data.specs.Scan.{Whole, faultFrom, Judgeable, verdictFrom}
 
 -- a bus and a length that passed their tests
 pub whole-of : (bus : ℕ) (xs : List ℕ) → busAllowed bus ≡ true → lengthFault bus xs ≡ false → Whole bus xs
-whole-of bus xs a e =
-    let h = neither (ltb captureMost (length xs)) (not (eqb (length xs % beatSize bus) 0)) e in
-    record {
-      allowed = a;
-      short = ltb-false captureMost (length xs) (h .0);
-      whole = eqb-true (length xs % beatSize bus) 0 (not-false (eqb (length xs % beatSize bus) 0) (h .1));
-    }
+unfolding beatSize
+whole-of bus xs a e = let h = length-good bus xs e in record { allowed = a; short = h .0; whole = h .1 }
 
 module _ (b : Burst) (xs : List ℕ) where
   -- ---- the refusal

@@ -19,7 +19,7 @@ use Rattle.stream_spec.proofs.RecordChecks.{FoundIn, each-all, each-at}
 use Rattle.burst_spec.specs.declared.Burst.{Burst}
 use Rattle.burst_spec.specs.Address.{beats}
 use Rattle.write_data_spec.specs.Rules.{Finding, finding, ruleChecks, countCheck, w5, firstFinding}
-use Rattle.write_data_spec.specs.Promises.{beat, rule, Breaks, IsEarliest, Earliest, Sound}
+use Rattle.write_data_spec.specs.Promises.{beat, rule, Breaks, IsEarliest, Sound}
 
 same-finding : (f g : Finding) → f .place ≡ g .place → f .rule ≡ g .rule → f ≡ g
 same-finding f g p q = λ i. record { place = p i; rule = q i }
@@ -183,7 +183,7 @@ module _ (b : Burst) (rs : List (List ℕ)) where
       go h none a = refl
       go h (some f) a = absurd (h (f .place) (f .rule) (a .broken))
 
-pub earliest-exactly : Earliest
+pub earliest-exactly : (b : Burst) (rs : List (List ℕ)) (f : Finding) → (firstFinding b rs ≡ some f) ↔ IsEarliest b rs f
 earliest-exactly b rs f = (λ e. subst (InTake b rs) e (in-take b rs), λ h. go h (firstFinding b rs) (in-take b rs))
   where
     go : IsEarliest b rs f → (o : Option Finding) → InTake b rs o → o ≡ some f

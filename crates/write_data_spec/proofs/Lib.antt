@@ -1,4 +1,5 @@
 -- The laws of write beats. Read in this order.
+pub mod Sums
 pub mod Strobes
 pub mod Findings
 pub mod Answers

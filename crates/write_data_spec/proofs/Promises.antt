@@ -9,23 +9,29 @@ use Rattle.write_data_spec.specs.declared.WriteVerdict.the-variants.{Bro
 use Rattle.write_data_spec.specs.Layout.{writeBeats}
 use Rattle.write_data_spec.specs.Rules.{finding, firstFinding}
 use Rattle.write_data_spec.specs.Answers.{writeRefusal, writeAnswer}
-use Rattle.write_data_spec.specs.Promises.{Earliest, StrayExactly, CleanExactly, TooManyExactly, TooFewExactly}
-use Rattle.write_data_spec.specs.Promises.{RefusedAsJudged, LengthExactly, FieldExactly, FieldBits}
-use Rattle.write_data_spec.proofs.Strobes.{stray-exactly, bits-exactly}
+use Rattle.write_data_spec.specs.Promises.{StrobeBits, StrayExactly, BrokenExactly, CleanExactly, TooManyExactly, TooFewExactly}
+use Rattle.write_data_spec.specs.Promises.{NothingRefused, RefusedAsJudged, LengthExactly, FieldExactly, FieldBits}
+use Rattle.write_data_spec.proofs.Strobes.{strobe-bits, stray-exactly, bits-exactly}
 use Rattle.write_data_spec.proofs.Findings.{earliest-exactly}
 use Rattle.write_data_spec.proofs.Answers.{clean-answer, broken-answer, refused-answer, refusal-judged}
-use Rattle.write_data_spec.proofs.Refusals.{length-exactly, field-exactly}
+use Rattle.write_data_spec.proofs.Refusals.{nothing-refused, length-exactly, field-exactly}
 use Rattle.write_data_spec.proofs.Takes.{clean-exactly, too-many-exactly, too-few-exactly}
 
--- ---- findings
+-- ---- octets and findings
 
-pub earliest : Earliest
-earliest = earliest-exactly
+pub strobeBits : StrobeBits
+strobeBits = strobe-bits
 
 pub strayExactly : StrayExactly
 strayExactly = stray-exactly
 
 -- ---- the answers
+
+pub brokenExactly : BrokenExactly
+brokenExactly b xs p n =
+    let first = earliest-exactly b (writeBeats (b .bus) xs) (finding p n) in
+    let answer = broken-answer b xs p n in
+    (λ e. let h = answer .0 e in (h .0, first .0 (h .1)), λ h. answer .1 (h .0, first .1 (h .1)))
 
 pub cleanExactly : CleanExactly
 cleanExactly b xs n =
@@ -50,6 +56,9 @@ pub tooFewExactly : TooFewExactly
 tooFewExactly b xs p = as-broken b xs p 5 (too-few-exactly b (writeBeats (b .bus) xs) p)
 
 -- ---- the refusals
+
+pub nothingRefused : NothingRefused
+nothingRefused = nothing-refused
 
 pub refusedAsJudged : RefusedAsJudged
 refusedAsJudged b xs r e = refused-answer b xs r .1 (refusal-judged b xs r e)

@@ -14,10 +14,10 @@ use Rattle.refusal.specs.Checks.{Check, first}
 use Rattle.refusal.specs.Code.{codeOf}
 use Rattle.refusal.specs.declared.Refusal.{Refusal}
 use Rattle.refusal.specs.declared.Refusal.the-variants.{Length, Field}
-use Rattle.refusal.proofs.First.{cond-none}
+use Rattle.refusal.proofs.First.{cond-none, append-none}
 use Rattle.stream_spec.specs.Checks.{captureMost, each}
 use Rattle.stream_spec.proofs.Bools.{neither, or-split}
-use Rattle.stream_spec.proofs.RecordChecks.{FoundIn, each-at, at-each}
+use Rattle.stream_spec.proofs.RecordChecks.{FoundIn, each-all, all-each, each-at, at-each}
 use Rattle.burst_spec.specs.declared.Burst.{Burst}
 use Rattle.burst_spec.specs.Answers.{judgementFor}
 use Rattle.burst_spec.specs.Checks.{checks}
@@ -25,7 +25,7 @@ use Rattle.burst_spec.proofs.Known.{clash}
 use Rattle.write_data_spec.specs.declared.WriteVerdict.the-variants.{Refused}
 use Rattle.write_data_spec.specs.Layout.{beatSize, writeBeats}
 use Rattle.write_data_spec.specs.Answers.{lengthFault, fieldFault, fieldChecks, takeChecks, writeRefusal, writeAnswer}
-use Rattle.write_data_spec.specs.Promises.{IsAccepted, octetsEach, beat, LengthExactly, FirstBad, FieldExactly}
+use Rattle.write_data_spec.specs.Promises.{IsAccepted, octetsEach, beat, WellFormed, NothingRefused, LengthExactly, FirstBad, FieldExactly}
 use Rattle.write_data_spec.proofs.Answers.{refused-answer, refusal-judged, refusal-accepted}
 
 -- ---- a refusal below 7 is not the burst's own
@@ -77,7 +77,7 @@ module _ (bus : ℕ) (xs : List ℕ) where
   bad-length (inl h) = rw (lt-ltb captureMost (length xs) h) refl
   bad-length (inr h) = rw (ne-eqb (length xs % octetsEach bus) 0 h) (or-true (ltb captureMost (length xs)))
 
-  length-good : lengthFault bus xs ≡ false → (length xs ≤ 65536) × (length xs % octetsEach bus ≡ 0)
+  pub length-good : lengthFault bus xs ≡ false → (length xs ≤ 65536) × (length xs % octetsEach bus ≡ 0)
   unfolding beatSize
   length-good e =
       let h = neither (ltb captureMost (length xs)) (not (eqb (length xs % beatSize bus) 0)) e in (
@@ -157,6 +157,26 @@ module _ (b : Burst) (xs : List ℕ) where
         here = rw (f .bad) (ap (λ (j : ℕ). some (Field j)) (zero-add k));
         earlier = λ j l. rw (f .earlier j l) refl;
       })))
+
+  refused-none : writeRefusal b xs ≡ none → WellFormed b xs
+  refused-none e =
+      let h = append-none (checks b) (takeChecks (b .bus) xs) e in
+      let l = cond-none (lengthFault (b .bus) xs) Length (first (each (fieldChecks (b .bus)) 0 taken)) (h .1) in
+      let long = length-good (b .bus) xs (l .0) in
+      record {
+        accepted = ap judgementFor (h .0);
+        short = long .0;
+        whole = long .1;
+        sound = λ k m. cond-none (fieldFault (b .bus) (beat taken k)) (Field (0 + k)) none (each-all (fieldChecks (b .bus)) 0 taken (l .1) k m) .0;
+      }
+
+  none-refused : WellFormed b xs → writeRefusal b xs ≡ none
+  none-refused w =
+      refusal-accepted b xs (w .accepted)
+      ∙ rw (good-length (b .bus) xs (w .short) (w .whole)) (all-each (fieldChecks (b .bus)) 0 taken (λ k m. rw (w .sound k m) refl))
+
+pub nothing-refused : NothingRefused
+nothing-refused b xs = (refused-none b xs, none-refused b xs)
 
 pub length-exactly : LengthExactly
 length-exactly b xs = (length-there b xs, λ h. length-back b xs (h .0) (h .1))

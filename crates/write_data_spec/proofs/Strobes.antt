@@ -1,29 +1,82 @@
--- The searches over strobes in plain words: a strobe high outside its beat's lanes (W1), and one above the bus (FIELD). Assumes nothing.
+-- Strobes in plain words: as bits of one number, and the searches over them, a strobe high outside its beat's lanes (W1) and one
+-- above the bus (FIELD). Assumes nothing.
 use mathlib.Core.Bool.{Bool, true, false, not, _&&_, and-false, or-true}
-use mathlib.Core.List.{List}
+use mathlib.Core.List.{List, [], _∷_}
 use mathlib.Core.Logic.{_⊎_, inl, inr}
-use mathlib.Core.Path.{_≡_, refl}
-use Prim.Native.Nat.{ℕ, _+_, _-_, _*_, _<_}
+use mathlib.Core.Path.{_≡_, refl, sym, ap, ap₂, _∙_}
+use Prim.Native.Nat.{ℕ, zero, suc, _+_, _-_, _*_, _/_, _%_, _^_, _<_}
+use native.Mathlib.Decide.{decLt}
+use native.Mathlib.Nat.{mul-comm, mul-assoc, pow-suc, zero-div}
 use native.Mathlib.Omega.{arith}
-use lib.Dec.{leb, ltb}
+use lib.Dec.{leb, ltb, eqb}
+use lib.ListN.{getD}
+use lib.Pow.{shr-shr}
 use borrow.Author.Tests.{ltb-true, leb-true, leb-false, lt-ltb, lt-leb, le-leb, not-true}
+use Rattle.stream_spec.specs.Layout.{bit}
+use Rattle.stream_spec.specs.Legal.{Octets}
+use Rattle.stream_spec.proofs.Bits.{bit-zero, bit-suc}
 use Rattle.stream_spec.proofs.Bools.{no-such, and-left, and-right, or-split}
 use Rattle.burst_spec.specs.declared.Burst.{Burst}
 use Rattle.burst_spec.specs.Address.{beats, beatOf}
 use Rattle.burst_spec.specs.Checks.{between, someBelow}
-use Rattle.burst_spec.proofs.Below.{each-below, found-below}
+use Rattle.burst_spec.proofs.Below.{found-below}
 use Rattle.write_data_spec.specs.Layout.{lanesEach, strobeOctets, flags, strobe}
 use Rattle.write_data_spec.specs.Rules.{inLanes, w1}
 use Rattle.write_data_spec.specs.Answers.{strobeFault, fieldFault}
-use Rattle.write_data_spec.specs.Promises.{Stray, StrayExactly, StrobeAbove, FieldBits}
+use Rattle.write_data_spec.specs.Promises.{lowFirst, StrobeBits, Stray, StrayExactly, StrobeAbove, FieldBits}
+use Rattle.write_data_spec.proofs.Sums.{some-at}
 
--- one number below n with the property is enough
-below-some : (n : ℕ) (p : ℕ → Bool) (k : ℕ) → k < n → p k ≡ true → someBelow n p ≡ true
-below-some n p k l h = go (someBelow n p) refl
+-- ---- WSTRB as one number
+
+twice : (k n : ℕ) → 2 ^ suc k * n ≡ 2 * (2 ^ k * n)
+twice k n = rw (pow-suc 2 k, mul-comm (2 ^ k) 2) (mul-assoc 2 (2 ^ k) n)
+
+-- what is added from bit k on changes no bit below it
+bit-below : (k o n x : ℕ) → x < k → bit x (o + 2 ^ k * n) ≡ bit x o
+bit-below zero o n x l = absurd (omega arith)
+bit-below (suc k) o n zero l =
+    let same : (o + 2 ^ suc k * n) % 2 ≡ o % 2 = omega (arith, twice k n) in
+    bit-zero (o + 2 ^ suc k * n) ∙ ap (λ (m : ℕ). eqb m 1) same ∙ sym (bit-zero o)
+bit-below (suc k) o n (suc x) l =
+    let half : (o + 2 ^ suc k * n) / 2 ≡ o / 2 + 2 ^ k * n = omega (arith, twice k n) in
+    bit-suc x (o + 2 ^ suc k * n) ∙ ap (bit x) half ∙ bit-below k (o / 2) n x (omega arith) ∙ sym (bit-suc x o)
+
+-- the bits from 8 on are those of the octets behind
+bit-above : (o n y : ℕ) → o < 256 → bit (8 + y) (o + 256 * n) ≡ bit y n
+bit-above o n y small =
+    let whole : (o + 256 * n) / 256 ≡ n = omega arith in
+    ap (λ (m : ℕ). eqb (m % 2) 1) (sym (shr-shr (o + 256 * n) 8 y) ∙ ap (λ (m : ℕ). m / 2 ^ y) whole)
+
+no-bit : (x : ℕ) → bit x 0 ≡ false
+no-bit x = ap (λ (m : ℕ). eqb (m % 2) 1) (zero-div (2 ^ x))
+
+octet-bits : (os : List ℕ) → Octets os → (x : ℕ) → bit (x % 8) (getD os (x / 8) 0) ≡ bit x (lowFirst os)
+octet-bits [] h x = no-bit (x % 8) ∙ sym (no-bit x)
+octet-bits (o ∷ os) h x = go (octet-bits os (h .1)) (decLt x 8)
   where
-    go : (t : Bool) → someBelow n p ≡ t → t ≡ true
-    go true e = refl
-    go false e = no-such (each-below n p e k l) h
+    go : ((y : ℕ) → bit (y % 8) (getD os (y / 8) 0) ≡ bit y (lowFirst os)) → Dec (x < 8)
+        → bit (x % 8) (getD (o ∷ os) (x / 8) 0) ≡ bit x (o + 256 * lowFirst os)
+    go ih (yes l) =
+        let low : x % 8 ≡ x = omega arith in
+        let first : x / 8 ≡ 0 = omega arith in
+        ap₂ (λ (y i : ℕ). bit y (getD (o ∷ os) i 0)) low first ∙ sym (bit-below 8 o (lowFirst os) x l)
+    go ih (no l) =
+        let y : ℕ = x - 8 in
+        let low : x % 8 ≡ y % 8 = omega arith in
+        let next : x / 8 ≡ suc (y / 8) = omega arith in
+        let up : 8 + y ≡ x = omega arith in
+        ap₂ (λ (z i : ℕ). bit z (getD (o ∷ os) i 0)) low next
+        ∙ ih y
+        ∙ sym (bit-above o (lowFirst os) y (h .0))
+        ∙ ap (λ (z : ℕ). bit z (o + 256 * lowFirst os)) up
+
+pub strobe-bits : StrobeBits
+unfolding strobe
+strobe-bits last wstrb h x =
+    let next : 1 + x / 8 ≡ suc (x / 8) = omega arith in
+    ap (λ (i : ℕ). bit (x % 8) (getD (last ∷ wstrb) i 0)) next ∙ octet-bits wstrb h x
+
+-- ---- lanes
 
 -- not between is below or above
 not-between : (low high x : ℕ) → between low high x ≡ false → (x < low) ⊎ (high < x)
@@ -63,7 +116,7 @@ module _ (b : Burst) (k : ℕ) (r : List ℕ) where
   unfolding w1
   strays h s =
       rw (lt-ltb k (beats b) h)
-      (below-some (b .bus) isStray (s .lane) (s .within)
+      (some-at (b .bus) isStray (s .lane) (s .within)
       (rw (s .high, between-not (beatOf b k .lower) (beatOf b k .upper) (s .lane) (s .outside)) refl))
 
 pub stray-exactly : StrayExactly
@@ -85,7 +138,7 @@ module _ (bus : ℕ) (r : List ℕ) where
   aboves : StrobeAbove bus r → strobeFault bus r ≡ true
   aboves s =
       let is : bus + (s .lane - bus) ≡ s .lane = omega (arith, s .above) in
-      below-some spare isAbove (s .lane - bus) (omega (arith, s .above, s .within)) (rw is (s .high))
+      some-at spare isAbove (s .lane - bus) (omega (arith, s .above, s .within)) (rw is (s .high))
 
   bits : fieldFault bus r ≡ true → (1 < flags r) ⊎ StrobeAbove bus r
   unfolding fieldFault

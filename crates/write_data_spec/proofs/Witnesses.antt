@@ -2,7 +2,7 @@
 use mathlib.Core.Bool.{true, false}
 use mathlib.Core.List.{List, [], _∷_}
 use mathlib.Core.Logic.{_⊎_, inl, inr, _≢_}
-use mathlib.Core.Option.{none, some}
+use mathlib.Core.Option.{none}
 use mathlib.Core.Path.{_≡_, refl, sym}
 use Prim.Native.Nat.{ℕ, zero, suc, _%_, _≤_, _<_}
 use native.Mathlib.Omega.{arith}
@@ -15,12 +15,12 @@ use Rattle.burst_spec.specs.Checks.{someBelow, busAllowed, countAllowed, misali
 use Rattle.burst_spec.specs.Answers.{burstOf}
 use Rattle.write_data_spec.specs.declared.WriteVerdict.the-variants.{Clean, Broken, Refused}
 use Rattle.write_data_spec.specs.Layout.{beatSize, writeBeats, strobe, countBelow, allStrobes}
-use Rattle.write_data_spec.specs.Rules.{w1, finding, firstFinding}
+use Rattle.write_data_spec.specs.Rules.{w1, finding}
 use Rattle.write_data_spec.specs.Answers.{fieldFault, writeRefusal, writeAnswer, WritesJudged}
-use Rattle.write_data_spec.specs.Promises.{IsAccepted, beat, Breaks, IsEarliest, Sound, Stray, CleanTake, FirstBad, StrobeAbove}
+use Rattle.write_data_spec.specs.Promises.{IsAccepted, beat, Breaks, IsEarliest, Sound, Stray, CleanTake, WellFormed, FirstBad, StrobeAbove}
 use Rattle.write_data_spec.proofs.Answers.{judged-is}
-use Rattle.write_data_spec.proofs.Promises.{earliest, strayExactly, cleanExactly, tooManyExactly, tooFewExactly}
-use Rattle.write_data_spec.proofs.Promises.{refusedAsJudged, lengthExactly, fieldExactly, fieldBits}
+use Rattle.write_data_spec.proofs.Promises.{strobeBits, strayExactly, brokenExactly, cleanExactly, tooManyExactly, tooFewExactly}
+use Rattle.write_data_spec.proofs.Promises.{nothingRefused, refusedAsJudged, lengthExactly, fieldExactly, fieldBits}
 
 -- ---- findings: 01's B1, whose lanes are 2-3, 0-3 and 0-3
 
@@ -28,31 +28,41 @@ abbrev unaligned : Burst
 unaligned = burstOf 0x1002 2 2 1 4
 
 -- beat 0 breaks W1 and W2, and beat 2 breaks W3
-abbrev broken : List (List ℕ)
-broken = (0x01 ∷ 0x0F ∷ []) ∷ (0x00 ∷ 0x0F ∷ []) ∷ (0x00 ∷ 0x0F ∷ []) ∷ []
+abbrev broken : List ℕ
+broken = 0x01 ∷ 0x0F ∷ 0x00 ∷ 0x0F ∷ 0x00 ∷ 0x0F ∷ []
 
 -- what is broken at beat k by rule n is no earlier than W1 at beat 0
 abbrev Later : ℕ → ℕ → Type 0
 Later k n = (0 < k) ⊎ ((0 ≡ k) × (1 ≤ n))
 
-broken-first : IsEarliest unaligned broken (finding 0 1)
-unfolding roundDown incrAddress addressBy someBelow strobe w1
+broken-first : IsEarliest unaligned (writeBeats 4 broken) (finding 0 1)
+unfolding roundDown incrAddress addressBy someBelow beatSize strobe w1
 broken-first = record { broken = inl (omega arith, refl); others = others }
   where
-    others : (k n : ℕ) → Breaks unaligned broken k n → Later k n
+    others : (k n : ℕ) → Breaks unaligned (writeBeats 4 broken) k n → Later k n
     others zero zero (inl e) = no-such refl (e .1)
     others zero (suc n) (inl e) = inr (refl, omega arith)
     others (suc k) n (inl e) = inl (omega arith)
     others k n (inr e) = inl (omega (arith, e .1))
 
-pub first-is : firstFinding unaligned broken ≡ some (finding 0 1)
-first-is = earliest unaligned broken (finding 0 1) .1 broken-first
+-- nothing of it is refused
+broken-formed : WellFormed unaligned broken
+unfolding roundDown incrAddress addressBy someBelow busAllowed countAllowed misaligned crossesBy beatSize strobe fieldFault
+broken-formed = nothingRefused unaligned broken .0 refl
+
+pub first-is : writeAnswer unaligned broken ≡ Broken 0 1
+first-is = brokenExactly unaligned broken 0 1 .1 (nothingRefused unaligned broken .1 broken-formed, broken-first)
 
 -- W2 at beat 0, and W3 at beat 2
 pub others-later : Later 0 2 × Later 2 3
+unfolding beatSize
 others-later =
-    let h = earliest unaligned broken (finding 0 1) .0 first-is in
+    let h = brokenExactly unaligned broken 0 1 .0 first-is .1 in
     (h .others 0 2 (inl (omega arith, refl)), h .others 2 3 (inl (omega arith, refl)))
+
+-- lane 9 has bit 9 of WSTRB 0x0200, which is bit 1 of the second octet
+pub second-octet : strobe (0x01 ∷ 0x00 ∷ 0x02 ∷ []) 9 ≡ true
+second-octet = strobeBits 0x01 (0x00 ∷ 0x02 ∷ []) (omega arith, (omega arith, tt)) 9
 
 -- lane 1 is not one of beat 0
 pub stray-found : w1 unaligned 0 (0x00 ∷ 0x02 ∷ []) ≡ true

@@ -1,22 +1,24 @@
 -- What is proved of judging write beats, a statement each. Words in quotes are the request's (paper 02, T-05); its numbers are typed here
 -- once more, which pins the named ones. The proofs are in proofs/Promises.
 use mathlib.Core.Bool.{Bool, true, false}
-use mathlib.Core.List.{List, []}
+use mathlib.Core.List.{List, [], _∷_}
 use mathlib.Core.Logic.{_⊎_, _↔_, _≢_}
-use mathlib.Core.Option.{none, some}
+use mathlib.Core.Option.{none}
 use mathlib.Core.Path.{_≡_}
 use Prim.Native.Nat.{ℕ, zero, suc, _+_, _*_, _/_, _%_, _≤_, _<_}
 use lib.Dec.{eqb}
 use lib.ListN.{length, getD}
 use Rattle.refusal.specs.declared.Refusal.{Refusal}
 use Rattle.refusal.specs.declared.Refusal.the-variants.{Length, Field}
+use Rattle.stream_spec.specs.Layout.{bit}
+use Rattle.stream_spec.specs.Legal.{Octets}
 use Rattle.burst_spec.specs.declared.Burst.{Burst}
 use Rattle.burst_spec.specs.declared.Judgement.the-variants as judged
 use Rattle.burst_spec.specs.Address.{beats, beatOf}
 use Rattle.burst_spec.specs.Answers.{judgement}
 use Rattle.write_data_spec.specs.declared.WriteVerdict.the-variants.{Clean, Broken, Refused}
 use Rattle.write_data_spec.specs.Layout.{writeBeats, flags, wlast, strobe, allStrobes}
-use Rattle.write_data_spec.specs.Rules.{w1, w2, w3, w4, Finding, firstFinding}
+use Rattle.write_data_spec.specs.Rules.{w1, w2, w3, w4, Finding, finding}
 use Rattle.write_data_spec.specs.Answers.{fieldFault, writeRefusal, writeAnswer}
 
 -- a burst that none of 7 to 12 refuses
@@ -26,6 +28,15 @@ IsAccepted b = judgement b ≡ judged.Accepted
 -- the octets of a beat record: "one octet .., then bus/8 octets (rounded up)"
 abbrev pub octetsEach : ℕ → ℕ
 octetsEach bus = 1 + (bus + 7) / 8
+
+-- octets as one number, low octet first
+abbrev pub lowFirst : List ℕ → ℕ
+lowFirst [] = 0
+lowFirst (x ∷ xs) = x + 256 * lowFirst xs
+
+-- "WSTRB with lane 0 in the lowest bit": the strobe of lane x is bit x of the number that the octets behind the first one make
+abbrev pub StrobeBits : Type 0
+StrobeBits = (last : ℕ) (wstrb : List ℕ) → Octets wstrb → (x : ℕ) → strobe (last ∷ wstrb) x ≡ bit x (lowFirst wstrb)
 
 -- record k of a take
 abbrev pub beat : List (List ℕ) → ℕ → List ℕ
@@ -51,8 +62,11 @@ pub record IsEarliest (b : Burst) (rs : List (List ℕ)) (f : Finding) : Type 0 
   pub broken : Breaks b rs (f .place) (f .rule)
   pub others : (k n : ℕ) → Breaks b rs k n → (f .place < k) ⊎ ((f .place ≡ k) × (f .rule ≤ n))
 
-abbrev pub Earliest : Type 0
-Earliest = (b : Burst) (rs : List (List ℕ)) (f : Finding) → (firstFinding b rs ≡ some f) ↔ IsEarliest b rs f
+-- so much is broken exactly where nothing is refused and it is the earliest
+abbrev pub BrokenExactly : Type 0
+BrokenExactly =
+    (b : Burst) (xs : List ℕ) (p n : ℕ)
+    → (writeAnswer b xs ≡ Broken p n) ↔ ((writeRefusal b xs ≡ none) × IsEarliest b (writeBeats (b .bus) xs) (finding p n))
 
 -- no rule is broken at any of the first n beats
 abbrev pub Sound : Burst → List (List ℕ) → ℕ → Type 0
@@ -100,6 +114,16 @@ TooFewExactly =
     ↔ ((writeRefusal b xs ≡ none) × (p ≡ length (writeBeats (b .bus) xs)) × (p < beats b) × Sound b (writeBeats (b .bus) xs) p)
 
 -- ---- the refusals
+
+-- nothing is refused exactly where the burst is accepted, the octets are whole records and no bit is set that must be zero
+pub record WellFormed (b : Burst) (xs : List ℕ) : Type 0 where
+  pub accepted : IsAccepted b
+  pub short : length xs ≤ 65536
+  pub whole : length xs % octetsEach (b .bus) ≡ 0
+  pub sound : (k : ℕ) → k < length (writeBeats (b .bus) xs) → fieldFault (b .bus) (beat (writeBeats (b .bus) xs) k) ≡ false
+
+abbrev pub NothingRefused : Type 0
+NothingRefused = (b : Burst) (xs : List ℕ) → (writeRefusal b xs ≡ none) ↔ WellFormed b xs
 
 -- "the burst's own": what judging refuses is refused with the same, whatever the octets
 abbrev pub RefusedAsJudged : Type 0
