@@ -91,6 +91,8 @@ lasts =
     ∷ breaks two (0x00 ∷ 0x0F ∷ 0x01 ∷ 0x0F ∷ 0x00 ∷ 0x00 ∷ []) 4 2
     -- W18: with WLAST and a strobe it is W4 still, and the first of several
     ∷ breaks two (0x00 ∷ 0x0F ∷ 0x01 ∷ 0x0F ∷ 0x01 ∷ 0x0F ∷ 0x01 ∷ 0x0F ∷ []) 4 2
+    -- W61: a stray strobe past the last, by the lanes that FIXED would have there, is W4
+    ∷ breaks b2 (0x00 ∷ 0x0C ∷ 0x01 ∷ 0x0C ∷ 0x00 ∷ 0x0F ∷ []) 4 2
     -- W19: three beats for two, WLAST on the third: W3 at the second
     ∷ breaks two (0x00 ∷ 0x0F ∷ 0x00 ∷ 0x0F ∷ 0x01 ∷ 0x0F ∷ []) 3 1
     -- W20: W5, an empty take
