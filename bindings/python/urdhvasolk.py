@@ -102,8 +102,13 @@ def _lend(memory):
     return (ctypes.c_ubyte * len(view)).from_buffer(view)
 
 
+def _no_start(start):
+    """Whether an address is no 32-bit number."""
+    return not 0 <= start < 2**32
+
+
 def _ask_burst(function, start, numbers):
-    if not 0 <= start < 2**32:
+    if _no_start(start):
         return None
     return _plain(BurstAnswer, function(start, *(_held(n, _u32) for n in numbers)))
 
@@ -127,7 +132,7 @@ def axi3_cut(start, len_, size, kind, bus, room=16):
     """The burst cut for AXI3 boards, which take at most 16 beats: `bursts` is a list of 1 to 16 `Burst`s, whose beats, one burst
     after another, are its own; refused, it is empty. Refusals 7 to 12, then 5 where more than `room` are needed; less than
     none counts as none, 16 are always enough."""
-    if not 0 <= start < 2**32:
+    if _no_start(start):
         return None
     numbers = len(Burst._fields)
     row = (_u64 * (numbers * min(max(room, 0), 16)))()
@@ -140,7 +145,7 @@ def judge_writes(start, len_, size, kind, bus, beats):
     strobes. Broken: the lowest rule at beat `place`, the first one: 1 a strobe high outside the lanes of the beat, 2 WLAST before
     the last beat, 3 the last beat without WLAST, 4 a beat past the last; 5 too few beats, `place` being how many were given.
     Refusals 7 to 12, then 2, 3."""
-    if not 0 <= start < 2**32:
+    if _no_start(start):
         return None
     beats = _read(beats)
     return _plain(WriteAnswer, _judge_writes(start, *(_held(n, _u32) for n in (len_, size, kind, bus)), beats, len(beats)))

@@ -137,7 +137,7 @@ fn rules(t: &mut Tally, judge: WriteCall) {
     ] { refused(t, judge, b, take, 3, record); }
 }
 
-/// 256 beats: one lane each, 0 to 7 over and over; and the whole of a bus of 16. An address up to 2^32, a beat after 16.
+/// 256 beats: one lane each, 0 to 7 over and over; and the whole of a bus of 16. An address up to 2^32, and beat 16 of 17.
 /// Then 65,536 octets, and more.
 fn bounds(t: &mut Tally, judge: WriteCall) {
     let (bytes, full, later) = (burst(0x1000, 256, 0, 1, 8), burst(0x1000, 256, 4, 1, 16), burst(0x1001, 256, 4, 1, 16));
@@ -168,8 +168,8 @@ fn bounds(t: &mut Tally, judge: WriteCall) {
     refused(t, judge, full, &format!("{wide}01 FF FF {}", "00 00 00 ".repeat(21_590)), 2, 0);
 }
 
-/// Each burst also breaks later rules. The takes: none, no whole number of records, FIELD, over-long; on the last burst they
-/// are themselves what is refused, and LENGTH comes before FIELD.
+/// Each burst but the last is refused for later reasons too. The takes: none, no whole number of records, FIELD,
+/// over-long; on the last burst they are themselves what is refused, and LENGTH comes before FIELD.
 fn refusals(t: &mut Tally, judge: WriteCall) {
     let long = "FF ".repeat(65_538);
     for take in ["", "FF", "02 00 00", "FF FF", "00 0F 01 0F", &long] {

@@ -5,7 +5,7 @@ use crate::compare_bursts::{damaged, random_of_kind, wild};
 use crate::compare_streams::show;
 use crate::masks::sizes_and_buses;
 use crate::model::{Burst, FIXED, INCR, MOST_OCTETS, WRAP};
-use crate::model_writes::{self as model, W1, W2, W3, W4, W5, WriteAnswer};
+use crate::model_writes::{self as model, W1, W2, W3, W4, W5, WriteAnswer, broken, clean, refused};
 use crate::tally::{Random, Tally};
 use crate::write_takes::{Asked, WLAST, any_record, any_records, counts, fitting, flip, flipped, random_burst, random_take};
 use crate::write_takes::{right, right_take, some_beats, stray_lane, zero_bits};
@@ -13,12 +13,6 @@ use crate::{cases_writes, library_burst, library_writes as library};
 
 const GUARD: usize = 24; // octets before and after each lent take
 const OUTSIDE: u8 = 0x5A; // each of them: FIELD, if it were read as a record's first octet
-
-fn broken(rule: u32, place: usize) -> WriteAnswer { WriteAnswer { rule, place: place as u64, ..Default::default() } }
-
-fn refused(refusal: u32, place: usize) -> WriteAnswer { WriteAnswer { refusal, place: place as u64, ..Default::default() } }
-
-fn clean(strobes: u64) -> WriteAnswer { WriteAnswer { strobes, ..Default::default() } }
 
 fn note(t: &mut Tally, a: WriteAnswer) {
     t.verdict(match (a.refusal, a.rule) {
@@ -72,7 +66,7 @@ fn right_is_clean(t: &mut Tally, r: &mut Random, a: &Asked) {
     let lanes = |k| { let beat = library_burst::beat(a.b, k as u32); (beat.lower as usize, (beat.upper.min(a.b.bus - 1) + 1) as usize) };
     let take = right_take(r, a, lanes);
     let ones: u32 = take.iter().map(|octet| octet.count_ones()).sum();
-    answer_is(t, a, &take, clean(u64::from(ones) - 1)); // WLAST is no strobe
+    answer_is(t, a, &take, clean(ones as usize - 1)); // WLAST is no strobe
 }
 
 /// One beat less and one more; WLAST missing, one beat late, one early; and a stray strobe in some beat.
@@ -99,7 +93,7 @@ fn none_and_all(t: &mut Tally, a: &Asked) {
     for k in 0..a.beats() {
         let (from, to, _) = a.lanes(k);
         for lane in from..to { flip(a, &mut take, k, 8 + lane); }
-        strobes += (to - from) as u64;
+        strobes += to - from;
     }
     answer_is(t, a, &take, clean(strobes));
 }

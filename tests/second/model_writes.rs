@@ -13,11 +13,11 @@ pub const W5: u32 = 5; // too few beats
 #[derive(Clone, Copy, PartialEq, Eq, Debug, Default)]
 pub struct WriteAnswer { pub refusal: u32, pub rule: u32, pub place: u64, pub strobes: u64 }
 
-fn refused_at(refusal: u32, place: usize) -> WriteAnswer { WriteAnswer { refusal, place: place as u64, ..WriteAnswer::default() } }
+pub fn refused(refusal: u32, place: usize) -> WriteAnswer { WriteAnswer { refusal, place: place as u64, ..WriteAnswer::default() } }
 
-fn broken(rule: u32, place: usize) -> WriteAnswer { WriteAnswer { rule, place: place as u64, ..WriteAnswer::default() } }
+pub fn broken(rule: u32, place: usize) -> WriteAnswer { WriteAnswer { rule, place: place as u64, ..WriteAnswer::default() } }
 
-fn clean(strobes: usize) -> WriteAnswer { WriteAnswer { strobes: strobes as u64, ..WriteAnswer::default() } }
+pub fn clean(strobes: usize) -> WriteAnswer { WriteAnswer { strobes: strobes as u64, ..WriteAnswer::default() } }
 
 // ---- One record: an octet with WLAST, then WSTRB with lane 0 in the lowest bit, the low octet first ----
 pub fn record_octets(bus: u32) -> usize { 1 + (bus as usize).div_ceil(8) }
@@ -45,11 +45,11 @@ fn broken_rule(beats: &[Beat], k: usize, record: &[u8]) -> Option<u32> {
 
 /// The burst's own refusal, LENGTH, FIELD of any record, the first broken beat, too few beats; else clean.
 pub fn judge_take(judged: &Judged, bus: u32, take: &[u8]) -> WriteAnswer {
-    if judged.refusal != 0 { return refused_at(judged.refusal, 0); }
-    if take.len() > MOST_OCTETS || take.len() % record_octets(bus) != 0 { return refused_at(LENGTH, 0); }
+    if judged.refusal != 0 { return refused(judged.refusal, 0); }
+    if take.len() > MOST_OCTETS || take.len() % record_octets(bus) != 0 { return refused(LENGTH, 0); }
     let records: Vec<&[u8]> = take.chunks(record_octets(bus)).collect();
     for (k, record) in records.iter().enumerate() {
-        if field_is_wrong(bus, record) { return refused_at(FIELD, k); }
+        if field_is_wrong(bus, record) { return refused(FIELD, k); }
     }
     for (k, record) in records.iter().enumerate() {
         if let Some(rule) = broken_rule(&judged.beats, k, record) { return broken(rule, k); }

@@ -1,5 +1,5 @@
 -- Each statement of specs/Promises, from the laws below it. Assumes nothing.
-use mathlib.Core.Bool.{Bool, true, false, cond}
+use mathlib.Core.Bool.{Bool, true, false}
 use mathlib.Core.List.{List, [], _∷_, _++_, map}
 use mathlib.Core.Logic.{_⊎_, inl, inr, _≢_}
 use mathlib.Core.Option.{Option, none, some}
@@ -13,14 +13,14 @@ use lib.ListN.{length, take, drop, length-append, length-drop}
 use lib.Seq.{take-append-seam, drop-append-seam}
 use Rattle.refusal.specs.declared.Refusal.{Refusal}
 use Rattle.refusal.specs.declared.Refusal.the-variants.{Room}
-use Rattle.refusal.specs.Checks.{Check, first}
+use Rattle.refusal.specs.Checks.{first}
 use Rattle.burst_spec.specs.declared.Burst.{Burst}
 use Rattle.burst_spec.specs.declared.Kind.the-variants.{Incr}
 use Rattle.burst_spec.specs.Address.{aligned, incrAddress, beats, bytes}
 use Rattle.burst_spec.specs.Answers.{judgementFor}
 use Rattle.burst_spec.specs.Checks.{checks}
 use Rattle.burst_spec.specs.Legal.{Legal, Accepted}
-use Rattle.burst_spec.proofs.Answers.{accepted-exactly}
+use Rattle.burst_spec.proofs.Answers.{accepted-exactly, own-number}
 use Rattle.burst_spec.proofs.Known.{clash, known}
 use Rattle.axi3_spec.specs.declared.CutAnswer.the-variants.{Bursts, Refused}
 use Rattle.axi3_spec.specs.Cut.{beatsMost, pieceCount, pieceBeats, piece, run, joined, pieces, beatsOfAll}
@@ -129,18 +129,9 @@ itself x a h = only-itself x (accepts x a .legal) (few h)
 pub refusedAsJudged : RefusedAsJudged
 refusedAsJudged x room r e = ap (λ o. cutFor o (pieceCount x)) (refusal-judged x room r e)
 
--- no burst is judged ROOM: none of its checks gives that
-never-given : (cs : List (Check Refusal)) → Every (λ c. c .gives ≢ Room) cs → first cs ≢ some Room
-never-given [] h e = clash cc
-never-given (c ∷ cs) h e = go (c .found) (never-given cs (h .1)) e
-  where
-    go : (t : Bool) → first cs ≢ some Room → cond t (some (c .gives)) (first cs) ≡ some Room → ⊥
-    go true rest f = h .0 cc
-    go false rest f = rest f
-
+-- no burst is judged ROOM: its own refusals are 7 and on
 never-room : (x : Burst) → first (checks x) ≢ some Room
-never-room x =
-    never-given (checks x) (λ e. clash cc, (λ e. clash cc, (λ e. clash cc, (λ e. clash cc, (λ e. clash cc, (λ e. clash cc, tt))))))
+never-room x e = let h = own-number x Room e in omega arith
 
 pub roomExactly : RoomExactly
 roomExactly x room = (λ e. there (first (checks x)) refl (refused-is x room Room (sym e)), back)

@@ -1,9 +1,9 @@
 -- When a burst is accepted, and that an answer shows the paper's numbers. Assumes nothing.
 use mathlib.Core.Bool.{Bool, true, false, cond}
-use mathlib.Core.List.{[], _∷_}
+use mathlib.Core.List.{List, [], _∷_}
 use mathlib.Core.Logic.{_↔_}
 use mathlib.Core.Option.{Option, none, some}
-use mathlib.Core.Path.{_≡_, refl, sym, ap, _∙_}
+use mathlib.Core.Path.{_≡_, refl, sym, ap, _∙_, subst}
 use Prim.Native.Nat.{ℕ, zero, suc, _+_, _≤_, _<_}
 use native.Mathlib.Numerals.{add-one}
 use native.Mathlib.Omega.{arith}
@@ -12,7 +12,8 @@ use lib.IntN.{ℤ}
 use borrow.Author.Tests.{not-false, le-leb, lt-leb, leb-true, leb-false}
 use Rattle.refusal.specs.declared.Refusal.{Refusal}
 use Rattle.refusal.specs.declared.Refusal.the-variants.{Bus, Size, Kind, Count, Align, Boundary, Index}
-use Rattle.refusal.specs.Checks.{check, first}
+use Rattle.refusal.specs.Checks.{Check, check, first}
+use Rattle.refusal.specs.Code.{codeOf}
 use Rattle.refusal.proofs.First.{cond-none, append-none, none-append, append-found, append-passed}
 use Rattle.burst_spec.specs.declared.Beat.{Beat}
 use Rattle.burst_spec.specs.declared.Burst.{Burst}
@@ -116,6 +117,25 @@ boundary-exactly x = (there, back)
 
     back : Legal x × (crosses x ≡ true) → judgement x ≡ judged.Refused Boundary
     back y = rw (y .0 .bus, y .0 .size, y .0 .kind, y .0 .count, y .0 .start, y .1)
+
+-- ---- a burst's own refusals have numbers from 7 on
+
+-- checks that give 7 and on
+abbrev FromSeven : List (Check Refusal) → Type 0
+FromSeven [] = Unit
+FromSeven (c ∷ cs) = (7 ≤ codeOf (c .gives) .0) × FromSeven cs
+
+given-seven : (cs : List (Check Refusal)) (r : Refusal) → FromSeven cs → first cs ≡ some r → 7 ≤ codeOf r .0
+given-seven [] r h e = absurd (clash cc)
+given-seven (c ∷ cs) r h e = go (c .found) (given-seven cs r (h .1)) e
+  where
+    go : (t : Bool) → (first cs ≡ some r → 7 ≤ codeOf r .0) → cond t (some (c .gives)) (first cs) ≡ some r → 7 ≤ codeOf r .0
+    go true rest f = let same : c .gives ≡ r = cc in subst (λ (q : Refusal). 7 ≤ codeOf q .0) same (h .0)
+    go false rest f = rest f
+
+pub own-number : (x : Burst) (r : Refusal) → first (checks x) ≡ some r → 7 ≤ codeOf r .0
+own-number x r =
+    given-seven (checks x) r (omega arith, (omega arith, (omega arith, (omega arith, (omega arith, (omega arith, tt))))))
 
 leb-next : (a b : ℕ) → leb a b ≡ leb (a + 1) (b + 1)
 leb-next a b = go (leb a b) refl

@@ -6,8 +6,8 @@ ghost use Rattle.burst_spec.specs.Answers.{burstOf};
 ghost use Rattle.write_data_spec.specs.Answers.{writeAnswer, refusalValues, writeValues};
 ghost use Rattle.capi.specs.Shows.{ShowsWrite};
 
-// What judging write beats answers: the refusal's number, or 0; the rule; its beat, or the refusal's place; the number of high
-// strobes. What it has not is 0.
+// What judging write beats answers: the refusal's number, or 0; the rule; its beat, of W5 the count given, or the refusal's
+// place; the number of high strobes. What it has not is 0.
 #[repr(C)]
 pub struct WriteAnswer {
     pub refusal: u32,

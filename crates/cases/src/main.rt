@@ -4,6 +4,7 @@
 mod bursts;
 mod cuts;
 mod streams;
+mod writes;
 
 fn main() {
     streams::packed();
@@ -18,4 +19,7 @@ fn main() {
     bursts::top();
     cuts::incr();
     cuts::others();
+    writes::lanes();
+    writes::counts();
+    writes::refusals();
 }

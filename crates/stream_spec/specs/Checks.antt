@@ -26,9 +26,12 @@ ratioCheck s v = check (not (eqb (s .width % v) 0)) Ratio
 abbrev pub captureMost : ℕ
 captureMost = 65536
 
--- 2: "input is over 65,536 octets or no whole number of records"
+-- 2: "input is over 65,536 octets or no whole number of records", which have so many octets each
+abbrev pub lengthFault : ℕ → List ℕ → Bool
+lengthFault octets xs = ltb captureMost (length xs) || not (eqb (length xs % octets) 0)
+
 abbrev pub lengthCheck : Shape → List ℕ → Check Refusal
-lengthCheck s xs = check (ltb captureMost (length xs) || not (eqb (length xs % size s) 0)) Length
+lengthCheck s xs = check (lengthFault (size s) xs) Length
 
 -- the checks in front of every call that reads a take and has no other width
 abbrev pub takeChecks : Shape → List ℕ → List (Check Refusal)

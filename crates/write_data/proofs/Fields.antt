@@ -10,9 +10,9 @@ use borrow.Author.Tests.{le-leb, lt-leb, leb-true, leb-false}
 use Rattle.stream_spec.specs.Layout.{bit}
 use Rattle.stream_spec.proofs.Bools.{neither}
 use Rattle.stream_record.proofs.Field.{shifted}
-use Rattle.burst_spec.specs.Checks.{busMost, busAllowed, someBelow}
+use Rattle.burst_spec.specs.Checks.{busMost, busAllowed}
 use Rattle.burst_spec.proofs.Below.{none-below, each-below}
-use Rattle.burst_spec.proofs.Known.{Each, among-each}
+use Rattle.burst_spec.proofs.Known.{among-each}
 use Rattle.write_data_spec.specs.Layout.{lanesEach, strobesAt, strobeOctets, beatSize, flags, strobe}
 use Rattle.write_data_spec.specs.Answers.{strobeFault, fieldFault}
 use Rattle.write_data.proofs.Octets.{high-none, high-some}

@@ -1,21 +1,21 @@
 -- The strobes of one octet: which of its bits are high, told by its remainder and its size. Assumes nothing.
 use mathlib.Core.Bool.{Bool, true, false, not, _&&_, and-false}
-use mathlib.Core.Path.{_≡_, refl, sym, ap, ap₂, _∙_, subst}
+use mathlib.Core.Path.{_≡_, refl, sym, ap, _∙_}
 use Prim.Native.Nat.{ℕ, zero, suc, _+_, _-_, _*_, _/_, _%_, _^_, _≤_, _<_, min}
 use native.Mathlib.Decide.{decLe, decLt}
-use native.Mathlib.Nat.{pow-suc, div-eq-of-lt}
+use native.Mathlib.Nat.{pow-suc}
 use native.Mathlib.Omega.{arith}
 use borrow.Author.Tests.{eqb-false, ne-eqb, le-leb, lt-leb, leb-true, leb-false}
 use lib.Arith.{mod-mul}
 use lib.Dec.{leb}
-use lib.Pow.{pow-pos, pow-mono}
+use lib.Pow.{pow-pos}
 use Rattle.stream_spec.specs.Layout.{bit, odd, bitOf}
 use Rattle.stream_spec.specs.Promises.{SetAbove}
 use Rattle.stream_spec.proofs.Bits.{bit-zero, bit-suc, odd-number}
 use Rattle.stream_spec.proofs.Bools.{no-such}
 use Rattle.stream_spec.proofs.Promises.{fieldBits}
 use Rattle.stream_record.proofs.Field.{shifted}
-use Rattle.burst_spec.specs.Checks.{between, someBelow}
+use Rattle.burst_spec.specs.Checks.{between}
 use Rattle.burst_spec.proofs.Below.{none-below}
 use Rattle.write_data_spec.specs.Layout.{countBelow}
 use Rattle.write_data.specs.Scan.{octetStray, octetHigh}

@@ -1,18 +1,16 @@
 -- The lowest rule that a beat breaks, as the code finds it, against the checks of the rules. Assumes nothing.
-use mathlib.Core.Bool.{Bool, true, false, not, _&&_, cond, and-false}
+use mathlib.Core.Bool.{Bool, true, false, cond, and-false}
 use mathlib.Core.List.{List, [], _∷_}
 use mathlib.Core.Option.{none, some}
-use mathlib.Core.Path.{_≡_, refl, sym, ap, _∙_}
-use Prim.Native.Nat.{ℕ, zero, suc, _+_, _≤_, _<_}
+use mathlib.Core.Path.{_≡_, refl, sym, _∙_}
+use Prim.Native.Nat.{ℕ, _+_, _≤_, _<_}
 use native.Mathlib.Omega.{arith}
 use borrow.Author.Tests.{lt-ltb, le-ltb, eq-eqb, ne-eqb, le-leb, lt-leb}
-use lib.Dec.{leb, ltb, eqb}
 use Rattle.refusal.specs.Checks.{check, first}
 use Rattle.burst_spec.specs.declared.Burst.{Burst}
 use Rattle.burst_spec.specs.Address.{beats, beatOf}
-use Rattle.burst_spec.specs.Checks.{someBelow}
 use Rattle.write_data_spec.specs.Layout.{wlast}
-use Rattle.write_data_spec.specs.Rules.{w1, w2, w3, w4, Finding, finding, ruleChecks}
+use Rattle.write_data_spec.specs.Rules.{w1, w2, w3, w4, finding, ruleChecks}
 use Rattle.write_data.specs.Scan.{strayBelow, lowestRule}
 
 -- ---- which one it is

@@ -2,7 +2,7 @@
 use mathlib.Core.Bool.{Bool, true, false, cond}
 use mathlib.Core.List.{List, [], _∷_, _++_}
 use mathlib.Core.Option.{Option, none, some}
-use mathlib.Core.Path.{_≡_, refl, sym, ap, ap₂, _∙_}
+use mathlib.Core.Path.{_≡_, sym, ap, ap₂, _∙_}
 use Prim.Native.Nat.{ℕ, _+_}
 use native.Mathlib.Nat.{zero-add}
 use lib.ListN.{length}
@@ -21,7 +21,7 @@ use Rattle.write_data_spec.specs.declared.WriteVerdict.{WriteVerdict}
 use Rattle.write_data_spec.specs.declared.WriteVerdict.the-variants.{Refused}
 use Rattle.write_data_spec.specs.Layout.{beatSize, writeBeats, allStrobes}
 use Rattle.write_data_spec.specs.Rules.{Finding, ruleChecks, countCheck, firstFinding}
-use Rattle.write_data_spec.specs.Answers.{lengthFault, takeChecks, writeRefusal, verdict, writeAnswer, WritesJudged}
+use Rattle.write_data_spec.specs.Answers.{lengthFault, takeChecks, writeRefusal, verdict, WritesJudged}
 use Rattle.write_data_spec.specs.Promises.{IsAccepted}
 use Rattle.write_data_spec.proofs.Answers.{judged-is, refused-answer, refusal-judged, refusal-accepted}
 use Rattle.write_data_spec.proofs.Refusals.{length-good}

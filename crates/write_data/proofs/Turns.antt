@@ -1,15 +1,14 @@
 -- The two passes over a take, turn by turn: the beats left decide, and a turn takes one off them. Assumes nothing.
-use mathlib.Core.Bool.{Bool, true, false, not}
+use mathlib.Core.Bool.{Bool, true, false}
 use mathlib.Core.List.{List, [], _∷_, _++_, append-assoc}
 use mathlib.Core.Option.{Option, none, some}
 use mathlib.Core.Path.{_≡_, refl, sym, ap, ap₂, _∙_}
-use Prim.Native.Nat.{ℕ, suc, _+_, _*_, _%_, _≤_, _<_}
-use native.Mathlib.Nat.{add-zero, zero-add, add-suc, suc-add, add-assoc}
+use Prim.Native.Nat.{ℕ, suc, _+_, _≤_, _<_}
+use native.Mathlib.Nat.{add-zero, add-suc, suc-add, add-assoc}
 use native.Mathlib.Numerals.{add-one}
 use native.Mathlib.Omega.{arith}
 use borrow.Author.Tests.{lt-ltb, le-ltb}
 use lib.ListN.{length, drop}
-use Rattle.refusal.specs.declared.Refusal.{Refusal}
 use Rattle.refusal.specs.declared.Refusal.the-variants.{Field}
 use Rattle.refusal.specs.Checks.{first}
 use Rattle.refusal.proofs.First.{cond-none, append-found, append-passed}
@@ -22,7 +21,6 @@ use Rattle.burst_spec.specs.declared.Judgement.the-variants as judged
 use Rattle.burst_spec.specs.Address.{beats}
 use Rattle.burst_spec.specs.Answers.{judgementFor}
 use Rattle.burst_spec.specs.Checks.{busMost, busAllowed}
-use Rattle.write_data_spec.specs.declared.WriteVerdict.{WriteVerdict}
 use Rattle.write_data_spec.specs.declared.WriteVerdict.the-variants.{Clean, Broken}
 use Rattle.write_data_spec.specs.Layout.{beatSize, writeBeats, highStrobes, allStrobes}
 use Rattle.write_data_spec.specs.Rules.{Finding, finding, ruleChecks, countCheck}

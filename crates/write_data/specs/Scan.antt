@@ -4,7 +4,7 @@ use mathlib.Core.Bool.{Bool, true, false, not, _&&_, cond}
 use mathlib.Core.List.{List, [], _∷_, _++_}
 use mathlib.Core.Option.{Option, none}
 use mathlib.Core.Path.{_≡_}
-use Prim.Native.Nat.{ℕ, _+_, _*_, _%_, _≤_, _<_}
+use Prim.Native.Nat.{ℕ, _+_, _*_, _%_, _≤_}
 use lib.ListN.{length, drop}
 use Rattle.refusal.specs.declared.Refusal.{Refusal}
 use Rattle.refusal.specs.Checks.{first}
@@ -20,6 +20,10 @@ use Rattle.write_data_spec.specs.Rules.{w1, w2, w3, w4, ruleChecks, countCheck}
 use Rattle.write_data_spec.specs.Answers.{fieldFault, fieldChecks, verdict}
 
 -- ---- one beat
+
+-- the octets of a record on the widest bus
+abbrev pub sizeMost : ℕ
+sizeMost = 17
 
 -- a record of a beat: so long, and no bit is set that must be zero
 pub record BeatRecord (bus : ℕ) (r : List ℕ) : Type 0 where

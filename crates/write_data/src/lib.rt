@@ -10,16 +10,15 @@ use words::widen4;
 use write_data_spec::WriteVerdict;
 ghost use mathlib.Core.Path.{_≡_};
 ghost use mathlib.Core.Bool.{true};
-ghost use Prim.Native.Nat.{_+_, _-_, _*_, _≤_, _<_, min};
+ghost use Prim.Native.Nat.{_-_, _*_, _≤_, _<_, min};
 ghost use lib.ListN.{length};
-ghost use Rattle.stream_spec.specs.Layout.{bit};
 ghost use Rattle.burst_spec.specs.Address.{beats, beatOf};
 ghost use Rattle.burst_spec.specs.Answers.{judgementFor};
 ghost use Rattle.burst_spec.specs.Checks.{busMost, busAllowed};
 ghost use Rattle.burst_spec.specs.Legal.{Accepted};
-ghost use Rattle.write_data_spec.specs.Layout.{lanesEach, strobesAt, beatSize, writeBeats, wlast, strobe, countBelow, highStrobes};
+ghost use Rattle.write_data_spec.specs.Layout.{lanesEach, strobesAt, beatSize, writeBeats, wlast, highStrobes};
 ghost use Rattle.write_data_spec.specs.Answers.{lengthFault, fieldFault, writeRefusal, WritesJudged};
-ghost use Rattle.write_data.specs.Scan.{BeatRecord, octetStray, strayBelow, octetHigh, lowestRule, Whole, faultFrom, Judgeable, verdictFrom};
+ghost use Rattle.write_data.specs.Scan.{sizeMost, BeatRecord, octetStray, strayBelow, octetHigh, lowestRule, Whole, faultFrom, Judgeable, verdictFrom};
 
 // A beat record: octet 0 has WLAST in bit 0, the strobes follow, eight lanes to an octet.
 const FLAGS: usize = 0;
@@ -165,7 +164,8 @@ fn wlast(rec: &[u8]) -> bool
     rec[FLAGS] % 2 == 1
 }
 
-// W1 of a beat that the burst has: whether a strobe is high outside the beat's lanes. No such beat is refused.
+// W1 of a beat that the burst has: whether a strobe is high outside the beat's lanes. `burst::beat` refuses no such beat, so the
+// last line is never reached.
 fn stray(b: Burst, k: usize, rec: &[u8]) -> bool
     requires { ⌜ Accepted b × (k < beats b) × BeatRecord (b .bus) (now rec) ⌝ }
     ensures { λ r. ⌜ r ≡ strayBelow (b .bus) (now (rec .entry)) (beatOf b k .lower) (beatOf b k .upper) ⌝ }
@@ -178,7 +178,7 @@ fn stray(b: Burst, k: usize, rec: &[u8]) -> bool
 
 // Whether a strobe of a record is high outside these lanes.
 fn any_outside(rec: &[u8], lower: u32, upper: u32) -> bool
-    requires { ⌜ (1 ≤ length (now rec)) × (length (now rec) ≤ 17) × (upper < busMost) ⌝ }
+    requires { ⌜ (1 ≤ length (now rec)) × (length (now rec) ≤ sizeMost) × (upper < busMost) ⌝ }
     ensures { λ r. ⌜ r ≡ strayBelow (lanesEach * (length (now (rec .entry)) - strobesAt)) (now (rec .entry)) lower upper ⌝ }
 {
     let mut i = STROBES;

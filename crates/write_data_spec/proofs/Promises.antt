@@ -2,22 +2,25 @@
 use mathlib.Core.List.{List}
 use mathlib.Core.Logic.{_↔_}
 use mathlib.Core.Option.{none, some}
-use mathlib.Core.Path.{_≡_}
+use mathlib.Core.Path.{_≡_, refl}
 use Prim.Native.Nat.{ℕ}
 use Rattle.burst_spec.specs.declared.Burst.{Burst}
 use Rattle.write_data_spec.specs.declared.WriteVerdict.the-variants.{Broken}
 use Rattle.write_data_spec.specs.Layout.{writeBeats}
 use Rattle.write_data_spec.specs.Rules.{finding, firstFinding}
 use Rattle.write_data_spec.specs.Answers.{writeRefusal, writeAnswer}
-use Rattle.write_data_spec.specs.Promises.{StrobeBits, StrayExactly, BrokenExactly, CleanExactly, TooManyExactly, TooFewExactly}
+use Rattle.write_data_spec.specs.Promises.{LastBit, StrobeBits, StrayExactly, BrokenExactly, CleanSound, CleanExactly, TooManyExactly, TooFewExactly}
 use Rattle.write_data_spec.specs.Promises.{NothingRefused, RefusedAsJudged, LengthExactly, FieldExactly, FieldBits}
 use Rattle.write_data_spec.proofs.Strobes.{strobe-bits, stray-exactly, bits-exactly}
 use Rattle.write_data_spec.proofs.Findings.{earliest-exactly}
 use Rattle.write_data_spec.proofs.Answers.{clean-answer, broken-answer, refused-answer, refusal-judged}
 use Rattle.write_data_spec.proofs.Refusals.{nothing-refused, length-exactly, field-exactly}
-use Rattle.write_data_spec.proofs.Takes.{clean-exactly, too-many-exactly, too-few-exactly}
+use Rattle.write_data_spec.proofs.Takes.{sound-exactly, clean-exactly, too-many-exactly, too-few-exactly}
 
 -- ---- octets and findings
+
+pub lastBit : LastBit
+lastBit octet wstrb = refl
 
 pub strobeBits : StrobeBits
 strobeBits = strobe-bits
@@ -32,6 +35,12 @@ brokenExactly b xs p n =
     let first = earliest-exactly b (writeBeats (b .bus) xs) (finding p n) in
     let answer = broken-answer b xs p n in
     (λ e. let h = answer .0 e in (h .0, first .0 (h .1)), λ h. answer .1 (h .0, first .1 (h .1)))
+
+pub cleanSound : CleanSound
+cleanSound b xs n =
+    let take = sound-exactly b (writeBeats (b .bus) xs) in
+    let answer = clean-answer b xs n in
+    (λ e. let h = answer .0 e in let t = take .0 (h .1) in (h .0, t .0, t .1, h .2), λ h. answer .1 (h .0, take .1 (h .1, h .2), h .3))
 
 pub cleanExactly : CleanExactly
 cleanExactly b xs n =

@@ -1,6 +1,6 @@
 -- The refusals of a take in plain words: a burst's own come first, then LENGTH, then FIELD at the first bad record. Assumes nothing.
 use mathlib.Core.Bool.{Bool, true, false, not, cond, or-true}
-use mathlib.Core.List.{List, [], _∷_}
+use mathlib.Core.List.{List}
 use mathlib.Core.Logic.{_⊎_, inl, inr, _≢_}
 use mathlib.Core.Option.{Option, none, some}
 use mathlib.Core.Path.{_≡_, refl, sym, ap, _∙_, subst}
@@ -10,7 +10,7 @@ use native.Mathlib.Omega.{arith}
 use lib.Dec.{eqb, ltb}
 use lib.ListN.{length}
 use borrow.Author.Tests.{ltb-true, ltb-false, eqb-true, eqb-false, not-true, not-false, lt-ltb, le-ltb, eq-eqb, ne-eqb}
-use Rattle.refusal.specs.Checks.{Check, first}
+use Rattle.refusal.specs.Checks.{first}
 use Rattle.refusal.specs.Code.{codeOf}
 use Rattle.refusal.specs.declared.Refusal.{Refusal}
 use Rattle.refusal.specs.declared.Refusal.the-variants.{Length, Field}
@@ -21,6 +21,7 @@ use Rattle.stream_spec.proofs.RecordChecks.{FoundIn, each-all, all-each, each-a
 use Rattle.burst_spec.specs.declared.Burst.{Burst}
 use Rattle.burst_spec.specs.Answers.{judgementFor}
 use Rattle.burst_spec.specs.Checks.{checks}
+use Rattle.burst_spec.proofs.Answers.{own-number}
 use Rattle.burst_spec.proofs.Known.{clash}
 use Rattle.write_data_spec.specs.declared.WriteVerdict.the-variants.{Refused}
 use Rattle.write_data_spec.specs.Layout.{beatSize, writeBeats}
@@ -29,23 +30,6 @@ use Rattle.write_data_spec.specs.Promises.{IsAccepted, octetsEach, beat,
 use Rattle.write_data_spec.proofs.Answers.{refused-answer, refusal-judged, refusal-accepted}
 
 -- ---- a refusal below 7 is not the burst's own
-
--- checks that give 7 and on
-abbrev FromSeven : List (Check Refusal) → Type 0
-FromSeven [] = Unit
-FromSeven (c ∷ cs) = (7 ≤ codeOf (c .gives) .0) × FromSeven cs
-
-given-seven : (cs : List (Check Refusal)) (r : Refusal) → FromSeven cs → first cs ≡ some r → 7 ≤ codeOf r .0
-given-seven [] r h e = absurd (clash cc)
-given-seven (c ∷ cs) r h e = go (c .found) (given-seven cs r (h .1)) e
-  where
-    go : (t : Bool) → (first cs ≡ some r → 7 ≤ codeOf r .0) → cond t (some (c .gives)) (first cs) ≡ some r → 7 ≤ codeOf r .0
-    go true rest f = let same : c .gives ≡ r = cc in subst (λ (q : Refusal). 7 ≤ codeOf q .0) same (h .0)
-    go false rest f = rest f
-
-own-number : (b : Burst) (r : Refusal) → first (checks b) ≡ some r → 7 ≤ codeOf r .0
-own-number b r =
-    given-seven (checks b) r (omega arith, (omega arith, (omega arith, (omega arith, (omega arith, (omega arith, tt))))))
 
 after-own : (b : Burst) (xs : List ℕ) (r : Refusal) → codeOf r .0 < 7 → writeRefusal b xs ≡ some r
     → IsAccepted b × (first (takeChecks (b .bus) xs) ≡ some r)

@@ -72,9 +72,9 @@ octet-bits (o ∷ os) h x = go (octet-bits os (h .1)) (decLt x 8)
 
 pub strobe-bits : StrobeBits
 unfolding strobe
-strobe-bits last wstrb h x =
+strobe-bits octet wstrb h x =
     let next : 1 + x / 8 ≡ suc (x / 8) = omega arith in
-    ap (λ (i : ℕ). bit (x % 8) (getD (last ∷ wstrb) i 0)) next ∙ octet-bits wstrb h x
+    ap (λ (i : ℕ). bit (x % 8) (getD (octet ∷ wstrb) i 0)) next ∙ octet-bits wstrb h x
 
 -- ---- lanes
 

@@ -85,32 +85,37 @@ module _ (b : Burst) (k : ℕ) (r : List ℕ) where
 -- ---- all beats
 
 module _ (b : Burst) (rs : List (List ℕ)) where
-  clean-there : ((k n : ℕ) → Breaks b rs k n → ⊥) → CleanTake b rs
-  clean-there h = go (count (decLt (length rs) (beats b)) (decLt (beats b) (length rs)))
+  -- nothing breaks a rule: there are as many beats as the burst has, and none of them does
+  sound-there : ((k n : ℕ) → Breaks b rs k n → ⊥) → (length rs ≡ beats b) × Sound b rs (beats b)
+  sound-there h = let c = count (decLt (length rs) (beats b)) (decLt (beats b) (length rs)) in (c, sound c)
     where
       count : Dec (length rs < beats b) → Dec (beats b < length rs) → length rs ≡ beats b
       count (yes few) d = absurd (h (length rs) 5 (inr (refl, refl, few)))
       count (no n) (yes many) = absurd (h (beats b) 4 (inl (many, le-leb (beats b) (beats b) (omega arith))))
       count (no n) (no m) = omega arith
 
-      sound : length rs ≡ beats b → (k : ℕ) → k < beats b → (n : ℕ) → rule b k (beat rs k) n ≡ false
+      sound : length rs ≡ beats b → Sound b rs (beats b)
       sound c k l n = never (rule b k (beat rs k) n) (λ e. h k n (inl (omega arith, e)))
 
-      go : length rs ≡ beats b → CleanTake b rs
-      go c =
-          record {
-            count = c;
-            last = λ k l. marked b k (beat rs k) l (sound c k l 2) (sound c k l 3);
-            lanes = λ k x l. laned b k (beat rs k) l (sound c k l 1) x;
-          }
+  sound-back : length rs ≡ beats b → Sound b rs (beats b) → (k n : ℕ) → Breaks b rs k n → ⊥
+  sound-back c s k n (inr e) = omega (arith, e .1, e .2)
+  sound-back c s k n (inl e) = no-such (s k (omega (arith, e .0)) n) (e .1)
 
-  clean-back : CleanTake b rs → (k n : ℕ) → Breaks b rs k n → ⊥
-  clean-back c k n (inr e) = omega (arith, c .count, e .1, e .2)
-  clean-back c k n (inl e) = go n (e .1)
+  -- no finding is so, and the other way round
+  pub sound-exactly : (firstFinding b rs ≡ none) ↔ ((length rs ≡ beats b) × Sound b rs (beats b))
+  sound-exactly = (λ e. sound-there (no-finding-exactly b rs .0 e), λ h. no-finding-exactly b rs .1 (sound-back (h .0) (h .1)))
+
+  clean-there : (length rs ≡ beats b) × Sound b rs (beats b) → CleanTake b rs
+  clean-there h =
+      record {
+        count = h .0;
+        last = λ k l. marked b k (beat rs k) l (h .1 k l 2) (h .1 k l 3);
+        lanes = λ k x l. laned b k (beat rs k) l (h .1 k l 1) x;
+      }
+
+  clean-back : CleanTake b rs → Sound b rs (beats b)
+  clean-back c k within n = never (rule b k (beat rs k) n) (go n)
     where
-      within : k < beats b
-      within = omega (arith, c .count, e .0)
-
       go : (n : ℕ) → rule b k (beat rs k) n ≡ true → ⊥
       go zero h = no-such refl h
       go (suc zero) h = laned-not-stray b k (beat rs k) (λ x. c .lanes k x within) (stray-exactly b k (beat rs k) .0 h .1)
@@ -121,7 +126,7 @@ module _ (b : Burst) (rs : List (List ℕ)) where
 
   -- no finding is a clean take, and the other way round
   pub clean-exactly : (firstFinding b rs ≡ none) ↔ CleanTake b rs
-  clean-exactly = (λ e. clean-there (no-finding-exactly b rs .0 e), λ c. no-finding-exactly b rs .1 (clean-back c))
+  clean-exactly = (λ e. clean-there (sound-exactly .0 e), λ c. sound-exactly .1 (c .count, clean-back c))
 
   -- no beat before the earliest finding breaks a rule
   sound-before : (f : Finding) → IsEarliest b rs f → Sound b rs (f .place)

@@ -17,9 +17,9 @@ use Rattle.write_data_spec.specs.declared.WriteVerdict.the-variants.{Cle
 use Rattle.write_data_spec.specs.Layout.{beatSize, writeBeats, strobe, countBelow, allStrobes}
 use Rattle.write_data_spec.specs.Rules.{w1, finding}
 use Rattle.write_data_spec.specs.Answers.{fieldFault, writeRefusal, writeAnswer, WritesJudged}
-use Rattle.write_data_spec.specs.Promises.{IsAccepted, beat, Breaks, IsEarliest, Sound, Stray, CleanTake, WellFormed, FirstBad, StrobeAbove}
+use Rattle.write_data_spec.specs.Promises.{IsAccepted, beat, rule, Breaks, IsEarliest, Sound, Stray, CleanTake, WellFormed, FirstBad, StrobeAbove}
 use Rattle.write_data_spec.proofs.Answers.{judged-is}
-use Rattle.write_data_spec.proofs.Promises.{strobeBits, strayExactly, brokenExactly, cleanExactly, tooManyExactly, tooFewExactly}
+use Rattle.write_data_spec.proofs.Promises.{strobeBits, strayExactly, brokenExactly, cleanSound, cleanExactly, tooManyExactly, tooFewExactly}
 use Rattle.write_data_spec.proofs.Promises.{nothingRefused, refusedAsJudged, lengthExactly, fieldExactly, fieldBits}
 
 -- ---- findings: 01's B1, whose lanes are 2-3, 0-3 and 0-3
@@ -97,6 +97,14 @@ legal-lane = legal-take .1 .lanes 2 5 (omega arith) (omega arith) refl
 
 pub legal-clean : writeAnswer wrapping legal ≡ Clean 16
 legal-clean = cleanExactly wrapping legal 16 .1 legal-take
+
+-- no beat of it breaks W2
+pub legal-sound : rule wrapping 2 (0x00 ∷ 0xF0 ∷ []) 2 ≡ false
+unfolding beatSize
+legal-sound = cleanSound wrapping legal 16 .0 legal-clean .2 2 (omega arith) 2
+
+pub legal-again : writeAnswer wrapping legal ≡ Clean 16
+legal-again = cleanSound wrapping legal 16 .1 (cleanSound wrapping legal 16 .0 legal-clean)
 
 -- ---- one burst of two beats, and takes of it
 

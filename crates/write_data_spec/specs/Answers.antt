@@ -1,17 +1,17 @@
 -- What judging write beats answers, over all its arguments; and the numbers that each answer shows (paper 02, T-05; paper 01,
 -- 'How much each answer must say'). The contract of the call cites these definitions.
-use mathlib.Core.Bool.{Bool, not, _||_}
+use mathlib.Core.Bool.{Bool, _||_}
 use mathlib.Core.List.{List, [], _∷_, _++_}
 use mathlib.Core.Option.{Option, none, some}
 use mathlib.Core.Path.{_≡_}
-use Prim.Native.Nat.{ℕ, _+_, _-_, _*_, _%_}
-use lib.Dec.{eqb, leb, ltb}
-use lib.ListN.{length}
+use Prim.Native.Nat.{ℕ, _+_, _-_, _*_}
+use lib.Dec.{leb}
 use Rattle.refusal.specs.Checks.{Check, check, first}
 use Rattle.refusal.specs.Code.{codeOf}
 use Rattle.refusal.specs.declared.Refusal.{Refusal}
 use Rattle.refusal.specs.declared.Refusal.the-variants.{Length, Field}
-use Rattle.stream_spec.specs.Checks.{captureMost, each}
+use Rattle.stream_spec.specs.Checks as streams
+use Rattle.stream_spec.specs.Checks.{each}
 use Rattle.burst_spec.specs.declared.Burst.{Burst}
 use Rattle.burst_spec.specs.Checks.{someBelow, checks}
 use Rattle.write_data_spec.specs.declared.WriteVerdict.{WriteVerdict}
@@ -21,9 +21,9 @@ use Rattle.write_data_spec.specs.Rules.{Finding, firstFinding}
 
 -- ---- refusals: "the burst's own, then LENGTH, then FIELD at the first record with a bit set that must be zero"
 
--- 2: "input is over 65,536 octets or no whole number of records" (01)
+-- 2: "input is over 65,536 octets or no whole number of records", as 01's table has it
 abbrev pub lengthFault : ℕ → List ℕ → Bool
-lengthFault bus xs = ltb captureMost (length xs) || not (eqb (length xs % beatSize bus) 0)
+lengthFault bus xs = streams.lengthFault (beatSize bus) xs
 
 -- the strobe bits of a beat "at or above the bus": of a bus of 1, 2 or 4 bytes the others of its octet, else none
 abbrev pub strobeFault : ℕ → List ℕ → Bool

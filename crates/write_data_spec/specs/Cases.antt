@@ -85,8 +85,8 @@ lasts =
     ∷ breaks b1 (0x01 ∷ 0x0F ∷ 0x00 ∷ 0x0F ∷ 0x01 ∷ 0x0F ∷ []) 1 0
     -- W15: W1 before W3 in a beat
     ∷ breaks b3 (0x00 ∷ 0xF0 ∷ 0x00 ∷ 0x0F ∷ 0x00 ∷ 0xF0 ∷ 0x00 ∷ 0xFF ∷ []) 1 3
-    -- W16: an earlier W2 before a later W1
-    ∷ breaks b1 (0x01 ∷ 0x0C ∷ 0x00 ∷ 0x0F ∷ 0x01 ∷ 0x0F ∷ []) 2 0
+    -- W16: an earlier W2 before a later W1: the beat decides before the rule
+    ∷ breaks b2 (0x01 ∷ 0x0C ∷ 0x01 ∷ 0x0F ∷ []) 2 0
     -- W17: W4
     ∷ breaks two (0x00 ∷ 0x0F ∷ 0x01 ∷ 0x0F ∷ 0x00 ∷ 0x00 ∷ []) 4 2
     -- W18: with WLAST and a strobe it is W4 still, and the first of several
@@ -111,7 +111,7 @@ lasts =
     ∷ breaks one [] 5 0
     ∷ []
 
--- one beat as wide as the bus, or half as wide
+-- the other buses, a beat each but for W36
 abbrev pub buses : List Case
 buses =
     -- W27: bus 1

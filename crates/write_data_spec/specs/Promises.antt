@@ -29,6 +29,10 @@ IsAccepted b = judgement b ≡ judged.Accepted
 abbrev pub octetsEach : ℕ → ℕ
 octetsEach bus = 1 + (bus + 7) / 8
 
+-- "one octet with bit 0 WLAST"
+abbrev pub LastBit : Type 0
+LastBit = (octet : ℕ) (wstrb : List ℕ) → wlast (octet ∷ wstrb) ≡ bit 0 octet
+
 -- octets as one number, low octet first
 abbrev pub lowFirst : List ℕ → ℕ
 lowFirst [] = 0
@@ -36,7 +40,7 @@ lowFirst (x ∷ xs) = x + 256 * lowFirst xs
 
 -- "WSTRB with lane 0 in the lowest bit": the strobe of lane x is bit x of the number that the octets behind the first one make
 abbrev pub StrobeBits : Type 0
-StrobeBits = (last : ℕ) (wstrb : List ℕ) → Octets wstrb → (x : ℕ) → strobe (last ∷ wstrb) x ≡ bit x (lowFirst wstrb)
+StrobeBits = (octet : ℕ) (wstrb : List ℕ) → Octets wstrb → (x : ℕ) → strobe (octet ∷ wstrb) x ≡ bit x (lowFirst wstrb)
 
 -- record k of a take
 abbrev pub beat : List (List ℕ) → ℕ → List ℕ
@@ -85,13 +89,22 @@ StrayExactly = (b : Burst) (k : ℕ) (r : List ℕ) → (w1 b k r ≡ true) ↔ 
 
 -- ---- the answers
 
+-- "A clean answer gives the number of high strobes": given exactly where nothing is refused, there are as many beats as the burst has, and
+-- none of them breaks a rule
+abbrev pub CleanSound : Type 0
+CleanSound =
+    (b : Burst) (xs : List ℕ) (n : ℕ)
+    → (writeAnswer b xs ≡ Clean n)
+    ↔ ((writeRefusal b xs ≡ none) × (length (writeBeats (b .bus) xs) ≡ beats b) × Sound b (writeBeats (b .bus) xs) (beats b)
+    × (n ≡ allStrobes (b .bus) (writeBeats (b .bus) xs)))
+
 -- what is so of a clean take: as many beats as the burst has, WLAST on the last one alone, every high strobe on a lane of its beat
 pub record CleanTake (b : Burst) (rs : List (List ℕ)) : Type 0 where
   pub count : length rs ≡ beats b
   pub last : (k : ℕ) → k < beats b → wlast (beat rs k) ≡ eqb (k + 1) (beats b)
   pub lanes : (k x : ℕ) → k < beats b → x < b .bus → strobe (beat rs k) x ≡ true → (beatOf b k .lower ≤ x) × (x ≤ beatOf b k .upper)
 
--- "A clean answer gives the number of high strobes", and is given exactly where nothing is refused and the take is so
+-- clean exactly where nothing is refused and the take is so
 abbrev pub CleanExactly : Type 0
 CleanExactly =
     (b : Burst) (xs : List ℕ) (n : ℕ)

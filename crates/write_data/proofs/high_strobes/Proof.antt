@@ -1,8 +1,8 @@
 -- `write_data::high_strobes` meets its contract: up to octet i so many strobes are high. Assumes nothing.
-use Prim.Native.Nat.{_-_, _≤_}
+use Prim.Native.Nat.{_-_}
 use native.Mathlib.Omega.{arith}
 use lib.ListN.{length}
-use Rattle.write_data.proofs.Fields.{Fits, bus-fits, size-is}
+use Rattle.write_data.proofs.Fields.{bus-fits, size-is}
 use Rattle.write_data.proofs.Lanes.{Counting, counting-start, counting-most, counting-next, counting-end}
 use Rattle.write_data.proofs.high_strobes.Statement.{statement}
 use Rattle.write_data.proofs.high_strobes.Tie as tie

@@ -1,5 +1,5 @@
 -- `write_data::judge_take` meets its contract: the burst's own refusals, then the length, then the fields. Assumes nothing.
-use mathlib.Core.Path.{_≡_, sym, _∙_}
+use mathlib.Core.Path.{sym, _∙_}
 use Rattle.burst_spec.specs.Legal.{Accepted}
 use Rattle.burst_spec.proofs.Answers.{accepted-exactly}
 use Rattle.write_data_spec.specs.Promises.{IsAccepted}

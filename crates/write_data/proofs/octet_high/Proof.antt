@@ -1,6 +1,5 @@
 -- `write_data::octet_high` meets its contract. Assumes nothing.
 use mathlib.Core.Path.{ap, _∙_}
-use Prim.Native.Nat.{ℕ, _+_, _/_, _%_}
 use native.Mathlib.Omega.{arith}
 use Rattle.write_data.specs.Scan.{octetHigh}
 use Rattle.write_data.proofs.Octets.{high-sum}
