@@ -89,7 +89,7 @@ fn full_take(b: Burst, beats: usize) -> Vec<u8> {
     take
 }
 
-/// Random bursts, most of them accepted; their beats, some too few or too many; and these with bits turned.
+/// Random bursts, most of them accepted; their beats, some too few or too many, or an octet short; and these with bits turned.
 fn check() {
     let (seed, mut refused, mut rules) = (&mut 11, [0; 13], [0; 6]);
     for round in 0..30_000 {
@@ -103,7 +103,11 @@ fn check() {
             let at = below(seed, take.len() as u64) as usize;
             take[at] ^= 1 << below(seed, 8);
         }
-        if round % 16 == 0 { b[below(seed, 5) as usize] = below(seed, 300) as u32; }
+        match round % 16 {
+            0 => b[below(seed, 5) as usize] = below(seed, 300) as u32,
+            1 => { take.pop(); }
+            _ => {}
+        }
         let (mine, theirs) = (ours(b, &take), plain(b, &take));
         if mine != theirs {
             println!("judge_writes is not like the yardstick: {b:?} take {}: {mine:?} {theirs:?}", take.len());

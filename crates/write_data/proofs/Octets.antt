@@ -5,18 +5,19 @@ use Prim.Native.Nat.{ℕ, zero, suc, _+_, _-_, _*_, _/_, _%_, _^_, _≤_, _<_, m
 use native.Mathlib.Decide.{decLe, decLt}
 use native.Mathlib.Nat.{pow-suc}
 use native.Mathlib.Omega.{arith}
-use borrow.Author.Tests.{eqb-false, ne-eqb, le-leb, lt-leb, leb-true, leb-false}
+use borrow.Author.Tests.{eqb-true, eqb-false, ne-eqb, le-leb, lt-leb, leb-true, leb-false, not-false}
 use lib.Arith.{mod-mul}
-use lib.Dec.{leb}
+use lib.Bits.{bitAnd, and-le-l, and-le-r}
+use lib.Dec.{leb, eqb}
 use lib.Pow.{pow-pos}
-use Rattle.stream_spec.specs.Layout.{bit, odd, bitOf}
+use Rattle.stream_spec.specs.Layout.{bit, odd}
 use Rattle.stream_spec.specs.Promises.{SetAbove}
-use Rattle.stream_spec.proofs.Bits.{bit-zero, bit-suc, odd-number}
-use Rattle.stream_spec.proofs.Bools.{no-such}
+use Rattle.stream_spec.proofs.Bits.{bit-zero, bit-suc}
+use Rattle.stream_spec.proofs.Bools.{no-such, and-left, and-right}
 use Rattle.stream_spec.proofs.Promises.{fieldBits}
 use Rattle.stream_record.proofs.Field.{shifted}
-use Rattle.burst_spec.specs.Checks.{between}
-use Rattle.burst_spec.proofs.Below.{none-below}
+use Rattle.burst_spec.specs.Checks.{between, someBelow}
+use Rattle.burst_spec.proofs.Below.{none-below, each-below}
 use Rattle.write_data_spec.specs.Layout.{countBelow}
 use Rattle.write_data.specs.Scan.{octetStray, octetHigh}
 use Rattle.write_data_spec.proofs.Sums.{some-at}
@@ -93,6 +94,17 @@ module _ (octet lane lower upper : ℕ) where
   low-bit : (x : ℕ) → bit x octet ≡ false → strays x ≡ false
   low-bit x e = rw e refl
 
+  -- no strobe is high
+  pub stray-zero : octet ≡ 0 → octetStray octet lane lower upper ≡ false
+  stray-zero e = none-below 8 strays (λ x l. low-bit x (low-none 8 octet (rw e refl) x l))
+
+  -- all lanes are inside
+  pub stray-inside : (leb lower lane && leb (lane + 8) (upper + 1)) ≡ true → octetStray octet lane lower upper ≡ false
+  stray-inside e =
+      let h = leb-true lower lane (and-left (leb lower lane) (leb (lane + 8) (upper + 1)) e) in
+      let l = leb-true (lane + 8) (upper + 1) (and-right (leb lower lane) (leb (lane + 8) (upper + 1)) e) in
+      none-below 8 strays (λ x m. inside x (omega arith) (omega arith))
+
   -- neither
   pub stray-none : (n m : ℕ) → n ≡ min 8 (lower - lane) → m ≡ min 8 (upper + 1 - lane) → octet % 2 ^ n ≡ 0 → octet < 2 ^ m
       → octetStray octet lane lower upper ≡ false
@@ -125,11 +137,28 @@ module _ (octet lane lower upper x n : ℕ) (e : x ≡ octet) (small : x < 256) 
 
 -- ---- an octet's high strobes
 
-place : (x octet : ℕ) → bitOf (bit x octet) ≡ octet / 2 ^ x % 2
-place x octet = odd-number (octet / 2 ^ x)
+-- two bits, four bits and eight bits at a time, as the code adds them up
+abbrev pub twos : ℕ → ℕ
+twos o = o - bitAnd (o / 2) 0x55
 
--- the eight bits, as the code adds them up
-pub high-sum : (o : ℕ)
-    → o % 2 + o / 2 % 2 + o / 4 % 2 + o / 8 % 2 + (o / 16 % 2 + o / 32 % 2 + o / 64 % 2 + o / 128 % 2) ≡ octetHigh o
-unfolding countBelow
-high-sum o = rw (place 0 o, place 1 o, place 2 o, place 3 o, place 4 o, place 5 o, place 6 o, place 7 o) (omega arith)
+abbrev pub fours : ℕ → ℕ
+fours o = bitAnd (twos o) 0x33 + bitAnd (twos o / 4) 0x33
+
+abbrev pub added : ℕ → ℕ
+added o = bitAnd (fours o + fours o / 16) 0xF
+
+-- all 256 octets, by computing
+every-octet : someBelow 256 (λ o. not (eqb (added o) (octetHigh o))) ≡ false
+unfolding someBelow countBelow
+every-octet = refl
+
+pub high-added : (o : ℕ) → o < 256 → added o ≡ octetHigh o
+high-added o l =
+    eqb-true (added o) (octetHigh o) (not-false (eqb (added o) (octetHigh o)) (each-below 256 (λ x. not (eqb (added x) (octetHigh x))) every-octet o l))
+
+-- what is subtracted is there, and no sum is large
+pub half-fits : (o : ℕ) → bitAnd (o / 2) 0x55 ≤ o
+half-fits o = omega (arith, and-le-l (o / 2) 0x55)
+
+pub fours-few : (o : ℕ) → fours o ≤ 0x66
+fours-few o = omega (arith, and-le-r (twos o) 0x33, and-le-r (twos o / 4) 0x33)

@@ -9,8 +9,9 @@ use stream_record::layout::CAPTURE_MOST;
 use words::widen4;
 use write_data_spec::WriteVerdict;
 ghost use mathlib.Core.Path.{_≡_};
-ghost use mathlib.Core.Bool.{true};
-ghost use Prim.Native.Nat.{_-_, _*_, _≤_, _<_, min};
+ghost use mathlib.Core.Bool.{true, _&&_};
+ghost use Prim.Native.Nat.{_+_, _-_, _*_, _≤_, _<_, min};
+ghost use lib.Dec.{leb};
 ghost use lib.ListN.{length};
 ghost use Rattle.burst_spec.specs.Address.{beats, beatOf};
 ghost use Rattle.burst_spec.specs.Answers.{judgementFor};
@@ -193,12 +194,18 @@ fn any_outside(rec: &[u8], lower: u32, upper: u32) -> bool
     false
 }
 
-// The same of one octet, whose lowest strobe is that of `lane`: the strobes below the lower lane are its remainder, and those above the
-// upper lane make it large.
+// The same of one octet, whose lowest strobe is that of `lane`. Most octets are 0 or have all their lanes inside; else the strobes below
+// the lower lane are its remainder, and those above the upper lane make it large.
 fn octet_outside(octet: u8, lane: u32, lower: u32, upper: u32) -> bool
-    requires { ⌜ upper < busMost ⌝ }
+    requires { ⌜ (lane ≤ busMost) × (upper < busMost) ⌝ }
     ensures { λ r. ⌜ r ≡ octetStray octet lane lower upper ⌝ }
 {
+    if octet == 0 {
+        return false;
+    }
+    if all_inside(lane, lower, upper) {
+        return false;
+    }
     let strobes = widen4(octet);
     let below = lanes_below(lower, lane);
     if strobes % (1u32 << below) != 0 {
@@ -206,6 +213,17 @@ fn octet_outside(octet: u8, lane: u32, lower: u32, upper: u32) -> bool
     }
     let end = lanes_below(upper + 1, lane);
     1u32 << end <= strobes
+}
+
+// Whether the eight lanes from `lane` on lie from lower to upper.
+fn all_inside(lane: u32, lower: u32, upper: u32) -> bool
+    requires { ⌜ (lane ≤ busMost) × (upper < busMost) ⌝ }
+    ensures { λ r. ⌜ r ≡ (leb lower lane && leb (lane + lanesEach) (upper + 1)) ⌝ }
+{
+    if lane < lower {
+        return false;
+    }
+    lane + LANES_EACH <= upper + 1
 }
 
 // How many of the eight lanes from `lane` on lie below this one.
@@ -236,12 +254,12 @@ fn high_strobes(bus: u32, rec: &[u8]) -> usize
     n
 }
 
-// The high strobes of one octet.
+// The high strobes of one octet: of each two bits, then of each four, then of all eight, side by side in one number.
 fn octet_high(octet: u8) -> usize
     ensures { λ r. ⌜ (r ≡ octetHigh octet) × (r ≤ lanesEach) ⌝ }
 {
     let x = widen4(octet);
-    let first = x % 2 + x / 2 % 2 + x / 4 % 2 + x / 8 % 2;
-    let others = x / 0x10 % 2 + x / 0x20 % 2 + x / 0x40 % 2 + x / 0x80 % 2;
-    (first + others) as usize
+    let twos = x - (x / 2 & 0x55);
+    let fours = (twos & 0x33) + (twos / 4 & 0x33);
+    (fours + fours / 0x10 & 0xF) as usize
 }

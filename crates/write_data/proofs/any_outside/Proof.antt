@@ -19,7 +19,10 @@ shared-slice-read-octet-outside : tie.Need-shared-slice-read-octet-outside Inv-l
 shared-slice-read-octet-outside c = c .before .loop-test .taken
 
 octet-outside-requires : tie.Need-octet-outside-requires Inv-loop μ-loop
-octet-outside-requires c κs = c .before .before .before .before .pre .2
+octet-outside-requires c κs =
+    let t = c .before .before in
+    let s = t .before .before in
+    (omega (arith, t .loop .inv .at, t .loop .inv .within, s .pre .1), s .pre .2)
 
 returns : tie.Need-returns Inv-loop μ-loop
 returns c =

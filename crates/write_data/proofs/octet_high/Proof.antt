@@ -1,53 +1,37 @@
--- `write_data::octet_high` meets its contract. Assumes nothing.
+-- `write_data::octet_high` meets its contract: what it adds up was computed for every octet. Assumes nothing.
 use mathlib.Core.Path.{ap, _∙_}
+use Prim.Native.Nat.{_+_, _/_}
 use native.Mathlib.Omega.{arith}
-use Rattle.write_data.specs.Scan.{octetHigh}
-use Rattle.write_data.proofs.Octets.{high-sum}
+use lib.Bits.{and-le-r}
 use borrow.Author.Needs.{needs}
+use Rattle.stream_spec.specs.Layout.{bit}
+use Rattle.write_data_spec.proofs.Sums.{count-most}
+use Rattle.write_data.specs.Scan.{octetHigh}
+use Rattle.write_data.proofs.Octets.{fours, high-added, half-fits, fours-few}
 use Rattle.write_data.proofs.octet_high.Statement.{statement}
 use Rattle.write_data.proofs.octet_high.Tie as tie
 
 widen4-requires : tie.Need-widen4-requires
 widen4-requires c κs = search needs
 
-add-first : tie.Need-add-first
-add-first c = search needs
+sub-twos : tie.Need-sub-twos
+sub-twos c = half-fits (c .widen4 .result)
 
-add-first-2 : tie.Need-add-first-2
-add-first-2 c = search needs
-
-add-first-3 : tie.Need-add-first-3
-add-first-3 c = search needs
-
-add-others : tie.Need-add-others
-add-others c = search needs
-
-add-others-2 : tie.Need-add-others-2
-add-others-2 c = search needs
-
-add-others-3 : tie.Need-add-others-3
-add-others-3 c = search needs
+add-fours : tie.Need-add-fours
+add-fours c = omega (arith, fours-few (c .widen4 .result))
 
 add-result : tie.Need-add-result
-add-result c = search needs
+add-result c = omega (arith, fours-few (c .widen4 .result))
 
 cast-result : tie.Need-cast-result
-cast-result c = search needs
+cast-result c = let x = c .widen4 .result in omega (arith, and-le-r (fours x + fours x / 16) 15)
 
 returns : tie.Need-returns
-returns c = (high-sum (c .widen4 .result) ∙ ap octetHigh (c .widen4 .ensures .0), omega arith)
+returns c =
+    let x = c .widen4 .result in
+    let sum = high-added x (c .widen4 .ensures .1) in
+    (sum ∙ ap octetHigh (c .widen4 .ensures .0), omega (arith, sum, count-most 8 (λ i. bit i x)))
 
 pub octet-high-spec : {M : Type 1} → statement M
 octet-high-spec =
-    tie.close
-    (tie.spec
-    widen4-requires
-    add-first
-    add-first-2
-    add-first-3
-    add-others
-    add-others-2
-    add-others-3
-    add-result
-    cast-result
-    returns)
+    tie.close (tie.spec widen4-requires sub-twos add-fours add-result cast-result returns)
