@@ -1,11 +1,10 @@
 //! The library's repack against the yardstick, in one process. First all must agree, in the answer and in the whole of
 //! the lent output: on edge cases, on random takes and on every take that is measured. Then the times, a line a case;
 //! `rust_us` is the fastest yardstick shape in that case. With the word `shapes`, each shape's time stands below.
-//! cycles.rs does the same for judge and harvest, and writes.rs for write beats, before repack's lines.
+//! cycles.rs does the same for judge and harvest, before repack's lines; writes.rs, a program of its own, for write beats.
 #[macro_use]
 mod yardstick;
 mod cycles;
-mod writes;
 use std::{hint::black_box, time::Instant};
 use yardstick::{Answer, Converter, SHAPES};
 
@@ -131,7 +130,6 @@ fn main() {
     let shapes = std::env::args().any(|word| word == "shapes");
     let all = [&SHAPES[..], &[("ours", ours)]].concat();
     cycles::run();
-    writes::run();
     check(&all);
     let mut cases = Vec::new();
     for i in 0..81 {

@@ -1,6 +1,6 @@
 //! Judging write beats: the plain safe-Rust yardstick, the check that it and the library answer alike, and the times. The
 //! yardstick has a beat's strobes and its lanes as numbers of 128 bits, and makes the next beat's address from the last.
-use crate::{ROUNDS, below};
+//! A program of its own: beside repack's loops it would move them to other places, which alone costs some a tenth.
 use std::{hint::black_box, time::Instant};
 
 #[repr(C)]
@@ -17,10 +17,19 @@ type Burst = [u32; 5];
 const FIXED: u32 = 0;
 const INCR: u32 = 1;
 const WRAP: u32 = 2;
+const ROUNDS: usize = 201;
 const CALLS: usize = 50; // that are timed together, since one is short
 
 fn answer(refusal: u32, rule: u32, place: usize, strobes: usize) -> WriteAnswer {
     WriteAnswer { refusal, rule, place: place as u64, strobes: strobes as u64 }
+}
+
+/// A random number below n (xorshift): the same ones in every run.
+fn below(seed: &mut u64, n: u64) -> u64 {
+    *seed ^= *seed << 13;
+    *seed ^= *seed >> 7;
+    *seed ^= *seed << 17;
+    *seed % n
 }
 
 fn ours(b: Burst, take: &[u8]) -> WriteAnswer {
@@ -140,7 +149,7 @@ const CASES: [(Burst, usize); 8] = [
     ([0x1000, 255, 4, INCR, 128], 256), ([0x1000, 255, 3, INCR, 8], 32_768),
 ];
 
-pub fn run() {
+fn main() {
     check();
     println!("judge_writes: the library and the yardstick answer alike in every case");
     let mut worst = 0f64;

@@ -1,5 +1,5 @@
--- The numbers of a burst's, a cut's, a write verdict's and a stream's answer as C sees them, against paper 01's numbers that the calls' definitions
--- give, and how a number that C hands over stands for a bool. The report is in Reports.
+-- The numbers of a burst's, a cut's, a write verdict's and a stream's answer as C sees them, against paper 01's numbers that the
+-- calls' definitions give, and how a number that C hands over stands for a bool. The report is in Reports.
 use mathlib.Core.Path.{_≡_}
 use mathlib.Core.Bool.{Bool, not}
 use mathlib.Core.List.{List}

@@ -259,7 +259,7 @@ fn octet_high(octet: u8) -> usize
     ensures { λ r. ⌜ (r ≡ octetHigh octet) × (r ≤ lanesEach) ⌝ }
 {
     let x = widen4(octet);
-    let twos = x - (x / 2 & 0x55);
-    let fours = (twos & 0x33) + (twos / 4 & 0x33);
-    (fours + fours / 0x10 & 0xF) as usize
+    let twos = x - ((x / 2) & 0x55);
+    let fours = (twos & 0x33) + ((twos / 4) & 0x33);
+    ((fours + fours / 0x10) & 0xF) as usize
 }
