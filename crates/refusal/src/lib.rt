@@ -1,4 +1,4 @@
-// The refusals of paper 01's table 'Refusal numbers', and the numbers that each one shows to a user.
+// The refusals of paper 01's table 'Refusal numbers' and of paper 02, and the numbers that each one shows to a user.
 // Every call of the library that can refuse answers with this enum inside its own answer. Which call gives which
 // refusal, and in which order, is not here: it stands in the definitions of the calls (stream_spec, burst_spec, axi3_spec, report_setup_spec, report_spec).
 ghost use mathlib.Core.Path.{_≡_};
@@ -34,8 +34,10 @@ pub enum Refusal {
     Index,
     // 14 UNCLEAN: harvest of a take in which this cycle breaks this rule, 1 to 4
     Unclean(usize, u32),
-    // 15 SHEET: the setup sheet is not as paper 01 has it
+    // 15 SHEET: the setup sheet is not as papers 01 and 02 have it
     Setup,
+    // 16 USERBITS: more than 4 user bits to a byte
+    UserBits,
 }
 
 // What a refusal shows, in this order: its number in the table, its place (a record or a cycle), the handshake rule.
@@ -62,5 +64,6 @@ pub fn code_of(r: Refusal) -> Code
         Refusal::Index => Code(13, 0, 0),
         Refusal::Unclean(cycle, rule) => Code(14, cycle, rule),
         Refusal::Setup => Code(15, 0, 0),
+        Refusal::UserBits => Code(16, 0, 0),
     }
 }

@@ -2,21 +2,25 @@
 -- refusal it gives. A call lists its checks in 01's order, and the first fault that is there is what it answers.
 use mathlib.Core.Bool.{Bool, not, _||_}
 use mathlib.Core.List.{List, [], _∷_, _++_, map}
-use Prim.Native.Nat.{ℕ, suc, _%_, _^_, _≤_, _<_}
+use Prim.Native.Nat.{ℕ, suc, _*_, _%_, _^_, _≤_, _<_}
 use lib.Dec.{eqb, leb, ltb}
 use lib.ListN.{length}
 use Rattle.refusal.specs.Checks.{Check, check}
 use Rattle.refusal.specs.declared.Refusal.{Refusal}
-use Rattle.refusal.specs.declared.Refusal.the-variants.{Width, Length, Field, Reserved, Room, Ratio, Index}
+use Rattle.refusal.specs.declared.Refusal.the-variants.{Width, UserBits, Length, Field, Reserved, Room, Ratio, Index}
 use Rattle.stream_spec.specs.declared.Shape.{Shape}
-use Rattle.stream_spec.specs.Layout.{widthMost, tdestMost, size, flags, pairOf, tkeep, tstrb, laneTypes, anyReserved, recordCount}
+use Rattle.stream_spec.specs.Layout.{widthMost, userMost, tdestMost, size, flags, pairOf, tkeep, tstrb, userNumber, laneTypes, anyReserved, recordCount}
 
 -- 1: "a width is 0 or above 16". A call has the width of its input, and perhaps a width of its output.
 abbrev pub widthCheck : ℕ → Check Refusal
 widthCheck w = check (eqb w 0 || ltb widthMost w) Width
 
+-- 16 (T-06): "m above 4, straight after WIDTH in every call that gives WIDTH"
+abbrev pub userCheck : Shape → Check Refusal
+userCheck s = check (ltb userMost (s .user)) UserBits
+
 abbrev pub shapeChecks : Shape → List ℕ → List (Check Refusal)
-shapeChecks s outputs = map widthCheck (s .width ∷ outputs)
+shapeChecks s outputs = map widthCheck (s .width ∷ outputs) ++ userCheck s ∷ []
 
 -- 6: "downsizing: v doesn't divide w"
 abbrev pub ratioCheck : Shape → ℕ → Check Refusal
@@ -43,12 +47,16 @@ indexCheck s xs k = check (leb (recordCount s xs) k) Index
 
 -- 3: "a bit that must be zero is set, or TDEST is above 15". Of octet 0 a cycle record uses four flags and "a transfer
 -- record has octet 0 equal to 0 or 1"; of TKEEP and TSTRB "bits at or above w" are zero. Told of the numbers in a record's
--- head, which are octet 0, TDEST, TKEEP and TSTRB, and of a record.
+-- head, which are octet 0, TDEST, TKEEP and TSTRB.
 abbrev pub headFault : ℕ → Shape → ℕ → ℕ → ℕ → ℕ → Bool
 headFault used s f d k t = leb (2 ^ used) f || ltb tdestMost d || leb (2 ^ s .width) k || leb (2 ^ s .width) t
 
+-- T-06: "FIELD covers the padding", which is the user bits at or above w*m, and no bit of a lane
+abbrev pub userFault : Shape → List ℕ → Bool
+userFault s r = leb (2 ^ (s .width * s .user)) (userNumber s r)
+
 abbrev pub fieldFault : ℕ → Shape → List ℕ → Bool
-fieldFault used s r = headFault used s (flags r) (pairOf r .tdest) (tkeep r) (tstrb r)
+fieldFault used s r = headFault used s (flags r) (pairOf r .tdest) (tkeep r) (tstrb r) || userFault s r
 
 -- the same as facts: what numbers without that fault are. Both ways in proofs/Fields.
 pub record HeadFits (used : ℕ) (s : Shape) (f d k t : ℕ) : Type 0 where
@@ -57,8 +65,9 @@ pub record HeadFits (used : ℕ) (s : Shape) (f d k t : ℕ) : Type 0 where
   pub keep : k < 2 ^ s .width
   pub strb : t < 2 ^ s .width
 
-abbrev pub Fields : ℕ → Shape → List ℕ → Type 0
-Fields used s r = HeadFits used s (flags r) (pairOf r .tdest) (tkeep r) (tstrb r)
+pub record Fields (used : ℕ) (s : Shape) (r : List ℕ) : Type 0 where
+  pub head : HeadFits used s (flags r) (pairOf r .tdest) (tkeep r) (tstrb r)
+  pub user : userNumber s r < 2 ^ (s .width * s .user)
 
 abbrev pub cycleFlags : ℕ
 cycleFlags = 4

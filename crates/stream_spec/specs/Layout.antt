@@ -1,11 +1,12 @@
--- The octets of a record (paper 01, 'One record of a take'; Arm IHI 0051A 2.1, 2.4): which octet or bit is what, a name for
--- each number of 01's table. Everything else in specs/ goes through the names below, or through transfers and items.
+-- The octets of a record (paper 01, 'One record of a take'; paper 02, T-06; Arm IHI 0051A 2.1, 2.4): which octet or bit is what, a name
+-- for each number of 01's table. Everything else in specs/ goes through the names below, or through transfers and items.
 use mathlib.Core.Bool.{Bool, true, false, _||_}
 use mathlib.Core.List.{List, [], _∷_, _++_, map}
 use mathlib.Core.Option.{Option, none, some}
 use Prim.Native.Nat.{ℕ, zero, suc, _+_, _*_, _/_, _%_, _^_}
 use lib.Dec.{eqb}
 use lib.ListN.{length, getD, take, drop}
+use Rattle.words.specs.Words.{wordAt, octetsOfWord}
 use Rattle.stream_spec.specs.declared.Shape.{Shape}
 use Rattle.stream_spec.specs.Items.{Pair, Transfer, Item, items}
 use Rattle.stream_spec.specs.Packed.{pack, slices}
@@ -73,31 +74,42 @@ tstrbAt = 5
 abbrev pub headOctets : ℕ
 headOctets = 7
 
+-- T-06: "m user bits to a byte, m from 0 to 4"
+abbrev pub userMost : ℕ
+userMost = 4
+
+-- "every record grows at its end by w*m/8 octets rounded up", in octets of 8 bits each
+abbrev pub userOctets : ℕ → ℕ → ℕ
+userOctets w m = (w * m + 7) / 8
+
 -- an octet has so many values; of two octets, low octet first, the high one counts so much
 abbrev pub octetValues : ℕ
 octetValues = 256
 
 -- ---- a record's size and fields
 
--- "A record has 7 + w octets." Its laws are in proofs/Size; no other law takes it apart (worked
+-- "A record has 7 + w octets", and those of its user bits. Its laws are in proofs/Size; no other law takes it apart (worked
 -- cases, tables and witnesses compute with it).
 unfoldable pub size : Shape → ℕ
-size s = headOctets + s .width
+size s = headOctets + s .width + userOctets (s .width) (s .user)
 
 -- the sizes of the narrowest and the widest record
 abbrev pub sizeLeast : ℕ
 sizeLeast = 8
 
 abbrev pub sizeMost : ℕ
-sizeMost = 23
+sizeMost = 31
 
--- Records of so many lanes, and records of the same kind as others at another width: the only places where a shape is made
--- of its parts. (What else a shape will hold, the second one keeps; as yet there is only a width.)
+-- Records of so many lanes with so many user bits to a byte; those without user bits, which are 01's; and records of the same
+-- kind as others at another width, "m being one fixed number". No other place makes a shape of its parts.
+abbrev pub shaped : ℕ → ℕ → Shape
+shaped w m = record { width = w; user = m }
+
 abbrev pub ofWidth : ℕ → Shape
-ofWidth w = record { width = w }
+ofWidth w = shaped w 0
 
 abbrev pub atWidth : Shape → ℕ → Shape
-atWidth s v = record { width = v }
+atWidth s v = shaped v (s .user)
 
 abbrev pub flags : List ℕ → ℕ
 flags r = getD r flagsAt 0
@@ -137,7 +149,11 @@ tstrb r = twoAt tstrbAt r
 abbrev pub dataOctets : Shape → List ℕ → List ℕ
 dataOctets s r = take (s .width) (drop headOctets r)
 
--- all but octet 0: TID, TDEST, TKEEP, TSTRB and data
+-- the user bits of all lanes as one number: "holding the bits of lane x from bit x*m, low octet first"
+abbrev pub userNumber : Shape → List ℕ → ℕ
+userNumber s r = wordAt (userOctets (s .width) (s .user)) r (headOctets + s .width)
+
+-- all but octet 0: TID, TDEST, TKEEP, TSTRB, data and user bits
 abbrev pub body : List ℕ → List ℕ
 body r = drop tidAt r
 
@@ -172,33 +188,38 @@ abbrev pub anyReserved : List LaneType → Bool
 anyReserved [] = false
 anyReserved (t ∷ ts) = isReserved t || anyReserved ts
 
--- What a kept lane carries: "a data item with its octet", or "a position item, its octet ignored".
+-- What a kept lane carries: "a data item with its octet", or "a position item, its octet ignored"; T-06: "Data and position
+-- items carry their m bits", which are the last number.
 pub data Kept : Type 0 where
-  octet : ℕ → Kept
-  position : Kept
+  octet : ℕ → ℕ → Kept
+  position : ℕ → Kept
 
--- what a lane of this type with this data octet carries. A reserved lane is refused before anything reads it.
-abbrev pub laneOf : LaneType → ℕ → Option Kept
-laneOf dataLane d = some (octet d)
-laneOf positionLane d = some position
-laneOf nullLane d = none
-laneOf reservedLane d = none
+-- what a lane of this type with this data octet and these user bits carries. A reserved lane is refused before anything
+-- reads it.
+abbrev pub laneOf : LaneType → ℕ → ℕ → Option Kept
+laneOf dataLane d u = some (octet d u)
+laneOf positionLane d u = some (position u)
+laneOf nullLane d u = none
+laneOf reservedLane d u = none
 
-abbrev pub lanesOf : List LaneType → List ℕ → List (Option Kept)
-lanesOf [] ds = []
-lanesOf (t ∷ ts) [] = laneOf t 0 ∷ lanesOf ts []
-lanesOf (t ∷ ts) (d ∷ ds) = laneOf t d ∷ lanesOf ts ds
+-- lanes of these types: lane 0 has the m lowest bits of the user bits, and the lanes above it have the others, whatever
+-- their types are
+abbrev pub lanesOf : ℕ → List LaneType → ℕ → List ℕ → List (Option Kept)
+lanesOf m [] u ds = []
+lanesOf m (t ∷ ts) u [] = laneOf t 0 (u % 2 ^ m) ∷ lanesOf m ts (u / 2 ^ m) []
+lanesOf m (t ∷ ts) u (d ∷ ds) = laneOf t d (u % 2 ^ m) ∷ lanesOf m ts (u / 2 ^ m) ds
 
 -- ---- records and transfers
 
 -- the transfer that a transfer record stands for
 abbrev pub transferOf : Shape → List ℕ → Transfer Kept
-transferOf s r = record { pair = pairOf r; lanes = lanesOf (laneTypes s r) (dataOctets s r); last = tlast r }
+transferOf s r =
+    record { pair = pairOf r; lanes = lanesOf (s .user) (laneTypes s r) (userNumber s r) (dataOctets s r); last = tlast r }
 
 abbrev pub strbBit : Option Kept → Bool
 strbBit none = false
-strbBit (some (octet d)) = true
-strbBit (some position) = false
+strbBit (some (octet d u)) = true
+strbBit (some (position u)) = false
 
 abbrev pub keepBit : Option Kept → Bool
 keepBit none = false
@@ -207,18 +228,33 @@ keepBit (some k) = true
 -- "Null and position lanes carry data 00."
 abbrev pub laneOctet : Option Kept → ℕ
 laneOctet none = 0
-laneOctet (some (octet d)) = d
-laneOctet (some position) = 0
+laneOctet (some (octet d u)) = d
+laneOctet (some (position u)) = 0
+
+-- T-06: "null lanes get zero bits"
+abbrev pub laneUser : Option Kept → ℕ
+laneUser none = 0
+laneUser (some (octet d u)) = u
+laneUser (some (position u)) = u
+
+-- the user bits of lanes as one number, those of lane 0 the lowest
+abbrev pub usersOf : ℕ → List (Option Kept) → ℕ
+usersOf m [] = 0
+usersOf m (l ∷ ls) = laneUser l + 2 ^ m * usersOf m ls
 
 -- the two octets of a mask, the low one first
 abbrev pub maskOctets : List Bool → List ℕ
 maskOctets bs = maskOf bs % octetValues ∷ maskOf bs / octetValues ∷ []
 
+-- the octets of lanes with m user bits each: their data, then their user bits, low octet first; "padding bits are zero"
+abbrev pub laneOctets : ℕ → List (Option Kept) → List ℕ
+laneOctets m ls = map laneOctet ls ++ octetsOfWord (userOctets (length ls) m) (usersOf m ls)
+
 -- the octets of the transfer record that stands for a transfer
-abbrev pub octetsOf : Transfer Kept → List ℕ
-octetsOf t =
+abbrev pub octetsOf : ℕ → Transfer Kept → List ℕ
+octetsOf m t =
     lastAlone (t .last) ∷ t .pair .tid ∷ t .pair .tdest
-    ∷ (maskOctets (map keepBit (t .lanes)) ++ (maskOctets (map strbBit (t .lanes)) ++ map laneOctet (t .lanes)))
+    ∷ (maskOctets (map keepBit (t .lanes)) ++ (maskOctets (map strbBit (t .lanes)) ++ laneOctets m (t .lanes)))
 
 -- ---- streams
 
@@ -246,8 +282,8 @@ joined (r ∷ rs) = r ++ joined rs
 abbrev pub transfers : Shape → List ℕ → List (Transfer Kept)
 transfers s xs = map (transferOf s) (records s xs)
 
-abbrev pub octets : List (Transfer Kept) → List ℕ
-octets ts = joined (map octetsOf ts)
+abbrev pub octets : ℕ → List (Transfer Kept) → List ℕ
+octets m ts = joined (map (octetsOf m) ts)
 
 -- the items that a stream carries
 abbrev pub streamItems : Shape → List ℕ → List (Item Kept)
@@ -258,11 +294,11 @@ abbrev pub packedTransfers : Shape → ℕ → List ℕ → List (Transfer Kept)
 packedTransfers s v xs = pack v (streamItems s xs)
 
 abbrev pub packed : Shape → ℕ → List ℕ → List ℕ
-packed s v xs = octets (packedTransfers s v xs)
+packed s v xs = octets (s .user) (packedTransfers s v xs)
 
 -- the lane-keeping slices of a stream at width v: its transfers, and their octets
 abbrev pub slicedTransfers : Shape → ℕ → List ℕ → List (Transfer Kept)
 slicedTransfers s v xs = slices (s .width) v (transfers s xs)
 
 abbrev pub sliced : Shape → ℕ → List ℕ → List ℕ
-sliced s v xs = octets (slicedTransfers s v xs)
+sliced s v xs = octets (s .user) (slicedTransfers s v xs)

@@ -5,13 +5,19 @@ use mathlib.Core.List.{List}
 use Prim.Native.Nat.{ℕ, _+_, _-_, _%_, _≤_}
 use lib.ListN.{length, take, drop}
 use Rattle.stream_spec.specs.declared.Shape.{Shape}
-use Rattle.stream_spec.specs.Layout.{widthMost, size}
+use Rattle.stream_spec.specs.Layout.{widthMost, userMost, size}
 use Rattle.stream_spec.specs.Checks.{captureMost}
+
+-- a shape whose records have a size that code can count: neither number is refused
+pub record Narrow (s : Shape) : Type 0 where
+  pub width : s .width ≤ widthMost
+  pub user : s .user ≤ userMost
 
 -- the shape and the length have passed their tests
 pub record Passed (s : Shape) (xs : List ℕ) : Type 0 where
   pub low : 1 ≤ s .width
   pub high : s .width ≤ widthMost
+  pub user : s .user ≤ userMost
   pub whole : length xs % size s ≡ 0
   pub short : length xs ≤ captureMost
 

@@ -2,9 +2,10 @@
 // answer is in specs/, and the laws about that are in proofs/. No octet is read or written here.
 use refusal::Refusal;
 
-// What a record looks like: how many byte lanes it has. Every stream call takes one.
+// What a record looks like: how many byte lanes it has, and how many user bits go with each byte. Every stream call takes one.
 pub struct Shape {
     pub width: usize,
+    pub user: usize,
 }
 
 // What judging a take of cycle records answers.
