@@ -16,6 +16,7 @@ use Rattle.stream_spec.specs.Checks.{Fields, transferFlags, transferFaults}
 use Rattle.stream_spec.proofs.Legal.{octets-take, octets-drop}
 use Rattle.stream_spec.proofs.Size.{size-holds, data-inside}
 use Rattle.words.specs.Words.{wordAt}
+use Rattle.words.proofs.Words.{word-drop}
 use Rattle.stream_record.specs.Header.{headerOf}
 use Rattle.stream_head.specs.Usual.{Usual, UsualWords}
 use Rattle.repack_scratch.specs.declared.Open.{Open}
@@ -31,12 +32,6 @@ use Rattle.repack_parse.proofs.Records.{octets-of, lanes-long, paired-s
 use Rattle.repack_parse.proofs.Take.{reading-next, holding-next}
 
 -- ---- the words of a record that starts at octet `a`
-
-word-drop : (k a : ℕ) (xs : List ℕ) (i : ℕ) → wordAt k xs (a + i) ≡ wordAt k (drop a xs) i
-word-drop zero a xs i = refl
-word-drop (suc k) a xs i =
-    let next : a + i + 1 ≡ a + (i + 1) = omega arith in
-    rw (getD-drop a xs i 0, next, word-drop k a xs (i + 1)) refl
 
 pub usual-told : (transfers : List ℕ) (at pair full lo hi : ℕ) → ((i : ℕ) → getD transfers i 0 < 256) → lo ≡ wordAt 4 transfers at → hi ≡ wordAt 4 transfers (at + 3)
     → UsualWords lo hi pair full → UsualAt transfers at pair full

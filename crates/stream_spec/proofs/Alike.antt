@@ -20,6 +20,7 @@ use Rattle.stream_spec.specs.Promises.{JudgedAlike}
 use Rattle.stream_spec.proofs.Bools.{beq-refl}
 use Rattle.stream_spec.proofs.Bits.{bit-one}
 use Rattle.stream_spec.proofs.Size.{size-pos}
+use Rattle.stream_spec.proofs.Users.{users-body}
 use Rattle.stream_spec.proofs.Passed.{checks-passed}
 use Rattle.stream_spec.proofs.Records.{Sized, records-sized}
 use Rattle.stream_spec.proofs.Fill.{set-zero, set-above, filled-handshakes, filled-records, filled-long, refused-kept, taken-filled}
@@ -35,7 +36,7 @@ flags-alike level f = go (leb (2 ^ cycleFlags) f) refl
 checks-alike : (level : Bool) (s : Shape) (k : ℕ) (cs : List (List ℕ)) → cycleChecks s k (map (withLast level) cs) ≡ cycleChecks s k cs
 checks-alike level s k [] = refl
 checks-alike level s k ([] ∷ cs) = rw (checks-alike level s (suc k) cs) refl
-checks-alike level s k ((f ∷ r) ∷ cs) = rw (flags-alike level f, checks-alike level s (suc k) cs) refl
+checks-alike level s k ((f ∷ r) ∷ cs) = rw (users-body s (lastSet level f) f r, flags-alike level f, checks-alike level s (suc k) cs) refl
 
 count-alike : (level : Bool) (n : ℕ) (cs : List (List ℕ)) → 0 < n → Sized n cs → length (handshakes (map (withLast level) cs)) ≡ length (handshakes cs)
 count-alike level n cs h z =

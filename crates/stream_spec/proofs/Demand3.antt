@@ -36,7 +36,7 @@ next-refused st c e = rw e refl
 -- packing the packed form is packing the stream
 packed-packed : (st : Standing) (w v : ℕ) → 0 < w → packedAt (packedAt st (some w)) (some v) ≡ packedAt st (some v)
 packed-packed st w v h =
-    ap (λ (is : List (Item Kept)). record { shape = atWidth (st .shape) v; octets = octets (pack v is) })
+    ap (λ (is : List (Item Kept)). record { shape = atWidth (st .shape) v; octets = octets (st .shape .user) (pack v is) })
     (packed-items (st .shape) w h (st .octets))
 
 abbrev LegalNow : Standing → Type 0
@@ -147,7 +147,7 @@ join s v (p ∷ ps) (n ∷ ns) a d =
     record {
       same =
           ap₂ (λ (a b : List ℕ). a ++ b) (result-packed s (p .octets) (partCall v p) n h) (rest .same)
-          ∙ sym (ap octets divided ∙ octets-append (packedTransfers s v (p .octets)) (packedTransfers s v (whole ps)));
+          ∙ sym (ap (octets (s .user)) divided ∙ octets-append (s .user) (packedTransfers s v (p .octets)) (packedTransfers s v (whole ps)));
       count =
           ap₂ (λ (a b : ℕ). a + b) (h .number) (rest .count)
           ∙ sym (ap length divided ∙ length-append (packedTransfers s v (p .octets)) (packedTransfers s v (whole ps)));

@@ -2,12 +2,12 @@
 use mathlib.Core.Path.{_≡_, refl}
 use mathlib.Core.Bool.{false, _||_}
 use mathlib.Core.List.{List}
-use Prim.Native.Nat.{ℕ, _^_}
+use Prim.Native.Nat.{ℕ, _*_, _^_}
 use borrow.Author.Tests.{leb-false, ltb-false, lt-leb, le-ltb}
 use lib.Dec.{leb, ltb}
 use Rattle.stream_spec.specs.declared.Shape.{Shape}
-use Rattle.stream_spec.specs.Layout.{tdestMost, flags, pairOf, tkeep, tstrb}
-use Rattle.stream_spec.specs.Checks.{headFault, fieldFault, HeadFits, Fields}
+use Rattle.stream_spec.specs.Layout.{tdestMost, flags, pairOf, tkeep, tstrb, userNumber}
+use Rattle.stream_spec.specs.Checks.{headFault, userFault, fieldFault, HeadFits, Fields}
 use Rattle.stream_spec.proofs.Bools.{neither}
 
 -- of the numbers that a record's head holds
@@ -39,7 +39,16 @@ module _ (used : ℕ) (s : Shape) (flags tdest keep strb : ℕ) where
 
 -- of a record
 pub fields-of : (used : ℕ) (s : Shape) (r : List ℕ) → fieldFault used s r ≡ false → Fields used s r
-fields-of used s r e = head-fits used s (flags r) (pairOf r .tdest) (tkeep r) (tstrb r) e
+fields-of used s r e =
+    let h = neither (headFault used s (flags r) (pairOf r .tdest) (tkeep r) (tstrb r)) (userFault s r) e in
+    record {
+      head = head-fits used s (flags r) (pairOf r .tdest) (tkeep r) (tstrb r) (h .0);
+      user = leb-false (2 ^ (s .width * s .user)) (userNumber s r) (h .1);
+    }
 
 pub of-fields : (used : ℕ) (s : Shape) (r : List ℕ) → Fields used s r → fieldFault used s r ≡ false
-of-fields used s r f = fits-head used s (flags r) (pairOf r .tdest) (tkeep r) (tstrb r) f
+of-fields used s r f =
+    rw (
+      fits-head used s (flags r) (pairOf r .tdest) (tkeep r) (tstrb r) (f .head),
+      lt-leb (2 ^ (s .width * s .user)) (userNumber s r) (f .user),
+    ) refl

@@ -155,19 +155,19 @@ last-parted : (t : Transfer Kept) (is : List (Item Kept)) → t .last ≡ true �
 last-parted t is e = rw (e, last-append (map (byte (t .pair)) (kept (t .lanes))) (end (t .pair)) []) (end-apart (t .pair) (head? is))
 
 -- a record alone has its own transfer's items, and nothing more
-alone : (s : Shape) (v : ℕ) (r : List ℕ) → length r ≡ size s → packed s v r ≡ octets (pack v (transferItems (transferOf s r)))
+alone : (s : Shape) (v : ℕ) (r : List ℕ) → length r ≡ size s → packed s v r ≡ octets (s .user) (pack v (transferItems (transferOf s r)))
 alone s v r e =
-    ap (λ (rs : List (List ℕ)). octets (pack v (items (map (transferOf s) rs)))) (record-alone s r e)
-    ∙ ap (λ (is : List (Item Kept)). octets (pack v is)) (append-nil (transferItems (transferOf s r)))
+    ap (λ (rs : List (List ℕ)). octets (s .user) (pack v (items (map (transferOf s) rs)))) (record-alone s r e)
+    ∙ ap (λ (is : List (Item Kept)). octets (s .user) (pack v is)) (append-nil (transferItems (transferOf s r)))
 
 each-alone : (s : Shape) (v : ℕ) (rs : List (List ℕ)) → Sized (size s) rs → AllLast rs
-    → octets (pack v (items (map (transferOf s) rs))) ≡ joined (map (packed s v) rs)
+    → octets (s .user) (pack v (items (map (transferOf s) rs))) ≡ joined (map (packed s v) rs)
 each-alone s v [] z h = refl
 each-alone s v (r ∷ rs) z h =
     let t = transferOf s r in
     let rest = items (map (transferOf s) rs) in
-    ap octets (pack-parted v (transferItems t) rest (last-parted t rest (h .0)))
-    ∙ octets-append (pack v (transferItems t)) (pack v rest)
+    ap (octets (s .user)) (pack-parted v (transferItems t) rest (last-parted t rest (h .0)))
+    ∙ octets-append (s .user) (pack v (transferItems t)) (pack v rest)
     ∙ ap₂ (λ (a b : List ℕ). a ++ b) (sym (alone s v r (z .0))) (each-alone s v rs (z .1) (h .1))
 
 pub each-its-packet : EachItsPacket

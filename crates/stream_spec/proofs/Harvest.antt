@@ -10,7 +10,7 @@ use native.Mathlib.Omega.{arith}
 use lib.ListN.{length, length-map}
 use Rattle.refusal.specs.declared.Refusal.the-variants.{Field}
 use Rattle.stream_spec.specs.declared.Shape.{Shape}
-use Rattle.stream_spec.specs.Layout.{tlast, tvalid, aresetn, tready, laneTypes, anyReserved, size, records, recordCount, joined, packed}
+use Rattle.stream_spec.specs.Layout.{lastAlone, tlast, tvalid, aresetn, tready, laneTypes, anyReserved, size, records, recordCount, joined, packed}
 use Rattle.refusal.specs.Checks.{Check, check, first}
 use Rattle.stream_spec.specs.Checks.{fieldFault, reservedFault, transferFlags, cycleFlags, captureMost, transferChecks, cycleFaults, cycleChecks, shapeChecks, lengthCheck, takeChecks, roomCheck}
 use Rattle.stream_spec.specs.Handshake.{r4, Finding, findings, transferred, handshakes, asTransfer, transferCount, harvested}
@@ -22,6 +22,7 @@ use Rattle.stream_spec.proofs.Bools.{and-left}
 use Rattle.refusal.proofs.First.{first-none, none-first, append-none, append-passed}
 use Rattle.stream_spec.proofs.Size.{size-pos}
 use Rattle.stream_spec.proofs.Records.{Sized, length-pieces, length-joined, records-joined, records-sized}
+use Rattle.stream_spec.proofs.Users.{users-behind, users-body}
 use Rattle.stream_spec.proofs.Fields.{fields-of, of-fields}
 use Rattle.stream_spec.proofs.RecordChecks.{each-none}
 use Rattle.stream_spec.proofs.Legal.{bit-octet, bit-low, octets-append, octets-drop, EachOctets, pieces-octets, Faultless, of-faultless}
@@ -51,11 +52,20 @@ unclean-none (f ∷ fs) e = let h = first-none (uncleanCheck f) (map uncleanChec
 
 -- octet 0 holds TLAST alone, and the other fields are as sampled
 field-kept : (s : Shape) (c : List ℕ) → fieldFault cycleFlags s c ≡ false → fieldFault transferFlags s (asTransfer c) ≡ false
-field-kept s [] e = e
+field-kept s [] e =
+    let k = fields-of cycleFlags s [] e in
+    of-fields transferFlags s (asTransfer [])
+    (record {
+      head = record { flags = omega arith; tdest = k .head .tdest; keep = k .head .keep; strb = k .head .strb };
+      user = rw (users-behind s (asTransfer []), ← users-behind s []) (k .user);
+    })
 field-kept s (f ∷ r) e =
     let k = fields-of cycleFlags s (f ∷ r) e in
     of-fields transferFlags s (asTransfer (f ∷ r))
-    (record { flags = bit-low (tlast (f ∷ r)); tdest = k .tdest; keep = k .keep; strb = k .strb })
+    (record {
+      head = record { flags = bit-low (tlast (f ∷ r)); tdest = k .head .tdest; keep = k .head .keep; strb = k .head .strb };
+      user = rw (users-body s (lastAlone (tlast (f ∷ r))) f r) (k .user);
+    })
 
 -- a transferred cycle has ARESETn and TVALID high, so R4 reads its lanes
 r4-reads : (s : Shape) (c : List ℕ) → transferred c ≡ true → r4 s c ≡ false → anyReserved (laneTypes s c) ≡ false
@@ -157,6 +167,7 @@ harvestLegal s xs room o e =
       record {
         widthLow = g .0 .low;
         widthHigh = g .0 .high;
+        userHigh = g .0 .user;
         octets = f .octets;
         whole = rw (harvested-long s xs) (mul-mod-left (transferCount s xs) (size s));
         faultless = rw (records-joined s (map asTransfer hs) (f .sized)) (of-faultless s 0 (map asTransfer hs) (f .faultless));

@@ -4,20 +4,23 @@ use mathlib.Core.Path.{_≡_, refl, ap, _∙_}
 use mathlib.Core.Bool.{Bool, false}
 use mathlib.Core.List.{List, [], _∷_, _++_, map}
 use mathlib.Core.Option.{Option, none, some}
-use Prim.Native.Nat.{ℕ, zero, suc, _/_, _^_, _≤_, _<_}
-use native.Mathlib.Nat.{mul-mod-left}
+use Prim.Native.Nat.{ℕ, zero, suc, _*_, _/_, _%_, _^_, _≤_, _<_}
+use native.Mathlib.Nat.{mul-mod-left, mod-lt}
 use native.Mathlib.Omega.{arith}
-use lib.Pow.{pow-mono}
+use lib.Pow.{pow-pos, pow-mono}
 use lib.ListN.{length, getD, take, drop, length-map}
+use Rattle.words.specs.Words.{octetsOfWord}
 use Rattle.stream_spec.specs.declared.Shape.{Shape}
 use Rattle.stream_spec.specs.Items.{Pair, Transfer}
-use Rattle.stream_spec.specs.Layout.{widthMost, tdestMost, headOctets, octetValues, bitOf, maskOf, flags, tkeep, tstrb, dataOctets, laneTypes, size, atWidth, typesOf, LaneType, dataLane, positionLane, nullLane, reservedLane, laneType, laneOf, lanesOf, isReserved, anyReserved, Kept, octet, position, keepBit, strbBit, laneOctet, maskOctets, transferOf, octetsOf, pieces, records, recordCount, transfers, octets, streamItems, packedTransfers, packed, slicedTransfers, sliced}
+use Rattle.stream_spec.specs.Layout.{widthMost, tdestMost, headOctets, userOctets, userNumber, octetValues, bitOf, maskOf, flags, tkeep, tstrb, dataOctets, laneTypes, size, atWidth, typesOf, LaneType, dataLane, positionLane, nullLane, reservedLane, laneType, laneOf, lanesOf, isReserved, anyReserved, Kept, octet, position, keepBit, strbBit, laneOctet, usersOf, laneOctets, maskOctets, transferOf, octetsOf, pieces, records, recordCount, transfers, octets, streamItems, packedTransfers, packed, slicedTransfers, sliced}
 use Rattle.refusal.specs.declared.Refusal.the-variants.{Field, Reserved}
 use Rattle.refusal.specs.Checks.{check, first}
 use Rattle.stream_spec.specs.Checks.{fieldFault, reservedFault, transferFlags, transferFaults, transferChecks}
 use Rattle.stream_spec.specs.Legal.{Octets, Legal}
 use Rattle.stream_spec.proofs.Bits.{bit-one, odd-mask, half-mask, mask-fits, two-octets}
+use Rattle.stream_spec.proofs.Users.{LanesTagged, users-fit, users-back}
 use Rattle.stream_spec.proofs.Fields.{fields-of, of-fields}
+use Rattle.stream_spec.proofs.Passed.{ShapeFits}
 use Rattle.stream_spec.proofs.RecordChecks.{each-none, none-each}
 use Rattle.stream_spec.proofs.Pack.{Wide, wide-pack, wide-slices}
 use Rattle.stream_spec.proofs.Each.{EachLane, EachTransfer, each-items, each-pack, each-slices}
@@ -30,12 +33,13 @@ pub record PairFits (p : Pair) : Type 0 where
   pub tid : p .tid < octetValues
   pub tdest : p .tdest ≤ tdestMost
 
-abbrev pub ByteFits : Kept → Type 0
-ByteFits (octet d) = d < octetValues
-ByteFits position = Unit {0}
+-- with m user bits
+abbrev pub ByteFits : ℕ → Kept → Type 0
+ByteFits m (octet d u) = (d < octetValues) × (u < 2 ^ m)
+ByteFits m (position u) = u < 2 ^ m
 
-abbrev pub Sound : List (Transfer Kept) → Type 0
-Sound ts = EachTransfer PairFits ByteFits ts
+abbrev pub Sound : ℕ → List (Transfer Kept) → Type 0
+Sound m ts = EachTransfer PairFits (ByteFits m) ts
 
 -- ---- octets
 
@@ -79,17 +83,19 @@ of-faultless s k (r ∷ rs) h = none-each (transferFaults s) k r rs (rw (h .0, h
 
 -- ---- from a legal stream to its transfers
 
-lane-fits : (t : LaneType) (d : ℕ) (ls : List (Option Kept)) → d < octetValues → EachLane PairFits ByteFits ls
-    → EachLane PairFits ByteFits (laneOf t d ∷ ls)
-lane-fits dataLane d ls h k = (h, k)
-lane-fits positionLane d ls h k = (tt, k)
-lane-fits nullLane d ls h k = k
-lane-fits reservedLane d ls h k = k
+lane-fits : (m : ℕ) (t : LaneType) (d u : ℕ) (ls : List (Option Kept)) → d < octetValues → u < 2 ^ m → EachLane PairFits (ByteFits m) ls
+    → EachLane PairFits (ByteFits m) (laneOf t d u ∷ ls)
+lane-fits m dataLane d u ls h b k = ((h, b), k)
+lane-fits m positionLane d u ls h b k = (b, k)
+lane-fits m nullLane d u ls h b k = k
+lane-fits m reservedLane d u ls h b k = k
 
-lanes-fit : (ts : List LaneType) (ds : List ℕ) → Octets ds → EachLane PairFits ByteFits (lanesOf ts ds)
-lanes-fit [] ds h = tt
-lanes-fit (t ∷ ts) [] h = lane-fits t 0 (lanesOf ts []) (omega arith) (lanes-fit ts [] tt)
-lanes-fit (t ∷ ts) (d ∷ ds) h = lane-fits t d (lanesOf ts ds) (h .0) (lanes-fit ts ds (h .1))
+lanes-fit : (m : ℕ) (ts : List LaneType) (u : ℕ) (ds : List ℕ) → Octets ds → EachLane PairFits (ByteFits m) (lanesOf m ts u ds)
+lanes-fit m [] u ds h = tt
+lanes-fit m (t ∷ ts) u [] h =
+    lane-fits m t 0 (u % 2 ^ m) (lanesOf m ts (u / 2 ^ m) []) (omega arith) (mod-lt u (pow-pos m)) (lanes-fit m ts (u / 2 ^ m) [] tt)
+lanes-fit m (t ∷ ts) u (d ∷ ds) h =
+    lane-fits m t d (u % 2 ^ m) (lanesOf m ts (u / 2 ^ m) ds) (h .0) (mod-lt u (pow-pos m)) (lanes-fit m ts (u / 2 ^ m) ds (h .1))
 
 abbrev pub EachOctets : List (List ℕ) → Type 0
 EachOctets [] = Unit {0}
@@ -99,15 +105,15 @@ pub pieces-octets : (n z : ℕ) (xs : List ℕ) → Octets xs → EachOctets (pi
 pieces-octets zero z xs h = tt
 pieces-octets (suc n) z xs h = (octets-take z xs h, pieces-octets n z (drop z xs) (octets-drop z xs h))
 
-records-sound : (s : Shape) (rs : List (List ℕ)) → EachOctets rs → Faultless s rs → Sound (map (transferOf s) rs)
+records-sound : (s : Shape) (rs : List (List ℕ)) → EachOctets rs → Faultless s rs → Sound (s .user) (map (transferOf s) rs)
 records-sound s [] h f = tt
 records-sound s (r ∷ rs) h f = (
-  record { tid = octet-at r 1 (h .0); tdest = fields-of transferFlags s r (f .0) .tdest },
-  lanes-fit (laneTypes s r) (dataOctets s r) (octets-take (s .width) (drop headOctets r) (octets-drop headOctets r (h .0))),
+  record { tid = octet-at r 1 (h .0); tdest = fields-of transferFlags s r (f .0) .head .tdest },
+  lanes-fit (s .user) (laneTypes s r) (userNumber s r) (dataOctets s r) (octets-take (s .width) (drop headOctets r) (octets-drop headOctets r (h .0))),
   records-sound s rs (h .1) (f .2),
 )
 
-pub legal-sound : (s : Shape) (xs : List ℕ) → Legal s xs → Sound (transfers s xs)
+pub legal-sound : (s : Shape) (xs : List ℕ) → Legal s xs → Sound (s .user) (transfers s xs)
 legal-sound s xs l =
     records-sound s (records s xs) (pieces-octets (recordCount s xs) (size s) xs (l .octets)) (faultless-of s 0 (records s xs) (l .faultless))
 
@@ -115,15 +121,15 @@ typesOf-length : (w k t : ℕ) → length (typesOf w k t) ≡ w
 typesOf-length zero k t = refl
 typesOf-length (suc w) k t = ap suc (typesOf-length w (k / 2) (t / 2))
 
-lanesOf-length : (ts : List LaneType) (ds : List ℕ) → length (lanesOf ts ds) ≡ length ts
-lanesOf-length [] ds = refl
-lanesOf-length (t ∷ ts) [] = ap suc (lanesOf-length ts [])
-lanesOf-length (t ∷ ts) (d ∷ ds) = ap suc (lanesOf-length ts ds)
+lanesOf-length : (m : ℕ) (ts : List LaneType) (u : ℕ) (ds : List ℕ) → length (lanesOf m ts u ds) ≡ length ts
+lanesOf-length m [] u ds = refl
+lanesOf-length m (t ∷ ts) u [] = ap suc (lanesOf-length m ts (u / 2 ^ m) [])
+lanesOf-length m (t ∷ ts) u (d ∷ ds) = ap suc (lanesOf-length m ts (u / 2 ^ m) ds)
 
 records-wide : (s : Shape) (rs : List (List ℕ)) → Wide (s .width) (map (transferOf s) rs)
 records-wide s [] = tt
 records-wide s (r ∷ rs) =
-    (lanesOf-length (laneTypes s r) (dataOctets s r) ∙ typesOf-length (s .width) (tkeep r) (tstrb r), records-wide s rs)
+    (lanesOf-length (s .user) (laneTypes s r) (userNumber s r) (dataOctets s r) ∙ typesOf-length (s .width) (tkeep r) (tstrb r), records-wide s rs)
 
 -- the transfers of a stream have its width
 pub wide-transfers : (s : Shape) (xs : List ℕ) → Wide (s .width) (transfers s xs)
@@ -139,32 +145,42 @@ mask-octets bs h =
 pub bit-octet : (b : Bool) → bitOf b < octetValues
 bit-octet b = omega (arith, bit-one b)
 
-data-octets : (ls : List (Option Kept)) → EachLane PairFits ByteFits ls → Octets (map laneOctet ls)
-data-octets [] h = tt
-data-octets (none ∷ ls) h = (omega arith, data-octets ls h)
-data-octets (some (octet d) ∷ ls) h = (h .0, data-octets ls (h .1))
-data-octets (some position ∷ ls) h = (omega arith, data-octets ls (h .1))
+data-octets : (m : ℕ) (ls : List (Option Kept)) → EachLane PairFits (ByteFits m) ls → Octets (map laneOctet ls)
+data-octets m [] h = tt
+data-octets m (none ∷ ls) h = (omega arith, data-octets m ls h)
+data-octets m (some (octet d u) ∷ ls) h = (h .0 .0, data-octets m ls (h .1))
+data-octets m (some (position u) ∷ ls) h = (omega arith, data-octets m ls (h .1))
 
-record-octets : (t : Transfer Kept) → length (t .lanes) ≤ widthMost → PairFits (t .pair) → EachLane PairFits ByteFits (t .lanes) → Octets (octetsOf t)
-record-octets t h p k =
-    let rest : Octets (maskOctets (map strbBit (t .lanes)) ++ map laneOctet (t .lanes)) =
-    octets-append (maskOctets (map strbBit (t .lanes))) (map laneOctet (t .lanes))
-    (mask-octets (map strbBit (t .lanes)) (rw (length-map (t .lanes) strbBit) h)) (data-octets (t .lanes) k) in
-    let masks : Octets (maskOctets (map keepBit (t .lanes)) ++ (maskOctets (map strbBit (t .lanes)) ++ map laneOctet (t .lanes))) =
-    octets-append (maskOctets (map keepBit (t .lanes))) (maskOctets (map strbBit (t .lanes)) ++ map laneOctet (t .lanes))
-    (mask-octets (map keepBit (t .lanes)) (rw (length-map (t .lanes) keepBit) h)) rest in
+word-octets : (k n : ℕ) → Octets (octetsOfWord k n)
+word-octets zero n = tt
+word-octets (suc k) n = (omega arith, word-octets k (n / 256))
+
+lane-octets : (m : ℕ) (ls : List (Option Kept)) → EachLane PairFits (ByteFits m) ls → Octets (laneOctets m ls)
+lane-octets m ls k =
+    octets-append (map laneOctet ls) (octetsOfWord (userOctets (length ls) m) (usersOf m ls)) (data-octets m ls k)
+    (word-octets (userOctets (length ls) m) (usersOf m ls))
+
+record-octets : (m : ℕ) (t : Transfer Kept) → length (t .lanes) ≤ widthMost → PairFits (t .pair) → EachLane PairFits (ByteFits m) (t .lanes)
+    → Octets (octetsOf m t)
+record-octets m t h p k =
+    let ls = t .lanes in
+    let rest : Octets (maskOctets (map strbBit ls) ++ laneOctets m ls) =
+    octets-append (maskOctets (map strbBit ls)) (laneOctets m ls) (mask-octets (map strbBit ls) (rw (length-map ls strbBit) h)) (lane-octets m ls k) in
+    let masks : Octets (maskOctets (map keepBit ls) ++ (maskOctets (map strbBit ls) ++ laneOctets m ls)) =
+    octets-append (maskOctets (map keepBit ls)) (maskOctets (map strbBit ls) ++ laneOctets m ls)
+    (mask-octets (map keepBit ls) (rw (length-map ls keepBit) h)) rest in
     (bit-octet (t .last), (p .tid, (omega (arith, p .tdest), masks)))
 
-transfers-octets : (w : ℕ) (ts : List (Transfer Kept)) → w ≤ widthMost → Wide w ts → Sound ts → Octets (octets ts)
-transfers-octets w [] h k l = tt
-transfers-octets w (t ∷ ts) h k l =
-    octets-append (octetsOf t) (octets ts) (record-octets t (rw (k .0) h) (l .0) (l .1)) (transfers-octets w ts h (k .1) (l .2))
+transfers-octets : (m w : ℕ) (ts : List (Transfer Kept)) → w ≤ widthMost → Wide w ts → Sound m ts → Octets (octets m ts)
+transfers-octets m w [] h k l = tt
+transfers-octets m w (t ∷ ts) h k l =
+    octets-append (octetsOf m t) (octets m ts) (record-octets m t (rw (k .0) h) (l .0) (l .1)) (transfers-octets m w ts h (k .1) (l .2))
 
 -- the two bits of a lane are never those of a reserved one
 lane-unreserved : (l : Option Kept) → isReserved (laneType (keepBit l) (strbBit l)) ≡ false
 lane-unreserved none = refl
-lane-unreserved (some (octet d)) = refl
-lane-unreserved (some position) = refl
+lane-unreserved (some (octet d u)) = refl
+lane-unreserved (some (position u)) = refl
 
 lanes-unreserved : (ls : List (Option Kept)) → anyReserved (typesOf (length ls) (maskOf (map keepBit ls)) (maskOf (map strbBit ls))) ≡ false
 lanes-unreserved [] = refl
@@ -173,49 +189,75 @@ lanes-unreserved (l ∷ ls) =
     (rw (half-mask (keepBit l) (maskOf (map keepBit ls)), half-mask (strbBit l) (maskOf (map strbBit ls)))
     (rw (lane-unreserved l, lanes-unreserved ls) refl))
 
-record-unreserved : (s : Shape) (t : Transfer Kept) → length (t .lanes) ≡ s .width → reservedFault s (octetsOf t) ≡ false
+record-unreserved : (s : Shape) (t : Transfer Kept) → length (t .lanes) ≡ s .width → reservedFault s (octetsOf (s .user) t) ≡ false
 record-unreserved s t h =
     rw (two-octets (maskOf (map keepBit (t .lanes))), two-octets (maskOf (map strbBit (t .lanes))), ← h) (lanes-unreserved (t .lanes))
 
 pub bit-low : (b : Bool) → bitOf b < 2 ^ transferFlags
 bit-low b = omega (arith, bit-one b)
 
-record-fields : (s : Shape) (t : Transfer Kept) → length (t .lanes) ≡ s .width → PairFits (t .pair) → fieldFault transferFlags s (octetsOf t) ≡ false
-record-fields s t h p =
-    of-fields transferFlags s (octetsOf t)
-    (rw (two-octets (maskOf (map keepBit (t .lanes))), two-octets (maskOf (map strbBit (t .lanes))), ← h)
+-- what fits as a byte has bits that fit
+bytes-tagged : (m : ℕ) (ls : List (Option Kept)) → EachLane PairFits (ByteFits m) ls → LanesTagged m ls
+bytes-tagged m [] h = tt
+bytes-tagged m (none ∷ ls) h = bytes-tagged m ls h
+bytes-tagged m (some (octet d u) ∷ ls) h = (h .0 .1, bytes-tagged m ls (h .1))
+bytes-tagged m (some (position u) ∷ ls) h = (h .0, bytes-tagged m ls (h .1))
+
+-- so the padding is zero
+record-user : (s : Shape) (t : Transfer Kept) → length (t .lanes) ≡ s .width → LanesTagged (s .user) (t .lanes)
+    → userNumber s (octetsOf (s .user) t) < 2 ^ (s .width * s .user)
+record-user s t h k = rw (users-back s t h k, ← h) (users-fit (s .user) (t .lanes) k)
+
+record-fields : (s : Shape) (t : Transfer Kept) → length (t .lanes) ≡ s .width → PairFits (t .pair) → LanesTagged (s .user) (t .lanes)
+    → fieldFault transferFlags s (octetsOf (s .user) t) ≡ false
+record-fields s t h p k =
+    of-fields transferFlags s (octetsOf (s .user) t)
     (record {
-      flags = bit-low (t .last);
-      tdest = p .tdest;
-      keep = rw length-map at (mask-fits (map keepBit (t .lanes)));
-      strb = rw length-map at (mask-fits (map strbBit (t .lanes)));
-    }))
+      head =
+          rw (two-octets (maskOf (map keepBit (t .lanes))), two-octets (maskOf (map strbBit (t .lanes))), ← h)
+          (record {
+            flags = bit-low (t .last);
+            tdest = p .tdest;
+            keep = rw length-map at (mask-fits (map keepBit (t .lanes)));
+            strb = rw length-map at (mask-fits (map strbBit (t .lanes)));
+          });
+      user = record-user s t h k;
+    })
 
-transfers-faultless : (s : Shape) (ts : List (Transfer Kept)) → Wide (s .width) ts → Sound ts → Faultless s (map octetsOf ts)
+transfers-faultless : (s : Shape) (ts : List (Transfer Kept)) → Wide (s .width) ts → Sound (s .user) ts → Faultless s (map (octetsOf (s .user)) ts)
 transfers-faultless s [] h k = tt
-transfers-faultless s (t ∷ ts) h k =
-    (record-fields s t (h .0) (k .0), record-unreserved s t (h .0), transfers-faultless s ts (h .1) (k .2))
+transfers-faultless s (t ∷ ts) h k = (
+  record-fields s t (h .0) (k .0) (bytes-tagged (s .user) (t .lanes) (k .1)),
+  record-unreserved s t (h .0),
+  transfers-faultless s ts (h .1) (k .2),
+)
 
--- transfers of one width from 1 to 16, with pairs and bytes that fit, make a legal stream
-pub transfers-legal : (s : Shape) (ts : List (Transfer Kept)) → 1 ≤ s .width → s .width ≤ widthMost → Wide (s .width) ts → Sound ts → Legal s (octets ts)
-transfers-legal s ts low high h k =
+-- transfers of one width from 1 to 16 and of one m, with pairs and bytes that fit, make a legal stream
+pub transfers-legal : (s : Shape) (ts : List (Transfer Kept)) → ShapeFits s → Wide (s .width) ts → Sound (s .user) ts
+    → Legal s (octets (s .user) ts)
+transfers-legal s ts f h k =
     record {
-      widthLow = low;
-      widthHigh = high;
-      octets = transfers-octets (s .width) ts high h k;
+      widthLow = f .low;
+      widthHigh = f .high;
+      userHigh = f .user;
+      octets = transfers-octets (s .user) (s .width) ts (f .high) h k;
       whole = rw (length-octets s ts h) (mul-mod-left (length ts) (size s));
       faultless =
-          rw (records-joined s (map octetsOf ts) (octets-sized s ts h)) (of-faultless s 0 (map octetsOf ts) (transfers-faultless s ts h k));
+          rw (records-joined s (map (octetsOf (s .user)) ts) (octets-sized s ts h))
+          (of-faultless s 0 (map (octetsOf (s .user)) ts) (transfers-faultless s ts h k));
     }
 
 -- ---- the packed form and the slices of a legal stream are legal
 
 pub packed-legal : (s : Shape) (v : ℕ) (xs : List ℕ) → 1 ≤ v → v ≤ widthMost → Legal s xs → Legal (atWidth s v) (packed s v xs)
 packed-legal s v xs low high l =
-    transfers-legal (atWidth s v) (packedTransfers s v xs) low high (wide-pack v (streamItems s xs))
-    (each-pack PairFits ByteFits v (streamItems s xs) (each-items PairFits ByteFits (transfers s xs) (legal-sound s xs l)))
+    transfers-legal (atWidth s v) (packedTransfers s v xs) (record { low = low; high = high; user = l .userHigh })
+    (wide-pack v (streamItems s xs))
+    (each-pack PairFits (ByteFits (s .user)) v (streamItems s xs)
+    (each-items PairFits (ByteFits (s .user)) (transfers s xs) (legal-sound s xs l)))
 
 pub sliced-legal : (s : Shape) (v : ℕ) (xs : List ℕ) → 1 ≤ v → v ≤ widthMost → Legal s xs → Legal (atWidth s v) (sliced s v xs)
 sliced-legal s v xs low high l =
-    transfers-legal (atWidth s v) (slicedTransfers s v xs) low high (wide-slices (s .width) v (transfers s xs))
-    (each-slices PairFits ByteFits (s .width) v (transfers s xs) (legal-sound s xs l))
+    transfers-legal (atWidth s v) (slicedTransfers s v xs) (record { low = low; high = high; user = l .userHigh })
+    (wide-slices (s .width) v (transfers s xs))
+    (each-slices PairFits (ByteFits (s .user)) (s .width) v (transfers s xs) (legal-sound s xs l))

@@ -8,6 +8,7 @@ pub mod Pack
 pub mod Hold
 pub mod Each
 pub mod Size
+pub mod Users
 pub mod Fields
 pub mod Records
 pub mod RecordChecks

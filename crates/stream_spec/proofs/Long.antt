@@ -20,6 +20,7 @@ use Rattle.stream_spec.specs.Tables.{lanes, stream, pair, LegalLong, par
 use Rattle.stream_spec.specs.Witnesses.{mixedCalls, transfer, manyParts, ManyJoin}
 use Rattle.stream_spec.proofs.Pack.{Wide, length-fitted}
 use Rattle.stream_spec.proofs.Records.{length-octets, transfers-back}
+use Rattle.stream_spec.proofs.Users.{Tagged}
 use Rattle.stream_spec.proofs.Each.{EachLane}
 use Rattle.stream_spec.proofs.Legal.{PairFits, ByteFits, Sound, transfers-legal}
 use Rattle.stream_spec.proofs.Demand3.{calls, parts}
@@ -31,11 +32,11 @@ many-wide : (w n : ℕ) (t : Transfer Kept) → length (t .lanes) ≡ w → Wide
 many-wide w zero t h = tt
 many-wide w (suc n) t h = (h, many-wide w n t h)
 
-many-sound : (n : ℕ) (t : Transfer Kept) → PairFits (t .pair) → EachLane PairFits ByteFits (t .lanes) → Sound (replicate n t)
-many-sound zero t p l = tt
-many-sound (suc n) t p l = (p, l, many-sound n t p l)
+many-sound : (m n : ℕ) (t : Transfer Kept) → PairFits (t .pair) → EachLane PairFits (ByteFits m) (t .lanes) → Sound m (replicate n t)
+many-sound m zero t p l = tt
+many-sound m (suc n) t p l = (p, l, many-sound m n t p l)
 
-many-length : (s : Shape) (n : ℕ) (t : Transfer Kept) → length (t .lanes) ≡ s .width → length (octets (replicate n t)) ≡ n * size s
+many-length : (s : Shape) (n : ℕ) (t : Transfer Kept) → length (t .lanes) ≡ s .width → length (octets (s .user) (replicate n t)) ≡ n * size s
 many-length s n t h = length-octets s (replicate n t) (many-wide (s .width) n t h) ∙ ap (λ (k : ℕ). k * size s) (length-replicate n t)
 
 -- ---- legal streams of any number of records: nothing is in them
@@ -43,25 +44,25 @@ many-length s n t h = length-octets s (replicate n t) (many-wide (s .width) n t 
 abbrev nowhere : ℕ → Transfer Kept
 nowhere w = record { pair = pair 0 0; lanes = fitted w []; last = false }
 
-no-lane : (w : ℕ) → EachLane PairFits ByteFits (fitted w [])
-no-lane zero = tt
-no-lane (suc w) = no-lane w
+no-lane : (m w : ℕ) → EachLane PairFits (ByteFits m) (fitted w [])
+no-lane m zero = tt
+no-lane m (suc w) = no-lane m w
 
 pub legalLong : LegalLong
-legalLong s n w =
+legalLong s n w u =
     let t = nowhere (s .width) in
     let wide = length-fitted (s .width) [] in
     record {
-      octets = octets (replicate n t);
+      octets = octets (s .user) (replicate n t);
       legal =
-          transfers-legal s (replicate n t) (w .0) (w .1) (many-wide (s .width) n t wide)
-          (many-sound n t (record { tid = omega arith; tdest = omega arith }) (no-lane (s .width)));
+          transfers-legal s (replicate n t) (record { low = w .0; high = w .1; user = u }) (many-wide (s .width) n t wide)
+          (many-sound (s .user) n t (record { tid = omega arith; tdest = omega arith }) (no-lane (s .user) (s .width)));
       count = many-length s n t wide;
     }
 
 pub longer : (xs : List ℕ) × Legal (lanes 1) xs × (captureMost < length xs)
 unfolding size
-longer = let l = legalLong (lanes 1) 8193 (widthTested 1 .1 refl) in (l .octets, l .legal, omega (arith, l .count))
+longer = let l = legalLong (lanes 1) 8193 (widthTested 1 .1 refl) (lit≤ tt) in (l .octets, l .legal, omega (arith, l .count))
 
 -- calls on a first stream that is longer than a take
 pub long-calls : CallsKeep (stream 1 (longer .0)) mixedCalls
@@ -72,9 +73,13 @@ long-calls = calls (stream 1 (longer .0)) (longer .1) mixedCalls
 abbrev endOnly : Transfer Kept
 endOnly = transfer (none ∷ []) true
 
-many-octets : (n : ℕ) → whole (manyParts n) ≡ octets (replicate n endOnly)
+many-octets : (n : ℕ) → whole (manyParts n) ≡ octets 0 (replicate n endOnly)
 many-octets zero = refl
 many-octets (suc n) = ap (λ (xs : List ℕ). ended ++ xs) (many-octets n)
+
+many-tagged : (n : ℕ) → Tagged 0 (replicate n endOnly)
+many-tagged zero = tt
+many-tagged (suc n) = (tt, tt, many-tagged n)
 
 many-accepted : (n : ℕ) → AllAccepted (lanes 1) 2 (manyParts n) (replicate {A = ℕ} n 1)
 unfolding size repackAnswer
@@ -83,7 +88,7 @@ many-accepted (suc n) = ap {B = List (Option ℕ)} (λ (l : List (Option ℕ)). 
 
 many-items : (n : ℕ) → streamItems (lanes 1) (whole (manyParts n)) ≡ items (replicate n endOnly)
 many-items n =
-    ap (streamItems (lanes 1)) (many-octets n) ∙ ap items (transfers-back (lanes 1) (replicate n endOnly) (many-wide 1 n endOnly refl))
+    ap (streamItems (lanes 1)) (many-octets n) ∙ ap items (transfers-back (lanes 1) (replicate n endOnly) (many-wide 1 n endOnly refl) (many-tagged n))
 
 -- the parts before a division are such parts too, and the last item of their records, where there is one, is an end
 before-many : (n : ℕ) (before after : List Part) → before ++ after ≡ manyParts n → before ≡ manyParts (length before)
@@ -110,8 +115,8 @@ pub manyJoin : (n : ℕ) → ManyJoin n
 unfolding size
 manyJoin n =
     let ts = replicate n endOnly in
-    let sound = many-sound n endOnly (record { tid = omega arith; tdest = omega arith }) tt in
-    let legal = transfers-legal (lanes 1) ts (lit≤ tt) (lit≤ tt) (many-wide 1 n endOnly refl) sound in
+    let sound = many-sound 0 n endOnly (record { tid = omega arith; tdest = omega arith }) tt in
+    let legal = transfers-legal (lanes 1) ts (record { low = lit≤ tt; high = lit≤ tt; user = lit≤ tt }) (many-wide 1 n endOnly refl) sound in
     record {
       joins = parts (lanes 1) 2 (manyParts n) (replicate n 1) (rw (many-octets n) legal) (many-accepted n) (many-divides n);
       octets = ap length (many-octets n) ∙ many-length (lanes 1) n endOnly refl;

@@ -12,9 +12,9 @@ use lib.ListN.{length}
 use Rattle.refusal.specs.Checks.{first}
 use Rattle.refusal.proofs.First.{first-none, none-first, append-none}
 use Rattle.stream_spec.specs.declared.Shape.{Shape}
-use Rattle.stream_spec.specs.Layout.{widthMost, size}
-use Rattle.stream_spec.specs.Checks.{widthCheck, shapeChecks, captureMost, lengthCheck, takeChecks}
-use Rattle.stream_spec.specs.Walk.{Passed}
+use Rattle.stream_spec.specs.Layout.{widthMost, userMost, size}
+use Rattle.stream_spec.specs.Checks.{widthCheck, userCheck, shapeChecks, captureMost, lengthCheck, takeChecks}
+use Rattle.stream_spec.specs.Walk.{Narrow, Passed}
 use Rattle.stream_spec.proofs.Bools.{neither}
 
 -- ---- a width
@@ -37,24 +37,37 @@ fits-width w h = rw (ne-eqb w 0 (omega (arith, h .low)), le-ltb widthMost w (h .
 pub record ShapeFits (s : Shape) : Type 0 where
   pub low : 1 ≤ s .width
   pub high : s .width ≤ widthMost
+  pub user : s .user ≤ userMost
 
-shape-of : (s : Shape) → widthCheck (s .width) .found ≡ false → ShapeFits s
-shape-of s e = let w = width-fits (s .width) e in record { low = w .low; high = w .high }
+-- its two checks
+shape-of : (s : Shape) → widthCheck (s .width) .found ≡ false → first (userCheck s ∷ []) ≡ none → ShapeFits s
+shape-of s e u =
+    let w = width-fits (s .width) e in
+    record { low = w .low; high = w .high; user = ltb-false userMost (s .user) (first-none (userCheck s) [] u .0) }
 
-of-shape : (s : Shape) → ShapeFits s → widthCheck (s .width) .found ≡ false
-of-shape s h = fits-width (s .width) (record { low = h .low; high = h .high })
+of-width : (s : Shape) → ShapeFits s → widthCheck (s .width) .found ≡ false
+of-width s h = fits-width (s .width) (record { low = h .low; high = h .high })
+
+of-user : (s : Shape) → ShapeFits s → first (userCheck s ∷ []) ≡ none
+of-user s h = none-first (userCheck s) [] (le-ltb userMost (s .user) (h .user)) refl
 
 pub shape-fits : (s : Shape) → first (shapeChecks s []) ≡ none → ShapeFits s
-shape-fits s e = shape-of s (first-none (widthCheck (s .width)) [] e .0)
+shape-fits s e = let w = first-none (widthCheck (s .width)) (userCheck s ∷ []) e in shape-of s (w .0) (w .1)
 
 pub shapes-fit : (s : Shape) (v : ℕ) → first (shapeChecks s (v ∷ [])) ≡ none → ShapeFits s × WidthFits v
 shapes-fit s v e =
-    let w = first-none (widthCheck (s .width)) (widthCheck v ∷ []) e in
-    (shape-of s (w .0), width-fits v (first-none (widthCheck v) [] (w .1) .0))
+    let w = first-none (widthCheck (s .width)) (widthCheck v ∷ userCheck s ∷ []) e in
+    let o = first-none (widthCheck v) (userCheck s ∷ []) (w .1) in
+    (shape-of s (w .0) (o .1), width-fits v (o .0))
 
 pub fits-shapes : (s : Shape) (v : ℕ) → ShapeFits s → WidthFits v → first (shapeChecks s (v ∷ [])) ≡ none
 fits-shapes s v h o =
-    none-first (widthCheck (s .width)) (widthCheck v ∷ []) (of-shape s h) (none-first (widthCheck v) [] (fits-width v o) refl)
+    none-first (widthCheck (s .width)) (widthCheck v ∷ userCheck s ∷ []) (of-width s h)
+    (none-first (widthCheck v) (userCheck s ∷ []) (fits-width v o) (of-user s h))
+
+-- what code asks of a shape whose size it counts
+pub shape-narrow : (s : Shape) → ShapeFits s → Narrow s
+shape-narrow s h = record { width = h .high; user = h .user }
 
 -- ---- a length: a whole number of records, no longer than a take
 
@@ -69,7 +82,7 @@ fits-length s xs h w = rw (le-ltb captureMost (length xs) h, eq-eqb (length xs %
 -- ---- a take
 
 pub take-passed : (s : Shape) (xs : List ℕ) → ShapeFits s → lengthCheck s xs .found ≡ false → Passed s xs
-take-passed s xs h l = let n = length-fits s xs l in record { low = h .low; high = h .high; whole = n .1; short = n .0 }
+take-passed s xs h l = let n = length-fits s xs l in record { low = h .low; high = h .high; user = h .user; whole = n .1; short = n .0 }
 
 pub checks-passed : (s : Shape) (xs : List ℕ) → first (takeChecks s xs) ≡ none → Passed s xs
 checks-passed s xs e =
@@ -78,4 +91,4 @@ checks-passed s xs e =
 
 -- what has passed once is a shape that fits
 pub passed-shape : (s : Shape) (xs : List ℕ) → Passed s xs → ShapeFits s
-passed-shape s xs p = record { low = p .low; high = p .high }
+passed-shape s xs p = record { low = p .low; high = p .high; user = p .user }

@@ -1,5 +1,5 @@
 -- Every statement of specs/Promises, proved: mostly by citing the law that carries it. Assumes nothing.
-use mathlib.Core.Path.{_≡_, refl, sym, ap, _∙_}
+use mathlib.Core.Path.{_≡_, refl, sym, ap, ap₂, _∙_}
 use mathlib.Core.Logic.{inl, inr, ⊎-elim}
 use mathlib.Core.Bool.{Bool, true, false, not, _||_, or-true}
 use mathlib.Core.List.{List, [], _∷_}
@@ -15,7 +15,7 @@ use Rattle.stream_spec.specs.declared.Shape.{Shape}
 use Rattle.stream_spec.specs.declared.Verdict.the-variants.{Clean}
 use Rattle.stream_spec.specs.Items.{Item, Transfer, items}
 use Rattle.stream_spec.specs.Packed.{pack, sliceTransfer, slices}
-use Rattle.stream_spec.specs.Layout.{bit, odd, size, tvalid, aresetn, tkeep, tstrb, atWidth, nullLane, laneType, typesOf, Kept, dataOctets, recordCount, records, transferOf, transfers, octets, streamItems, slicedTransfers}
+use Rattle.stream_spec.specs.Layout.{bit, odd, size, tvalid, aresetn, tkeep, tstrb, shaped, atWidth, nullLane, laneType, typesOf, Kept, dataOctets, recordCount, records, transferOf, transfers, octets, streamItems, packed, slicedTransfers}
 use Rattle.stream_spec.specs.Checks.{takeChecks, indexCheck}
 use Rattle.stream_spec.specs.Handshake.{wasReset}
 use Rattle.stream_spec.specs.Walk.{Passed}
@@ -28,7 +28,7 @@ use Rattle.refusal.proofs.First.{first-none, append-none}
 use Rattle.stream_spec.proofs.Passed.{checks-passed}
 use Rattle.stream_spec.proofs.Pack.{pack-parted, length-spread, items-slices, wide-slices}
 use Rattle.stream_spec.proofs.Hold.{hold}
-use Rattle.stream_spec.proofs.Records.{packed-items, length-packed, transfers-back}
+use Rattle.stream_spec.proofs.Records.{packed-items, length-packed, transfers-back, sliced-tagged}
 use Rattle.stream_spec.proofs.Legal.{packed-legal, sliced-legal, wide-transfers}
 use Rattle.stream_spec.proofs.Full.{packed-full}
 use Rattle.stream_spec.proofs.Only.{packed-only}
@@ -138,9 +138,13 @@ pub joins : Joins
 joins v is js h = pack-parted v is js h
 
 pub canonical : Canonical
-canonical s t v xs ys w l m = (
-  (λ e. sym (packed-items s v (w .0) xs) ∙ ap (streamItems (atWidth s v)) e ∙ packed-items t v (w .0) ys),
-  (λ e. ap (λ (is : List (Item Kept)). octets (pack v is)) e),
+canonical s t v xs ys m w l k = (
+  (λ e.
+  sym (packed-items s v (w .0) xs)
+  ∙ ap (streamItems (atWidth s v)) e
+  ∙ ap (λ (u : ℕ). streamItems (shaped v u) (packed t v ys)) m
+  ∙ packed-items t v (w .0) ys),
+  (λ e. ap₂ (λ (u : ℕ) (is : List (Item Kept)). octets u (pack v is)) m e),
 )
 
 -- ---- lane-keeping downsizing
@@ -166,12 +170,12 @@ one-slice w v d h = go (w / v) (div-add-mod' w v)
 
 pub laneKeeping : LaneKeeping
 laneKeeping s v xs w d l =
-    let same = ap items (transfers-back (atWidth s v) (slicedTransfers s v xs) (wide-slices (s .width) v (transfers s xs)))
+    let same = ap items (transfers-back (atWidth s v) (slicedTransfers s v xs) (wide-slices (s .width) v (transfers s xs)) (sliced-tagged s v xs))
     ∙ items-slices (s .width) v (w .0) d (l .widthLow) (transfers s xs) (wide-transfers s xs) in
     record {
       same = same;
       legal = sliced-legal s v xs (w .0) (w .1) l;
-      packs = λ u. ap (λ (is : List (Item Kept)). octets (pack u is)) same;
+      packs = λ u. ap (λ (is : List (Item Kept)). octets (s .user) (pack u is)) same;
       count =
           count-slices (s .width) v (one-slice (s .width) v d (l .widthLow)) (transfers s xs)
           ∙ ap (λ (n : ℕ). n * (s .width / v)) (length-map (records s xs) (transferOf s));

@@ -10,11 +10,14 @@ use native.Mathlib.Decide.{decLe}
 use native.Mathlib.Omega.{arith}
 use lib.ListN.{length, take, drop, length-map, length-append, length-drop}
 use lib.Seq.{length-take-le, take-all, take-at, drop-at, take-append-le, drop-append-le}
+use Rattle.words.specs.Words.{octetsOfWord}
 use Rattle.stream_spec.specs.declared.Shape.{Shape}
 use Rattle.stream_spec.specs.Items.{Transfer, items}
-use Rattle.stream_spec.specs.Layout.{maskOf, size, atWidth, typesOf, laneType, laneOf, lanesOf, Kept, octet, position, keepBit, strbBit, laneOctet, transferOf, octetsOf, pieces, piecesOf, recordCount, records, joined, transfers, octets, streamItems, packedTransfers, packed}
-use Rattle.stream_spec.proofs.Bits.{bit-back, odd-mask, half-mask, two-octets}
+use Rattle.stream_spec.specs.Layout.{maskOf, userOctets, size, atWidth, Kept, keepBit, strbBit, laneOctet, usersOf, transferOf, octetsOf, pieces, piecesOf, recordCount, records, joined, transfers, octets, streamItems, packedTransfers, packed, slicedTransfers}
+use Rattle.stream_spec.proofs.Bits.{bit-back, two-octets}
 use Rattle.stream_spec.proofs.Size.{size-pos, length-octetsOf}
+use Rattle.stream_spec.proofs.Users.{AnyPair, BitsFit, LanesTagged, Tagged, users-back, lanes-back, transfers-tagged}
+use Rattle.stream_spec.proofs.Each.{each-items, each-pack, each-slices}
 use Rattle.stream_spec.proofs.Pack.{map-append, items-append, items-pack, wide-pack, Wide}
 
 -- ---- pieces
@@ -102,50 +105,43 @@ length-pieces z (suc n) xs = ap suc (length-pieces z n (drop z xs))
 
 -- ---- a transfer and its octets
 
--- a lane comes back from its two bits and its octet
-lane-back : (l : Option Kept) → laneOf (laneType (keepBit l) (strbBit l)) (laneOctet l) ≡ l
-lane-back none = refl
-lane-back (some (octet d)) = refl
-lane-back (some position) = refl
-
-lanes-back : (ls : List (Option Kept))
-    → lanesOf (typesOf (length ls) (maskOf (map keepBit ls)) (maskOf (map strbBit ls))) (map laneOctet ls) ≡ ls
-lanes-back [] = refl
-lanes-back (l ∷ ls) =
-    rw (odd-mask (keepBit l) (maskOf (map keepBit ls)), odd-mask (strbBit l) (maskOf (map strbBit ls)))
-    (rw (half-mask (keepBit l) (maskOf (map keepBit ls)), half-mask (strbBit l) (maskOf (map strbBit ls)))
-    (rw (lane-back l, lanes-back ls) refl))
-
--- a transfer of the shape's width comes back from its octets
-pub transfer-back : (s : Shape) (t : Transfer Kept) → length (t .lanes) ≡ s .width → transferOf s (octetsOf t) ≡ t
-transfer-back s t h =
-    let short : length (map laneOctet (t .lanes)) ≤ s .width = omega (arith, length-map (t .lanes) laneOctet) in
-    rw (bit-back (t .last), two-octets (maskOf (map keepBit (t .lanes))), two-octets (maskOf (map strbBit (t .lanes))))
-    (rw (take-all (s .width) (map laneOctet (t .lanes)) short, ← h, lanes-back (t .lanes)) refl)
+-- a transfer of the shape's width, whose bits fit, comes back from its octets
+pub transfer-back : (s : Shape) (t : Transfer Kept) → length (t .lanes) ≡ s .width → LanesTagged (s .user) (t .lanes)
+    → transferOf s (octetsOf (s .user) t) ≡ t
+transfer-back s t h k =
+    let m = s .user in
+    let us = octetsOfWord (userOctets (length (t .lanes)) m) (usersOf m (t .lanes)) in
+    let lanes = take-at (map laneOctet (t .lanes)) us (s .width) (length-map (t .lanes) laneOctet ∙ h) in
+    rw (users-back s t h k, bit-back (t .last), two-octets (maskOf (map keepBit (t .lanes))), two-octets (maskOf (map strbBit (t .lanes))))
+    (rw (lanes, ← h, lanes-back m (t .lanes) k) refl)
 
 -- ---- transfers and their octets
 
-pub octets-sized : (s : Shape) (ts : List (Transfer Kept)) → Wide (s .width) ts → Sized (size s) (map octetsOf ts)
+pub octets-sized : (s : Shape) (ts : List (Transfer Kept)) → Wide (s .width) ts → Sized (size s) (map (octetsOf (s .user)) ts)
 octets-sized s [] h = tt
 octets-sized s (t ∷ ts) h = (length-octetsOf s t (h .0), octets-sized s ts (h .1))
 
-pub length-octets : (s : Shape) (ts : List (Transfer Kept)) → Wide (s .width) ts → length (octets ts) ≡ length ts * size s
+pub length-octets : (s : Shape) (ts : List (Transfer Kept)) → Wide (s .width) ts → length (octets (s .user) ts) ≡ length ts * size s
 length-octets s ts h =
-    length-joined (size s) (map octetsOf ts) (octets-sized s ts h) ∙ ap (λ (n : ℕ). n * size s) (length-map ts octetsOf)
+    length-joined (size s) (map (octetsOf (s .user)) ts) (octets-sized s ts h)
+    ∙ ap (λ (n : ℕ). n * size s) (length-map ts (octetsOf (s .user)))
 
-pub octets-append : (ts us : List (Transfer Kept)) → octets (ts ++ us) ≡ octets ts ++ octets us
-octets-append [] us = refl
-octets-append (t ∷ ts) us =
-    ap (λ (l : List ℕ). octetsOf t ++ l) (octets-append ts us) ∙ sym (append-assoc (octetsOf t) (octets ts) (octets us))
+pub octets-append : (m : ℕ) (ts us : List (Transfer Kept)) → octets m (ts ++ us) ≡ octets m ts ++ octets m us
+octets-append m [] us = refl
+octets-append m (t ∷ ts) us =
+    ap (λ (l : List ℕ). octetsOf m t ++ l) (octets-append m ts us) ∙ sym (append-assoc (octetsOf m t) (octets m ts) (octets m us))
 
-transfers-each : (s : Shape) (ts : List (Transfer Kept)) → Wide (s .width) ts → map (transferOf s) (map octetsOf ts) ≡ ts
-transfers-each s [] h = refl
-transfers-each s (t ∷ ts) h = ap₂ {C = List (Transfer Kept)} (λ u us. u ∷ us) (transfer-back s t (h .0)) (transfers-each s ts (h .1))
+transfers-each : (s : Shape) (ts : List (Transfer Kept)) → Wide (s .width) ts → Tagged (s .user) ts
+    → map (transferOf s) (map (octetsOf (s .user)) ts) ≡ ts
+transfers-each s [] h k = refl
+transfers-each s (t ∷ ts) h k =
+    ap₂ {C = List (Transfer Kept)} (λ u us. u ∷ us) (transfer-back s t (h .0) (k .1)) (transfers-each s ts (h .1) (k .2))
 
--- transfers of the shape's width come back from their octets
-pub transfers-back : (s : Shape) (ts : List (Transfer Kept)) → Wide (s .width) ts → transfers s (octets ts) ≡ ts
-transfers-back s ts h =
-    ap (map (transferOf s)) (records-joined s (map octetsOf ts) (octets-sized s ts h)) ∙ transfers-each s ts h
+-- transfers of the shape's width, whose bits fit, come back from their octets
+pub transfers-back : (s : Shape) (ts : List (Transfer Kept)) → Wide (s .width) ts → Tagged (s .user) ts
+    → transfers s (octets (s .user) ts) ≡ ts
+transfers-back s ts h k =
+    ap (map (transferOf s)) (records-joined s (map (octetsOf (s .user)) ts) (octets-sized s ts h)) ∙ transfers-each s ts h k
 
 pub streamItems-append : (s : Shape) (xs ys : List ℕ) → length xs % size s ≡ 0 → streamItems s (xs ++ ys) ≡ streamItems s xs ++ streamItems s ys
 streamItems-append s xs ys h =
@@ -155,6 +151,15 @@ streamItems-append s xs ys h =
 
 -- ---- the packed form as octets
 
+-- bits that were read fit, wherever they are written
+pub packed-tagged : (s : Shape) (v : ℕ) (xs : List ℕ) → Tagged (s .user) (packedTransfers s v xs)
+packed-tagged s v xs =
+    each-pack AnyPair (BitsFit (s .user)) v (streamItems s xs)
+    (each-items AnyPair (BitsFit (s .user)) (transfers s xs) (transfers-tagged s (records s xs)))
+
+pub sliced-tagged : (s : Shape) (v : ℕ) (xs : List ℕ) → Tagged (s .user) (slicedTransfers s v xs)
+sliced-tagged s v xs = each-slices AnyPair (BitsFit (s .user)) (s .width) v (transfers s xs) (transfers-tagged s (records s xs))
+
 pub length-packed : (s : Shape) (v : ℕ) (xs : List ℕ) → length (packed s v xs) ≡ length (packedTransfers s v xs) * size (atWidth s v)
 length-packed s v xs = length-octets (atWidth s v) (packedTransfers s v xs) (wide-pack v (streamItems s xs))
 
@@ -162,5 +167,5 @@ length-packed s v xs = length-octets (atWidth s v) (packedTransfers s v xs) (wid
 -- order, and adds none": the packed form carries the stream's items.
 pub packed-items : (s : Shape) (v : ℕ) → 0 < v → (xs : List ℕ) → streamItems (atWidth s v) (packed s v xs) ≡ streamItems s xs
 packed-items s v h xs =
-    ap items (transfers-back (atWidth s v) (packedTransfers s v xs) (wide-pack v (streamItems s xs)))
+    ap items (transfers-back (atWidth s v) (packedTransfers s v xs) (wide-pack v (streamItems s xs)) (packed-tagged s v xs))
     ∙ items-pack v h (streamItems s xs)

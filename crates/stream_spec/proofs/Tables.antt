@@ -52,6 +52,9 @@ legalTested s xs = (tested, legal)
     high : Bool
     high = leb (s .width) 16
 
+    few : Bool
+    few = leb (s .user) 4
+
     whole' : Bool
     whole' = eqb (length xs % size s) 0
 
@@ -60,6 +63,7 @@ legalTested s xs = (tested, legal)
         rw (
           le-leb 1 (s .width) (l .widthLow),
           le-leb (s .width) 16 (l .widthHigh),
+          le-leb (s .user) 4 (l .userHigh),
           octets-tested xs .0 (l .octets),
           eq-eqb (length xs % size s) 0 (l .whole),
           l .faultless,
@@ -67,13 +71,15 @@ legalTested s xs = (tested, legal)
 
     legal : isLegal s xs ≡ true → Legal s xs
     legal e =
-        let d = both (low && high && areOctets xs && whole') (isNone (first (transferChecks s 0 (records s xs)))) e in
-        let c = both (low && high && areOctets xs) whole' (d .0) in
-        let b = both (low && high) (areOctets xs) (c .0) in
-        let a = both low high (b .0) in
+        let d = both (low && high && few && areOctets xs && whole') (isNone (first (transferChecks s 0 (records s xs)))) e in
+        let c = both (low && high && few && areOctets xs) whole' (d .0) in
+        let b = both (low && high && few) (areOctets xs) (c .0) in
+        let u = both (low && high) few (b .0) in
+        let a = both low high (u .0) in
         record {
           widthLow = leb-true 1 (s .width) (a .0);
           widthHigh = leb-true (s .width) 16 (a .1);
+          userHigh = leb-true (s .user) 4 (u .1);
           octets = octets-tested xs .1 (b .1);
           whole = eqb-true (length xs % size s) 0 (c .1);
           faultless = none-tested (first (transferChecks s 0 (records s xs))) (d .1);

@@ -121,13 +121,13 @@ joined = joins 1 onesItems firstItems refl
 -- two widths, one content: equal packed forms; without the end they are not equal
 pub same-content : atFour ≡ packed (lanes 1) 4 atOne
 unfolding size
-same-content = canonical (lanes 2) (lanes 1) 4 (first .octets) atOne (width 4 refl) legal-first (legal 1 atOne refl) .1 refl
+same-content = canonical (lanes 2) (lanes 1) 4 (first .octets) atOne refl (width 4 refl) legal-first (legal 1 atOne refl) .1 refl
 
 pub other-content : atFour ≡ packed (lanes 1) 4 endless → ⊥
 unfolding size
 other-content e =
     let same : firstItems ≡ endlessItems =
-    canonical (lanes 2) (lanes 1) 4 (first .octets) endless (width 4 refl) legal-first (legal 1 endless refl) .0 e in
+    canonical (lanes 2) (lanes 1) 4 (first .octets) endless refl (width 4 refl) legal-first (legal 1 endless refl) .0 e in
     let z : _≡_ {A = ℕ} 0 1 = cc in omega arith
 
 -- ---- lane-keeping downsizing, P1's transfer from 4 to 2

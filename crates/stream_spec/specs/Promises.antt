@@ -114,11 +114,12 @@ Holds =
 abbrev pub Joins : Type 0
 Joins = (v : ℕ) (is js : List (Item Kept)) → parted is js ≡ true → pack v (is ++ js) ≡ pack v is ++ pack v js
 
--- The packed form is canonical: two legal streams of any two widths have equal packed forms at a width exactly when they
--- carry the same items. So comparing two files of packed records octet by octet compares what the streams carry.
+-- The packed form is canonical: two legal streams of any two widths and of one m have equal packed forms at a width exactly when
+-- they carry the same items. So comparing two files of packed records octet by octet compares what the streams carry. Of two
+-- different m it is false both ways (`other-m` of proofs/Witnesses).
 abbrev pub Canonical : Type 0
 Canonical =
-    (s t : Shape) (v : ℕ) (xs ys : List ℕ) → Width v → Legal s xs → Legal t ys
+    (s t : Shape) (v : ℕ) (xs ys : List ℕ) → s .user ≡ t .user → Width v → Legal s xs → Legal t ys
     → (packed s v xs ≡ packed t v ys) ↔ (streamItems s xs ≡ streamItems t ys)
 
 -- ---- lane-keeping downsizing

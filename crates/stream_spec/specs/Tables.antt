@@ -6,7 +6,7 @@ use mathlib.Core.Bool.{Bool, true, false, _&&_}
 use mathlib.Core.List.{List, [], _∷_, _++_, map}
 use mathlib.Core.Option.{Option, none, some}
 use mathlib.Core.Logic.{_↔_}
-use Prim.Native.Nat.{ℕ, _*_, _%_}
+use Prim.Native.Nat.{ℕ, _*_, _%_, _≤_}
 use lib.Dec.{eqb, leb, ltb}
 use lib.ListN.{length}
 use Rattle.refusal.specs.declared.Refusal.{Refusal}
@@ -15,7 +15,7 @@ use Rattle.stream_spec.specs.declared.Shape.{Shape}
 use Rattle.stream_spec.specs.declared.Written.the-variants.{Records, Refused as NotWritten}
 use Rattle.stream_spec.specs.Items.{Pair, Item, byte, end}
 use Rattle.stream_spec.specs.Packed.{apart, parted}
-use Rattle.stream_spec.specs.Layout.{ofWidth, Kept, position, size, records, streamItems}
+use Rattle.stream_spec.specs.Layout.{userMost, shaped, ofWidth, Kept, position, size, records, streamItems}
 use Rattle.refusal.specs.Checks.{first}
 use Rattle.stream_spec.specs.Checks.{widthCheck, transferChecks}
 use Rattle.stream_spec.specs.Legal.{Legal}
@@ -51,7 +51,7 @@ isNone (some r) = false
 
 abbrev pub isLegal : Shape → List ℕ → Bool
 isLegal s xs =
-    leb 1 (s .width) && leb (s .width) 16 && areOctets xs && eqb (length xs % size s) 0
+    leb 1 (s .width) && leb (s .width) 16 && leb (s .user) 4 && areOctets xs && eqb (length xs % size s) 0
     && isNone (first (transferChecks s 0 (records s xs)))
 
 abbrev pub LegalTested : Type 0
@@ -60,20 +60,29 @@ LegalTested = (s : Shape) (xs : List ℕ) → Legal s xs ↔ (isLegal s xs ≡ t
 abbrev pub stream : ℕ → List ℕ → Standing
 stream w xs = record { shape = lanes w; octets = xs }
 
--- empty at the narrowest and the widest; all-null; the highest of every field, and TLAST; several records; width 16
+-- the same with so many user bits to a byte
+abbrev pub tagged : ℕ → ℕ → List ℕ → Standing
+tagged w m xs = record { shape = shaped w m; octets = xs }
+
+-- empty at the narrowest and the widest; all-null; the highest of every field, and TLAST; several records; width 16. With user bits:
+-- empty at the most; the highest bit of one lane, and of three lanes whose bits take two octets
 abbrev pub legalStreams : List Standing
 legalStreams =
     stream 1 [] ∷ stream 16 [] ∷ stream 1 (one 0 0 0 0 0 0) ∷ stream 1 (one 1 255 15 1 1 255)
     ∷ stream 1 (one 0 0 0 1 0 0 ++ (one 1 255 15 1 1 255 ++ one 0 1 2 0 0 7))
     ∷ stream 16 (1 ∷ 1 ∷ 2 ∷ 255 ∷ 255 ∷ 255 ∷ 127 ∷ 0 ∷ 1 ∷ 2 ∷ 3 ∷ 4 ∷ 5 ∷ 6 ∷ 7 ∷ 8 ∷ 9 ∷ 10 ∷ 11 ∷ 12 ∷ 13 ∷ 14 ∷ 15 ∷ [])
+    ∷ tagged 16 4 [] ∷ tagged 1 4 (one 1 255 15 1 1 255 ++ (8 ∷ [])) ∷ tagged 3 3 (0 ∷ 0 ∷ 0 ∷ 7 ∷ 0 ∷ 7 ∷ 0 ∷ 1 ∷ 2 ∷ 3 ∷ 0 ∷ 1 ∷ [])
     ∷ []
 
--- width 0 and 17; a number that is no octet; an octet too many, and too few; FIELD by octet 0, TDEST and TKEEP; RESERVED
+-- width 0 and 17; a number that is no octet; an octet too many, and too few; FIELD by octet 0, TDEST and TKEEP; RESERVED. With user
+-- bits: more than the most; no octet for them; the lowest bit of the padding, behind one lane and behind three
 abbrev pub illegalStreams : List Standing
 illegalStreams =
     stream 0 [] ∷ stream 17 [] ∷ stream 1 (one 0 0 0 1 1 256) ∷ stream 1 (one 0 0 0 1 1 7 ++ (0 ∷ []))
     ∷ stream 1 (0 ∷ 0 ∷ 0 ∷ 1 ∷ 0 ∷ 1 ∷ 0 ∷ []) ∷ stream 1 (one 2 0 0 0 0 0) ∷ stream 1 (one 0 0 16 0 0 0)
-    ∷ stream 1 (one 0 0 0 2 0 0) ∷ stream 1 (one 0 0 0 1 1 7 ++ one 0 0 0 0 1 7) ∷ []
+    ∷ stream 1 (one 0 0 0 2 0 0) ∷ stream 1 (one 0 0 0 1 1 7 ++ one 0 0 0 0 1 7)
+    ∷ tagged 1 5 [] ∷ tagged 1 4 (one 1 255 15 1 1 255) ∷ tagged 1 4 (one 1 255 15 1 1 255 ++ (16 ∷ []))
+    ∷ tagged 3 3 (0 ∷ 0 ∷ 0 ∷ 7 ∷ 0 ∷ 7 ∷ 0 ∷ 1 ∷ 2 ∷ 3 ∷ 0 ∷ 2 ∷ []) ∷ []
 
 abbrev pub isLegalNow : Standing → Bool
 isLegalNow st = isLegal (st .shape) (st .octets)
@@ -88,7 +97,7 @@ pub record Long (s : Shape) (n : ℕ) : Type 0 where
   pub count : length octets ≡ n * size s
 
 abbrev pub LegalLong : Type 0
-LegalLong = (s : Shape) (n : ℕ) → Width (s .width) → Long s n
+LegalLong = (s : Shape) (n : ℕ) → Width (s .width) → s .user ≤ userMost → Long s n
 
 -- ---- divisions
 
@@ -97,13 +106,13 @@ pair tid tdest = record { tid = tid; tdest = tdest }
 
 -- nothing, then an end and a byte of the pair (1, 2)
 abbrev pub lasts : List (Option (Item Kept))
-lasts = none ∷ some (end (pair 1 2)) ∷ some (byte (pair 1 2) position) ∷ []
+lasts = none ∷ some (end (pair 1 2)) ∷ some (byte (pair 1 2) (position 0)) ∷ []
 
 -- nothing, then a byte and an end of the same pair, of another TID, and of another TDEST
 abbrev pub firsts : List (Option (Item Kept))
 firsts =
-    none ∷ some (byte (pair 1 2) position) ∷ some (end (pair 1 2)) ∷ some (byte (pair 3 2) position) ∷ some (end (pair 3 2))
-    ∷ some (byte (pair 1 3) position) ∷ some (end (pair 1 3)) ∷ []
+    none ∷ some (byte (pair 1 2) (position 0)) ∷ some (end (pair 1 2)) ∷ some (byte (pair 3 2) (position 0)) ∷ some (end (pair 3 2))
+    ∷ some (byte (pair 1 3) (position 0)) ∷ some (end (pair 1 3)) ∷ []
 
 -- a row for each last item before a division, in it a column for each first item after it
 abbrev pub ApartTable : Type 0

@@ -18,7 +18,7 @@ abbrev pub first : Standing
 first = stream 2 (0 ∷ 1 ∷ 2 ∷ 3 ∷ 0 ∷ 3 ∷ 0 ∷ 17 ∷ 34 ∷ 1 ∷ 1 ∷ 2 ∷ 2 ∷ 0 ∷ 0 ∷ 0 ∷ 0 ∷ 51 ∷ [])
 
 abbrev pub endlessItems : List (Item Kept)
-endlessItems = byte (pair 1 2) (octet 17) ∷ byte (pair 1 2) (octet 34) ∷ byte (pair 1 2) position ∷ []
+endlessItems = byte (pair 1 2) (octet 17 0) ∷ byte (pair 1 2) (octet 34 0) ∷ byte (pair 1 2) (position 0) ∷ []
 
 abbrev pub firstItems : List (Item Kept)
 firstItems = endlessItems ++ end (pair 1 2) ∷ []
@@ -82,10 +82,10 @@ transfer lanes last = record { pair = pair 1 2; lanes = lanes; last = last }
 
 -- two full transfers of width 1, the second with TLAST, and one that is all-null
 abbrev pub packedOnes : List (Transfer Kept)
-packedOnes = transfer (some (octet 17) ∷ []) false ∷ transfer (some position ∷ []) true ∷ transfer (none ∷ []) true ∷ []
+packedOnes = transfer (some (octet 17 0) ∷ []) false ∷ transfer (some (position 0) ∷ []) true ∷ transfer (none ∷ []) true ∷ []
 
 abbrev pub onesBytes : List (Item Kept)
-onesBytes = byte (pair 1 2) (octet 17) ∷ byte (pair 1 2) position ∷ []
+onesBytes = byte (pair 1 2) (octet 17 0) ∷ byte (pair 1 2) (position 0) ∷ []
 
 abbrev pub onesEnds : List (Item Kept)
 onesEnds = end (pair 1 2) ∷ end (pair 1 2) ∷ []
@@ -101,7 +101,7 @@ p1Slices =
     ∷ 0x01 ∷ 0x01 ∷ 0x02 ∷ 0x03 ∷ 0x00 ∷ 0x02 ∷ 0x00 ∷ 0x00 ∷ 0x44 ∷ []
 
 abbrev pub p1Items : List (Item Kept)
-p1Items = byte (pair 1 2) (octet 0x11) ∷ byte (pair 1 2) position ∷ byte (pair 1 2) (octet 0x44) ∷ end (pair 1 2) ∷ []
+p1Items = byte (pair 1 2) (octet 0x11 0) ∷ byte (pair 1 2) (position 0) ∷ byte (pair 1 2) (octet 0x44 0) ∷ end (pair 1 2) ∷ []
 
 abbrev pub p1Packed : List ℕ
 p1Packed = 0x01 ∷ 0x01 ∷ 0x02 ∷ 0x07 ∷ 0x00 ∷ 0x05 ∷ 0x00 ∷ 0x11 ∷ 0x00 ∷ 0x44 ∷ 0x00 ∷ []

@@ -21,6 +21,30 @@ word-octets (suc k) s i h =
     let high : (getD s i 0 + 256 * wordAt k s (i + 1)) / 256 ≡ wordAt k s (i + 1) = omega (arith, h i) in
     rw (low, high, word-octets k s (i + 1) h, getD-drop i s 0 0, add-zero i, drop-drop 1 i s) refl
 
+-- the word at a place is the word at the front of what stands there
+pub word-drop : (k a : ℕ) (xs : List ℕ) (i : ℕ) → wordAt k xs (a + i) ≡ wordAt k (drop a xs) i
+word-drop zero a xs i = refl
+word-drop (suc k) a xs i =
+    let next : a + i + 1 ≡ a + (i + 1) = omega arith in
+    rw (getD-drop a xs i 0, next, word-drop k a xs (i + 1)) refl
+
+-- a number that k octets hold comes back from them
+pub word-back : (k n : ℕ) → n < 2 ^ (8 * k) → wordAt k (octetsOfWord k n) 0 ≡ n
+word-back zero n h = omega arith
+word-back (suc k) n h =
+    let eight : 8 * suc k ≡ 8 * k + 8 = omega arith in
+    let high : 2 ^ (8 * suc k) ≡ 2 ^ (8 * k) * 256 = rw eight (pow-add 2 (8 * k) 8) in
+    let rest : wordAt k (octetsOfWord k (n / 256)) 0 ≡ n / 256 = word-back k (n / 256) (omega (arith, high)) in
+    rw (word-drop k 1 (octetsOfWord (suc k) n) 0, rest) (omega arith)
+
+-- octets make a number that they hold
+pub word-fits : (k : ℕ) (s : List ℕ) (i : ℕ) → ((j : ℕ) → getD s j 0 < 256) → wordAt k s i < 2 ^ (8 * k)
+word-fits zero s i h = omega arith
+word-fits (suc k) s i h =
+    let eight : 8 * suc k ≡ 8 * k + 8 = omega arith in
+    let high : 2 ^ (8 * suc k) ≡ 2 ^ (8 * k) * 256 = rw eight (pow-add 2 (8 * k) 8) in
+    omega (arith, high, h i, word-fits k s (i + 1) h)
+
 pub length-padded : (k n : ℕ) (xs : List ℕ) → length (padded k n xs) ≡ k
 length-padded zero n xs = refl
 length-padded (suc k) zero xs = ap suc (length-padded k zero (drop 1 xs))
