@@ -125,7 +125,7 @@ static void p1(void)
 
 /* ---- the report ---- */
 
-#define SHEET "width_in=4\nwidth_out=2\nmode=pack\ntlast=wired\n"
+#define SHEET "width_in=4\nwidth_out=2\nmode=pack\ntlast=wired\nuser=0\n"
 
 /* One report: its numbers, its text, its result, and every octet of both rooms. */
 static void reports(const char *sheet, uint32_t sheet_read, const char *take, uint32_t take_read, size_t out_length, size_t text_length, urd_report_answer expected, const char *told, const char *result, const char *what)

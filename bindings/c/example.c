@@ -73,7 +73,7 @@ static void writes(void)
 /* All of it in one call: a setup sheet and a take give the report's lines and the result. */
 static void report(void)
 {
-    static const char sheet[] = "width_in=4\nwidth_out=2\nmode=pack\ntlast=wired\n";
+    static const char sheet[] = "width_in=4\nwidth_out=2\nmode=pack\ntlast=wired\nuser=0\n";
     uint8_t out[64], text[128];
 
     urd_report_answer answer = urd_report((const uint8_t *)sheet, sizeof sheet - 1, 1, capture, sizeof capture, 1,

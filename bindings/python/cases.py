@@ -65,7 +65,7 @@ def _():
     packs(4, 2, TRANSFER, 2, "00 01 02 03 00 01 00 11 00 01 01 02 01 00 01 00 44 00")
 
 
-SHEET = b"width_in=4\nwidth_out=2\nmode=pack\ntlast=wired\n"
+SHEET = b"width_in=4\nwidth_out=2\nmode=pack\ntlast=wired\nuser=0\n"
 
 
 def report(verdict, text, refusal=0, rule=0, place=0, counts=(0, 0, 0), result=""):
@@ -90,7 +90,7 @@ def _():
     same(urd.report(SHEET, octets(TAKE + "1" + TAKE[1:])), refused(urd.FIELD, 1), "a field of record 1")
     broken = report(urd.BROKEN, "verdict=broken\ncycle=1\nrule=3\n", rule=3, place=1)
     same(urd.report(SHEET, octets("0A" + TAKE[2:] + TAKE)), broken, "TLAST changed while waiting")
-    wide = b"width_in=16\nwidth_out=1\nmode=lanes\ntlast=none\n"
+    wide = b"width_in=16\nwidth_out=1\nmode=lanes\ntlast=none\nuser=0\n"
     same(urd.report(wide, octets("0E" + " 00" * 22) * 513), refused(urd.ROOM), "a result of 65,664 octets")
 
 

@@ -46,7 +46,7 @@ def writes():
 
 def report():
     """All of it in one call: a setup sheet and a take give the report's lines and the result."""
-    print(urd.report(b"width_in=4\nwidth_out=2\nmode=pack\ntlast=wired\n", CAPTURE).text, end="")
+    print(urd.report(b"width_in=4\nwidth_out=2\nmode=pack\ntlast=wired\nuser=0\n", CAPTURE).text, end="")
 
 
 stream()

@@ -52,7 +52,7 @@ static void fill(int kind, int bad)
 
 static void write_sheet(int lanes, const char *tlast)
 {
-    sheet_length = (size_t)snprintf((char *)sheet, sizeof sheet, "width_in=%zu\nwidth_out=%zu\nmode=%s\ntlast=%s\n", w, v, lanes ? "lanes" : "pack", tlast);
+    sheet_length = (size_t)snprintf((char *)sheet, sizeof sheet, "width_in=%zu\nwidth_out=%zu\nmode=%s\ntlast=%s\nuser=0\n", w, v, lanes ? "lanes" : "pack", tlast);
 }
 
 /* Write beats of one byte each, of each kind of burst, on a bus of 1 to 128 bytes: clean ones of DATA, else as many as a take can have.

@@ -4,22 +4,24 @@ use mathlib.Core.Bool.{Bool, true, false, cond, _&&_}
 use mathlib.Core.List.{List, [], _∷_}
 use mathlib.Core.Option.{Option, none, some}
 use mathlib.Core.Path.{_≡_, refl, sym, ap, ap₂, _∙_, subst}
-use Prim.Native.Nat.{ℕ, zero, suc, _+_, _-_, _≤_, _<_}
+use Prim.Native.Nat.{ℕ, zero, suc, _+_, _-_, _/_, _%_, _≤_, _<_}
 use native.Mathlib.Nat.{le-of-suc-le-suc, zero-add, suc-add}
 use native.Mathlib.Numerals.{add-one}
 use native.Mathlib.Omega.{arith}
-use lib.Dec.{eqb, leb}
+use lib.Dec.{eqb, leb, ltb}
 use lib.ListN.{length, getD, take, drop, length-drop, drop-of-length-le}
 use lib.Seq.{drop-cons, drop-drop, take-nil, take-all, length-take-le}
-use borrow.Author.Tests.{eq-eqb, ne-eqb, le-leb, lt-leb, leb-true, eqb-true, eqb-false}
+use borrow.Author.Tests.{eq-eqb, ne-eqb, le-leb, lt-leb, ltb-false, eqb-true, eqb-false}
 use Rattle.report_setup_spec.specs.declared.Mode.{Mode}
 use Rattle.report_setup_spec.specs.declared.Mode.the-variants.{Lanes}
 use Rattle.report_setup_spec.specs.declared.Tlast.{Tlast}
 use Rattle.report_setup_spec.specs.declared.Tlast.the-variants.{Absent}
 use Rattle.report_setup_spec.specs.declared.Sheet.{Sheet}
 use Rattle.report_setup_spec.specs.declared.Sheet.the-variants.{Read, Refused}
-use Rattle.report_setup_spec.specs.Grammar.{text, Line as Held, line, longer as longerLine, on, firstLine, after, entry, lineOf, nothingLeft, Word, isWord, oneOf, modes, tlasts, number, sheetOf}
+use Rattle.report_setup_spec.specs.Grammar.{text, Line as Held, line, longer as longerLine, on, firstLine, after, entry, lineOf, nothingLeft, Word, isWord, oneOf, modes, tlasts, digit, number, sheetOf}
 use Rattle.report_setup_spec.specs.Answers.{sheetValues, Parsed}
+use Rattle.report_setup_spec.specs.Promises.{numeral}
+use Rattle.report_setup_spec.proofs.Promises.{digitsExactly, numbersExactly}
 use Rattle.report_setup.specs.declared.Value.{Value}
 use Rattle.report_setup.specs.declared.Value.the-variants.{Is, Missing}
 use Rattle.report_setup.specs.declared.Line.{Line}
@@ -270,6 +272,54 @@ other-length (x ∷ []) e f = absurd (e refl)
 other-length (x ∷ y ∷ []) e f = absurd (f refl)
 other-length (x ∷ y ∷ z ∷ v) e f = refl
 
+-- ---- one digit: a number up to 9
+
+abbrev upTo9 : Option ℕ → Option ℕ
+upTo9 none = none
+upTo9 (some n) = cond (leb n 9) (some n) none
+
+two-over-9 : (x y n : ℕ) → x ∷ y ∷ [] ≡ numeral n → 9 < n
+two-over-9 x y n e = go (ltb n 10) refl e
+  where
+    go : (b : Bool) → ltb n 10 ≡ b → x ∷ y ∷ [] ≡ cond b ((48 + n) ∷ []) ((48 + n / 10) ∷ (48 + n % 10) ∷ []) → 9 < n
+    go true p q = let same : _≡_ {A = ℕ} 2 1 = ap length q in absurd (omega arith)
+    go false p q = let l : 10 ≤ n = ltb-false n 10 p in omega arith
+
+digit-is : (v : List ℕ) → digit v ≡ upTo9 (number v)
+digit-is [] = refl
+digit-is (x ∷ []) = go (digit (x ∷ [])) refl
+  where
+    go : (o : Option ℕ) → digit (x ∷ []) ≡ o → o ≡ upTo9 o
+    go none p = refl
+    go (some n) p = rw (le-leb n 9 (digitsExactly .only (x ∷ []) n p .0))
+digit-is (x ∷ y ∷ []) = go (number (x ∷ y ∷ [])) refl
+  where
+    go : (o : Option ℕ) → number (x ∷ y ∷ []) ≡ o → none ≡ upTo9 o
+    go none p = refl
+    go (some n) p = rw (lt-leb n 9 (two-over-9 x y n (numbersExactly .only (x ∷ y ∷ []) n p .1)))
+digit-is (x ∷ y ∷ z ∷ v) = refl
+
+abbrev lineUpTo9 : Option (Held ℕ) → Option (Held ℕ)
+lineUpTo9 none = none
+lineUpTo9 (some l) = cond (leb (l .value) 9) (some l) none
+
+digit-line-is : (key ys : List ℕ) → lineOf key digit ys ≡ lineUpTo9 (lineOf key number ys)
+digit-line-is key ys = at-entry (entry key ys)
+  where
+    at-value : (o : Option ℕ) (r : List ℕ) → on (upTo9 o) (λ (n : ℕ). some (line n r)) ≡ lineUpTo9 (on o (λ (n : ℕ). some (line n r)))
+    at-value none r = refl
+    at-value (some n) r = at-test (leb n 9)
+      where
+        at-test : (b : Bool) → on (cond b (some n) none) (λ (m : ℕ). some (line m r)) ≡ cond b (some (line n r)) none
+        at-test true = refl
+        at-test false = refl
+
+    at-entry : (o : Option (Held (List ℕ)))
+        → on o (λ (l : Held (List ℕ)). on (digit (l .value)) (λ (n : ℕ). some (line n (l .rest))))
+        ≡ lineUpTo9 (on o (λ (l : Held (List ℕ)). on (number (l .value)) (λ (n : ℕ). some (line n (l .rest)))))
+    at-entry none = refl
+    at-entry (some l) = rw (digit-is (l .value)) (at-value (number (l .value)) (l .rest))
+
 -- ---- the sheet, line by line
 
 reads-of : {found : Option (Held ℕ)} {xs : List ℕ} {v n : ℕ} → LineSays found xs (Line·Read v n) → Reads found xs v n
@@ -284,6 +334,19 @@ module _ {found : Option (Held ℕ)} {xs : List ℕ} {l : Line} where
 
   pub refused : l ≡ Line·Refused → LineSays found xs l → found ≡ none
   refused p h = refused-of (subst (LineSays found xs) p h)
+
+-- what `number_line` answered of a line with one digit
+module _ (key ys xs : List ℕ) where
+  pub digit-refused : lineOf key number ys ≡ none → LineSays (lineOf key digit ys) xs Line·Refused
+  digit-refused e = line-refused (digit-line-is key ys ∙ ap lineUpTo9 e)
+
+  module _ (v n : ℕ) (h : Reads (lineOf key number ys) xs v n) where
+    pub digit-over : 9 < v → LineSays (lineOf key digit ys) xs Line·Refused
+    digit-over l = line-refused (digit-line-is key ys ∙ ap lineUpTo9 (h .is) ∙ rw (lt-leb v 9 l))
+
+    pub digit-read : v ≤ 9 → LineSays (lineOf key digit ys) xs (Line·Read v n)
+    digit-read l =
+        line-read {v = v} {n = n} (record { within = h .within; is = digit-line-is key ys ∙ ap lineUpTo9 (h .is) ∙ rw (le-leb v 9 l) })
 
 pub first-refused : (xs : List ℕ) → lineOf (text "width_in=") number xs ≡ none → Refused ≡ sheetOf xs
 unfolding sheetOf
@@ -304,16 +367,22 @@ module _ {xs : List ℕ} {a second : ℕ} (p : Reads (lineOf (text "width_in=") 
       unfolding sheetOf
       fourth-refused e = rw (p .is, q .is, r .is, e)
 
-      module _ {t : Tlast} {end : ℕ} (s : Reads (lineOf (text "tlast=") (oneOf tlasts) (drop fourth xs)) xs t end) where
-        pub end-refused : end < length xs → Refused ≡ sheetOf xs
+      module _ {t : Tlast} {fifth : ℕ} (s : Reads (lineOf (text "tlast=") (oneOf tlasts) (drop fourth xs)) xs t fifth) where
+        pub fifth-refused : lineOf (text "user=") digit (drop fifth xs) ≡ none → Refused ≡ sheetOf xs
         unfolding sheetOf
-        end-refused l = rw (p .is, q .is, r .is, s .is, drop-cons xs end 0 l)
+        fifth-refused e = rw (p .is, q .is, r .is, s .is, e)
 
-        pub sheet-read : length xs ≤ end → Read (record { «width_in» = a; «width_out» = b; mode = m; tlast = t }) ≡ sheetOf xs
-        unfolding sheetOf
-        sheet-read l =
-            let gone : drop end xs ≡ [] = drop-of-length-le xs l in
-            rw (p .is, q .is, r .is, s .is, gone)
+        module _ {u end : ℕ} (o : Reads (lineOf (text "user=") digit (drop fifth xs)) xs u end) where
+          pub end-refused : end < length xs → Refused ≡ sheetOf xs
+          unfolding sheetOf
+          end-refused l = rw (p .is, q .is, r .is, s .is, o .is, drop-cons xs end 0 l)
+
+          pub sheet-read : length xs ≤ end
+              → Read (record { «width_in» = a; «width_out» = b; mode = m; tlast = t; user = u }) ≡ sheetOf xs
+          unfolding sheetOf
+          sheet-read l =
+              let gone : drop end xs ≡ [] = drop-of-length-le xs l in
+              rw (p .is, q .is, r .is, s .is, o .is, gone)
 
 -- an answer that is the grammar's meets the contract
 pub parsed : {xs : List ℕ} {r : Sheet} → r ≡ sheetOf xs → Parsed xs r

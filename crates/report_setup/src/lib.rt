@@ -1,6 +1,6 @@
-// The setup sheet of the report program (paper 01, 'The report program'): its four lines, read from octets. The types are in
-// report_setup_spec, and so is what a sheet says (specs/Grammar) and what the answer shows (specs/Answers). A width is any number
-// from 0 to 99 here: which widths are allowed is decided in the crate report_call.
+// The setup sheet of the report program (paper 01, 'The report program'; 02's T-06 for `user=`): its five lines, read from octets.
+// The types are in report_setup_spec, and so is what a sheet says (specs/Grammar) and what the answer shows (specs/Answers). A width
+// is any number from 0 to 99 here, and user bits are 0 to 9: which of them are allowed is decided in the crate report_call.
 use report_setup_spec::Mode;
 use report_setup_spec::Setup;
 use report_setup_spec::Sheet;
@@ -9,7 +9,7 @@ ghost use mathlib.Core.List.{[], _∷_};
 ghost use mathlib.Core.Path.{_≡_};
 ghost use Prim.Native.Nat.{_≤_};
 ghost use lib.ListN.{length, drop};
-ghost use Rattle.report_setup_spec.specs.Grammar.{isDigit, isWord, number, lineOf, modes, tlasts};
+ghost use Rattle.report_setup_spec.specs.Grammar.{isDigit, isWord, digit, number, lineOf, modes, tlasts};
 ghost use Rattle.report_setup_spec.specs.Answers.{Parsed};
 ghost use Rattle.report_setup.specs.Reading.{told, LineEnd, Begins, EndSays, LineSays, place, wordsOf, Means};
 
@@ -39,10 +39,13 @@ pub fn parse(sheet: &[u8]) -> Sheet
         return Sheet::Refused;
     };
     let mode = mode_of(word);
-    let Line::Read(wire, end) = word_line(sheet, fourth, b"tlast=", b"wired\nnone\nlow\n") else {
+    let Line::Read(wire, fifth) = word_line(sheet, fourth, b"tlast=", b"wired\nnone\nlow\n") else {
         return Sheet::Refused;
     };
     let tlast = tlast_of(wire);
+    let Line::Read(user, end) = digit_line(sheet, fifth, b"user=") else {
+        return Sheet::Refused;
+    };
     if end < sheet.len() {
         return Sheet::Refused;
     }
@@ -51,6 +54,7 @@ pub fn parse(sheet: &[u8]) -> Sheet
         width_out,
         mode,
         tlast,
+        user,
     })
 }
 
@@ -88,6 +92,20 @@ fn number_line(text: &[u8], from: usize, key: &[u8]) -> Line
         return Line::Refused;
     };
     Line::Read(n, end + 1)
+}
+
+// The line at a place, as this key and one digit: a number without leading zeros has no more where it is at most 9.
+fn digit_line(text: &[u8], from: usize, key: &[u8]) -> Line
+    requires { ⌜ from ≤ length (now text) ⌝ }
+    ensures { λ r. ⌜ LineSays (lineOf (now (key .entry)) digit (drop from (now (text .entry)))) (now (text .entry)) r ⌝ }
+{
+    let Line::Read(n, next) = number_line(text, from, key) else {
+        return Line::Refused;
+    };
+    if n > 9 {
+        return Line::Refused;
+    }
+    Line::Read(n, next)
 }
 
 // The line at a place, as this key and one of these words.

@@ -8,7 +8,7 @@ use Prim.Native.Nat.{ℕ, _+_, _-_, _*_, _/_, _%_, _≤_, _<_}
 use native.Mathlib.Omega.{arith}
 use lib.Dec.{eqb, ltb}
 use borrow.Author.Tests.{lt-ltb, le-ltb, ltb-true, ltb-false, eq-eqb, ne-eqb, eqb-true, eqb-false, not-true}
-use Rattle.report_setup_spec.specs.Grammar.{isDigit, number, Line, line, longer, on, firstLine, after, entry, lineOf, Word, oneOf, isWord, nothingLeft, modes, tlasts, text, onLine, ending, sheetOf}
+use Rattle.report_setup_spec.specs.Grammar.{isDigit, digit, number, Line, line, longer, on, firstLine, after, entry, lineOf, Word, oneOf, isWord, nothingLeft, modes, tlasts, text, onLine, ending, sheetOf}
 use Rattle.report_setup_spec.specs.declared.Mode.{Mode}
 use Rattle.report_setup_spec.specs.declared.Mode.the-variants.{Pack, Lanes}
 use Rattle.report_setup_spec.specs.declared.Tlast.{Tlast}
@@ -17,12 +17,12 @@ use Rattle.report_setup_spec.specs.declared.Setup.{Setup}
 use Rattle.report_setup_spec.specs.declared.Sheet.{Sheet}
 use Rattle.report_setup_spec.specs.declared.Sheet.the-variants.{Read, Refused}
 use Rattle.report_setup_spec.specs.Answers.{modeWord, tlastWord}
-use Rattle.report_setup_spec.specs.Promises.{numeral, NumbersExactly, WordsExactly, lineText, sheetText, SheetsExactly}
+use Rattle.report_setup_spec.specs.Promises.{numeral, DigitsExactly, NumbersExactly, WordsExactly, lineText, sheetText, SheetsExactly}
 use Rattle.report_setup_spec.proofs.Digits.{both, digit-yes, digit-range}
 
 -- ---- each number is read
 
-one-digit : (n : ℕ) → n ≤ 9 → number ((48 + n) ∷ []) ≡ some n
+one-digit : (n : ℕ) → n ≤ 9 → digit ((48 + n) ∷ []) ≡ some n
 one-digit n h =
     let e : 48 + n - 48 ≡ n = omega arith in
     rw (digit-yes (48 + n) (omega arith) (omega arith)) (ap some e)
@@ -51,11 +51,24 @@ numeral-short n l = rw (lt-ltb n 10 l)
 numeral-long : (n : ℕ) → 10 ≤ n → numeral n ≡ (48 + n / 10) ∷ (48 + n % 10) ∷ []
 numeral-long n l = rw (le-ltb n 10 l)
 
-one-only : (x n : ℕ) → (isDigit x ≡ true) × (x - 48 ≡ n) → (n ≤ 99) × ((x ∷ []) ≡ numeral n)
+one-only : (x n : ℕ) → (isDigit x ≡ true) × (x - 48 ≡ n) → (n ≤ 9) × ((x ∷ []) ≡ (48 + n) ∷ [])
 one-only x n h =
     let r : (48 ≤ x) × (x ≤ 57) = digit-range x (h .0) in
     let e : x ≡ 48 + n = omega (arith, r .0, h .1) in
-    (omega (arith, r .1, h .1), ap (λ (y : ℕ). y ∷ []) e ∙ sym (numeral-short n (omega (arith, r .1, h .1))))
+    (omega (arith, r .1, h .1), ap (λ (y : ℕ). y ∷ []) e)
+
+digit-only : (value : List ℕ) (n : ℕ) → digit value ≡ some n → (n ≤ 9) × (value ≡ (48 + n) ∷ [])
+digit-only [] n e = let z : _≡_ {A = ℕ} 0 1 = cc in absurd (omega arith)
+digit-only (x ∷ []) n e = one-only x n (some-taken (isDigit x) (x - 48) n e)
+digit-only (x ∷ y ∷ ys) n e = let z : _≡_ {A = ℕ} 0 1 = cc in absurd (omega arith)
+
+pub digitsExactly : DigitsExactly
+digitsExactly = record { each = one-digit; only = digit-only }
+
+digit-numeral : (value : List ℕ) (n : ℕ) → digit value ≡ some n → (n ≤ 9) × (value ≡ numeral n)
+digit-numeral value n e =
+    let p : (n ≤ 9) × (value ≡ (48 + n) ∷ []) = digit-only value n e in
+    (p .0, p .1 ∙ sym (numeral-short n (omega (arith, p .0))))
 
 two-only : (x y n : ℕ) → ((not (eqb x 48) && (isDigit x && isDigit y)) ≡ true) × (10 * (x - 48) + (y - 48) ≡ n)
     → (n ≤ 99) × ((x ∷ y ∷ []) ≡ numeral n)
@@ -71,7 +84,7 @@ two-only x y n h =
 
 only-by : (value : List ℕ) (n : ℕ) → number value ≡ some n → (n ≤ 99) × (value ≡ numeral n)
 only-by [] n e = let z : _≡_ {A = ℕ} 0 1 = cc in absurd (omega arith)
-only-by (x ∷ []) n e = one-only x n (some-taken (isDigit x) (x - 48) n e)
+only-by (x ∷ []) n e = let p : (n ≤ 9) × ((x ∷ []) ≡ numeral n) = digit-numeral (x ∷ []) n e in (omega (arith, p .0), p .1)
 only-by (x ∷ y ∷ []) n e = two-only x y n (some-taken (not (eqb x 48) && (isDigit x && isDigit y)) (10 * (x - 48) + (y - 48)) n e)
 only-by (x ∷ y ∷ z ∷ zs) n e = let z : _≡_ {A = ℕ} 0 1 = cc in absurd (omega arith)
 
@@ -217,10 +230,12 @@ wordsExactly =
 
 -- ---- the lines of a sheet
 
-number-line : (key xs : List ℕ) (l : Line ℕ) → lineOf key number xs ≡ some l → (l .value ≤ 99) × (xs ≡ lineText key (numeral (l .value)) (l .rest))
-number-line key xs l e =
-    let p : (w : List ℕ) × (number w ≡ some (l .value)) × (xs ≡ lineText key w (l .rest)) = line-only key number xs l e in
-    let q : (l .value ≤ 99) × (p .0 ≡ numeral (l .value)) = only-by (p .0) (l .value) (p .1) in
+-- a line with a number that has this reader, and that is at most `most`
+numeral-line : (reader : List ℕ → Option ℕ) (most : ℕ) → ((w : List ℕ) (n : ℕ) → reader w ≡ some n → (n ≤ most) × (w ≡ numeral n))
+    → (key xs : List ℕ) (l : Line ℕ) → lineOf key reader xs ≡ some l → (l .value ≤ most) × (xs ≡ lineText key (numeral (l .value)) (l .rest))
+numeral-line reader most only key xs l e =
+    let p : (w : List ℕ) × (reader w ≡ some (l .value)) × (xs ≡ lineText key w (l .rest)) = line-only key reader xs l e in
+    let q : (l .value ≤ most) × (p .0 ≡ numeral (l .value)) = only (p .0) (l .value) (p .1) in
     (q .0, p .2 ∙ ap (λ (w : List ℕ). lineText key w (l .rest)) (q .1))
 
 word-line : {A : Type 0} (key : List ℕ) (spelling : A → List ℕ) (ws : List (Word A)) → Spelt spelling ws
@@ -241,31 +256,41 @@ ending-only [] s u e = (refl, cc)
 ending-only (x ∷ r) s u e = absurd-refused e
 
 abbrev Exact : List ℕ → Setup → Type 0
-Exact xs u = (u .«width_in» ≤ 99) × (u .«width_out» ≤ 99) × (xs ≡ sheetText u)
+Exact xs u = (u .«width_in» ≤ 99) × (u .«width_out» ≤ 99) × (u .user ≤ 9) × (xs ≡ sheetText u)
 
-abbrev said : Line ℕ → Line ℕ → Line Mode → Line Tlast → Setup
-said a b m t = record { «width_in» = a .value; «width_out» = b .value; mode = m .value; tlast = t .value }
+abbrev said : Line ℕ → Line ℕ → Line Mode → Line Tlast → Line ℕ → Setup
+said a b m t u = record { «width_in» = a .value; «width_out» = b .value; mode = m .value; tlast = t .value; user = u .value }
 
-assembled : (xs : List ℕ) (a b : Line ℕ) (m : Line Mode) (t : Line Tlast)
+assembled : (xs : List ℕ) (a b : Line ℕ) (m : Line Mode) (t : Line Tlast) (u : Line ℕ)
     → lineOf (text "width_in=") number xs ≡ some a
     → lineOf (text "width_out=") number (a .rest) ≡ some b
     → lineOf (text "mode=") (oneOf modes) (b .rest) ≡ some m
     → lineOf (text "tlast=") (oneOf tlasts) (m .rest) ≡ some t
-    → t .rest ≡ [] → Exact xs (said a b m t)
-assembled xs a b m t e f g h i =
-    let p : (a .value ≤ 99) × (xs ≡ lineText (text "width_in=") (numeral (a .value)) (a .rest)) = number-line (text "width_in=") xs a e in
-    let q : (b .value ≤ 99) × (a .rest ≡ lineText (text "width_out=") (numeral (b .value)) (b .rest)) = number-line (text "width_out=") (a .rest) b f in (
+    → lineOf (text "user=") digit (t .rest) ≡ some u
+    → u .rest ≡ [] → Exact xs (said a b m t u)
+assembled xs a b m t u e f g h i j =
+    let p : (a .value ≤ 99) × (xs ≡ lineText (text "width_in=") (numeral (a .value)) (a .rest)) =
+    numeral-line number 99 only-by (text "width_in=") xs a e in
+    let q : (b .value ≤ 99) × (a .rest ≡ lineText (text "width_out=") (numeral (b .value)) (b .rest)) =
+    numeral-line number 99 only-by (text "width_out=") (a .rest) b f in
+    let r : (u .value ≤ 9) × (t .rest ≡ lineText (text "user=") (numeral (u .value)) (u .rest)) =
+    numeral-line digit 9 digit-numeral (text "user=") (t .rest) u i in (
       p .0,
       q .0,
+      r .0,
       p .1 ∙ ap (lineText (text "width_in=") (numeral (a .value)))
           (q .1 ∙ ap (lineText (text "width_out=") (numeral (b .value)))
           (word-line (text "mode=") modeWord modes modes-spelt (b .rest) m g ∙ ap (lineText (text "mode=") (modeWord (m .value)))
-          (word-line (text "tlast=") tlastWord tlasts tlasts-spelt (m .rest) t h ∙ ap (lineText (text "tlast=") (tlastWord (t .value))) i))),
+          (word-line (text "tlast=") tlastWord tlasts tlasts-spelt (m .rest) t h ∙ ap (lineText (text "tlast=") (tlastWord (t .value)))
+          (r .1 ∙ ap (lineText (text "user=") (numeral (u .value))) j)))),
     )
 
 -- what `sheetOf` goes on with after each line
+abbrev afterFifth : Line ℕ → Line ℕ → Line Mode → Line Tlast → Line ℕ → Sheet
+afterFifth a b m t u = ending (u .rest) (Read (said a b m t u))
+
 abbrev afterFourth : Line ℕ → Line ℕ → Line Mode → Line Tlast → Sheet
-afterFourth a b m t = ending (t .rest) (Read (said a b m t))
+afterFourth a b m t = onLine (lineOf (text "user=") digit (t .rest)) (afterFifth a b m t)
 
 abbrev afterThird : Line ℕ → Line ℕ → Line Mode → Sheet
 afterThird a b m = onLine (lineOf (text "tlast=") (oneOf tlasts) (m .rest)) (afterFourth a b m)
@@ -287,8 +312,11 @@ sheets-only xs u e =
     line-taken (lineOf (text "mode=") (oneOf modes) (b .0 .rest)) (afterThird (a .0) (b .0)) u (b .2) in
     let t : (l : Line Tlast) × (lineOf (text "tlast=") (oneOf tlasts) (m .0 .rest) ≡ some l) × (afterFourth (a .0) (b .0) (m .0) l ≡ Read u) =
     line-taken (lineOf (text "tlast=") (oneOf tlasts) (m .0 .rest)) (afterFourth (a .0) (b .0) (m .0)) u (m .2) in
-    let n : (t .0 .rest ≡ []) × (said (a .0) (b .0) (m .0) (t .0) ≡ u) = ending-only (t .0 .rest) (said (a .0) (b .0) (m .0) (t .0)) u (t .2) in
-    subst (Exact xs) (n .1) (assembled xs (a .0) (b .0) (m .0) (t .0) (a .1) (b .1) (m .1) (t .1) (n .0))
+    let v : (l : Line ℕ) × (lineOf (text "user=") digit (t .0 .rest) ≡ some l) × (afterFifth (a .0) (b .0) (m .0) (t .0) l ≡ Read u) =
+    line-taken (lineOf (text "user=") digit (t .0 .rest)) (afterFifth (a .0) (b .0) (m .0) (t .0)) u (t .2) in
+    let n : (v .0 .rest ≡ []) × (said (a .0) (b .0) (m .0) (t .0) (v .0) ≡ u) =
+    ending-only (v .0 .rest) (said (a .0) (b .0) (m .0) (t .0) (v .0)) u (v .2) in
+    subst (Exact xs) {x = said (a .0) (b .0) (m .0) (t .0) (v .0)} (n .1) (assembled xs (a .0) (b .0) (m .0) (t .0) (v .0) (a .1) (b .1) (m .1) (t .1) (v .1) (n .0))
 
 -- ---- each sheet is read
 
@@ -332,6 +360,11 @@ line-each key w r reader a e f g = rw (entry-each key w r e f, g)
 number-each : (key r : List ℕ) (n : ℕ) → plain key ≡ true → n ≤ 99 → lineOf key number (lineText key (numeral n) r) ≡ some (line n r)
 number-each key r n e h = line-each key (numeral n) r number n e (plain-by n (ltb n 10)) (each-by n (ltb n 10) refl h)
 
+digit-each : (key r : List ℕ) (n : ℕ) → plain key ≡ true → n ≤ 9 → lineOf key digit (lineText key (numeral n) r) ≡ some (line n r)
+digit-each key r n e h =
+    let short : numeral n ≡ (48 + n) ∷ [] = numeral-short n (omega arith) in
+    line-each key (numeral n) r digit n e (plain-by n (ltb n 10)) (ap digit short ∙ one-digit n h)
+
 mode-each : (r : List ℕ) (m : Mode) → lineOf (text "mode=") (oneOf modes) (lineText (text "mode=") (modeWord m) r) ≡ some (line m r)
 mode-each r Pack = refl
 mode-each r Lanes = refl
@@ -341,10 +374,14 @@ tlast-each r Wired = refl
 tlast-each r Absent = refl
 tlast-each r Low = refl
 
-sheets-each : (u : Setup) → u .«width_in» ≤ 99 → u .«width_out» ≤ 99 → sheetOf (sheetText u) ≡ Read u
+sheets-each : (u : Setup) → u .«width_in» ≤ 99 → u .«width_out» ≤ 99 → u .user ≤ 9 → sheetOf (sheetText u) ≡ Read u
 unfolding sheetOf
-sheets-each u h k =
-    rw (number-each (text "width_in=") (lineText (text "width_out=") (numeral (u .«width_out»)) (lineText (text "mode=") (modeWord (u .mode)) (lineText (text "tlast=") (tlastWord (u .tlast)) []))) (u .«width_in») refl h, number-each (text "width_out=") (lineText (text "mode=") (modeWord (u .mode)) (lineText (text "tlast=") (tlastWord (u .tlast)) [])) (u .«width_out») refl k, mode-each (lineText (text "tlast=") (tlastWord (u .tlast)) []) (u .mode), tlast-each [] (u .tlast))
+sheets-each u h k l =
+    let fifth : List ℕ = lineText (text "user=") (numeral (u .user)) [] in
+    let fourth : List ℕ = lineText (text "tlast=") (tlastWord (u .tlast)) fifth in
+    let third : List ℕ = lineText (text "mode=") (modeWord (u .mode)) fourth in
+    let second : List ℕ = lineText (text "width_out=") (numeral (u .«width_out»)) third in
+    rw (number-each (text "width_in=") second (u .«width_in») refl h, number-each (text "width_out=") third (u .«width_out») refl k, mode-each fourth (u .mode), tlast-each fifth (u .tlast), digit-each (text "user=") [] (u .user) refl l)
 
 pub sheetsExactly : SheetsExactly
 sheetsExactly = record { each = sheets-each; only = sheets-only }

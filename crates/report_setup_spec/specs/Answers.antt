@@ -23,18 +23,19 @@ tlastWord Wired = text "wired"
 tlastWord Absent = text "none"
 tlastWord Low = text "low"
 
--- the refusal's number, or 0 with the four values of the sheet; what an answer does not have is 0, or no octet
+-- the refusal's number, or 0 with the five values of the sheet; what an answer does not have is 0, or no octet
 pub record Values : Type 0 where
   pub refusal : ℕ
   pub «width_in» : ℕ
   pub «width_out» : ℕ
   pub mode : List ℕ
   pub tlast : List ℕ
+  pub user : ℕ
 
 abbrev pub sheetValues : Sheet → Values
 sheetValues (Read u) =
-    record { refusal = 0; «width_in» = u .«width_in»; «width_out» = u .«width_out»; mode = modeWord (u .mode); tlast = tlastWord (u .tlast) }
-sheetValues Refused = record { refusal = codeOf BadSheet .0; «width_in» = 0; «width_out» = 0; mode = []; tlast = [] }
+    record { refusal = 0; «width_in» = u .«width_in»; «width_out» = u .«width_out»; mode = modeWord (u .mode); tlast = tlastWord (u .tlast); user = u .user }
+sheetValues Refused = record { refusal = codeOf BadSheet .0; «width_in» = 0; «width_out» = 0; mode = []; tlast = []; user = 0 }
 
 -- the contract of `parse`: the answer is the grammar's, with 01's number and values for it
 pub record Parsed (sheet : List ℕ) (r : Sheet) : Type 0 where

@@ -1,6 +1,7 @@
 -- Paper 01, 'The report program': what a setup sheet says. "four LF-ended lines in this order: `width_in=`, `width_out=`
 -- (0 to 99, no leading zeros), `mode=pack` or `mode=lanes`, `tlast=wired` or `tlast=none`"; 02's T-03: "the new word
--- `tlast=low`". Nothing else is a sheet: no other order or spelling, no CR, no line more, nothing after the fourth LF.
+-- `tlast=low`"; 02's T-06: "The sheet gets a fifth line `user=`, 0 to 9." Nothing else is a sheet: no other order or spelling,
+-- no CR, no line less or more, nothing after the fifth LF.
 -- A new word is one line of `modes` or `tlasts`, and what it means; a new line of the sheet is one line of `sheetOf` and one
 -- field of `Setup`.
 use mathlib.Core.Bool.{Bool, true, false, not, _&&_, cond}
@@ -75,10 +76,16 @@ lineOf {A} key reader xs =
 abbrev pub isDigit : ℕ → Bool
 isDigit x = leb 48 x && leb x 57
 
+-- T-06: "0 to 9": exactly one digit
+abbrev pub digit : List ℕ → Option ℕ
+digit [] = none
+digit (x ∷ []) = cond (isDigit x) (some (x - 48)) none
+digit (x ∷ y ∷ ys) = none
+
 -- "0 to 99, no leading zeros"
 abbrev pub number : List ℕ → Option ℕ
 number [] = none
-number (x ∷ []) = cond (isDigit x) (some (x - 48)) none
+number (x ∷ []) = digit (x ∷ [])
 number (x ∷ y ∷ []) = cond (not (eqb x 48) && (isDigit x && isDigit y)) (some (10 * (x - 48) + (y - 48))) none
 number (x ∷ y ∷ z ∷ zs) = none
 
@@ -126,4 +133,5 @@ sheetOf xs =
     onLine (lineOf (text "width_out=") number (a .rest)) (λ (b : Line ℕ).
     onLine (lineOf (text "mode=") (oneOf modes) (b .rest)) (λ (m : Line Mode).
     onLine (lineOf (text "tlast=") (oneOf tlasts) (m .rest)) (λ (t : Line Tlast).
-    ending (t .rest) (Read (record { «width_in» = a .value; «width_out» = b .value; mode = m .value; tlast = t .value }))))))
+    onLine (lineOf (text "user=") digit (t .rest)) (λ (u : Line ℕ).
+    ending (u .rest) (Read (record { «width_in» = a .value; «width_out» = b .value; mode = m .value; tlast = t .value; user = u .value })))))))

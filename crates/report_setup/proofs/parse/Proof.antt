@@ -1,6 +1,6 @@
--- `report_setup::parse` meets its contract: each line in its turn, and nothing after the fourth. The lets name what is known after each
+-- `report_setup::parse` meets its contract: each line in its turn, and nothing after the fifth. The lets name what is known after each
 -- line. Assumes nothing.
-use Rattle.report_setup.proofs.Laws.{read, refused, first-refused, second-refused, third-refused, fourth-refused, end-refused, sheet-read, parsed}
+use Rattle.report_setup.proofs.Laws.{read, refused, first-refused, second-refused, third-refused, fourth-refused, fifth-refused, end-refused, sheet-read, parsed}
 use Rattle.report_setup.proofs.Words.{mode-read, mode-refused, tlast-read, tlast-refused}
 use borrow.Author.Needs.{needs}
 use Rattle.report_setup.proofs.parse.Statement.{statement}
@@ -110,10 +110,42 @@ returns-4 c =
 tlast-of-requires : tie.Need-tlast-of-requires
 tlast-of-requires c κs = search needs
 
+slice-aggregate-digit-line : tie.Need-slice-aggregate-digit-line
+slice-aggregate-digit-line c = search needs
+
+digit-line-requires : tie.Need-digit-line-requires
+digit-line-requires c κs =
+    let fourth = c .before .before .before in
+    read (fourth .wire .given .1) (fourth .before .before .word-line2 .ensures) .within
+
+enum-known-user : tie.Need-enum-known-user
+enum-known-user c = search needs
+
+enum-told-5 : tie.Need-enum-told-5
+enum-told-5 c = search needs
+
 returns-5 : tie.Need-returns-5
 returns-5 c =
-    let end = c .before in
-    let fourth = end .before .before in
+    let wired = c .before .before .before .before in
+    let fourth = wired .before .before in
+    let meant = fourth .before .before .before .before .before in
+    let third = meant .before .before in
+    let second = third .before .before .before .before .before .before in
+    let first = second .before .before .before .before .before in
+    let call = first .before .before .before .before .before in
+    parsed
+    (fifth-refused
+    (read (first .width-in .given .1) (first .before .before .number-line .ensures))
+    (read (second .width-out .given .1) (second .before .before .number-line2 .ensures))
+    (mode-read (call .args .sheet .now) (second .width-out .given .0 .1 .0) (third .word .given .0 .0) (third .word .given .0 .1 .0) (meant .mode-of .result) (meant .mode-of .ensures) (read (third .word .given .1) (third .before .before .word-line .ensures)))
+    (tlast-read (call .args .sheet .now) (third .word .given .0 .1 .0) (fourth .wire .given .0 .0) (fourth .wire .given .0 .1 .0) (wired .tlast-of .result) (wired .tlast-of .ensures) (read (fourth .wire .given .1) (fourth .before .before .word-line2 .ensures)))
+    (refused (c .enum-told5 .given .1) (c .before .before .digit-line .ensures)))
+
+returns-6 : tie.Need-returns-6
+returns-6 c =
+    let fifth = c .before .before in
+    let wired = fifth .before .before .before .before in
+    let fourth = wired .before .before in
     let meant = fourth .before .before .before .before .before in
     let third = meant .before .before in
     let second = third .before .before .before .before .before .before in
@@ -124,13 +156,15 @@ returns-5 c =
     (read (first .width-in .given .1) (first .before .before .number-line .ensures))
     (read (second .width-out .given .1) (second .before .before .number-line2 .ensures))
     (mode-read (call .args .sheet .now) (second .width-out .given .0 .1 .0) (third .word .given .0 .0) (third .word .given .0 .1 .0) (meant .mode-of .result) (meant .mode-of .ensures) (read (third .word .given .1) (third .before .before .word-line .ensures)))
-    (tlast-read (call .args .sheet .now) (third .word .given .0 .1 .0) (fourth .wire .given .0 .0) (fourth .wire .given .0 .1 .0) (end .tlast-of .result) (end .tlast-of .ensures) (read (fourth .wire .given .1) (fourth .before .before .word-line2 .ensures)))
+    (tlast-read (call .args .sheet .now) (third .word .given .0 .1 .0) (fourth .wire .given .0 .0) (fourth .wire .given .0 .1 .0) (wired .tlast-of .result) (wired .tlast-of .ensures) (read (fourth .wire .given .1) (fourth .before .before .word-line2 .ensures)))
+    (read (fifth .user .given .1) (fifth .before .before .digit-line .ensures))
     (c .if1 .taken))
 
-returns-6 : tie.Need-returns-6
-returns-6 c =
-    let end = c .before in
-    let fourth = end .before .before in
+returns-7 : tie.Need-returns-7
+returns-7 c =
+    let fifth = c .before .before in
+    let wired = fifth .before .before .before .before in
+    let fourth = wired .before .before in
     let meant = fourth .before .before .before .before .before in
     let third = meant .before .before in
     let second = third .before .before .before .before .before .before in
@@ -141,7 +175,8 @@ returns-6 c =
     (read (first .width-in .given .1) (first .before .before .number-line .ensures))
     (read (second .width-out .given .1) (second .before .before .number-line2 .ensures))
     (mode-read (call .args .sheet .now) (second .width-out .given .0 .1 .0) (third .word .given .0 .0) (third .word .given .0 .1 .0) (meant .mode-of .result) (meant .mode-of .ensures) (read (third .word .given .1) (third .before .before .word-line .ensures)))
-    (tlast-read (call .args .sheet .now) (third .word .given .0 .1 .0) (fourth .wire .given .0 .0) (fourth .wire .given .0 .1 .0) (end .tlast-of .result) (end .tlast-of .ensures) (read (fourth .wire .given .1) (fourth .before .before .word-line2 .ensures)))
+    (tlast-read (call .args .sheet .now) (third .word .given .0 .1 .0) (fourth .wire .given .0 .0) (fourth .wire .given .0 .1 .0) (wired .tlast-of .result) (wired .tlast-of .ensures) (read (fourth .wire .given .1) (fourth .before .before .word-line2 .ensures)))
+    (read (fifth .user .given .1) (fifth .before .before .digit-line .ensures))
     (c .if1 .left))
 
 pub parse-spec : {M : Type 1} → statement M
@@ -172,5 +207,10 @@ parse-spec =
     enum-told-4
     returns-4
     tlast-of-requires
+    slice-aggregate-digit-line
+    digit-line-requires
+    enum-known-user
+    enum-told-5
     returns-5
-    returns-6)
+    returns-6
+    returns-7)
