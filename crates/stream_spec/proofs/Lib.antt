@@ -9,6 +9,7 @@ pub mod Hold
 pub mod Each
 pub mod Size
 pub mod Users
+pub mod Bare
 pub mod Fields
 pub mod Records
 pub mod RecordChecks

@@ -1,19 +1,24 @@
 -- User bits (T-06): all lanes' bits as one number, which lies behind the data octets; a lane's bits in that number; and that lanes
 -- come back from their octets. Assumes nothing.
-use mathlib.Core.Path.{_≡_, refl, sym, ap, ap₂, _∙_}
+use mathlib.Core.Path.{_≡_, refl, sym, ap, _∙_}
+use mathlib.Core.Bool.{Bool, true, false}
 use mathlib.Core.List.{List, [], _∷_, _++_, map}
 use mathlib.Core.Option.{Option, none, some}
-use Prim.Native.Nat.{ℕ, zero, suc, _+_, _*_, _/_, _%_, _^_, _≤_, _<_}
+use Prim.Native.Nat.{ℕ, suc, _+_, _-_, _*_, _/_, _%_, _^_, _≤_, _<_}
 use native.Mathlib.Nat.{add-zero, zero-mul, suc-mul, mul-comm, mul-add, mul-le-mul-left, div-eq-of-lt, mod-eq-of-lt, zero-add, add-mul-div-left, add-mul-mod-self-left, mod-lt}
 use native.Mathlib.Omega.{arith}
+use borrow.Author.Tests.{leb-true, leb-false, le-leb, lt-leb}
+use lib.Dec.{leb}
 use lib.Pow.{pow-add, pow-pos, pow-mono}
-use lib.ListN.{length, drop, length-map}
+use lib.ListN.{length, getD, drop, length-map}
 use lib.Seq.{drop-drop, drop-at}
 use Rattle.words.specs.Words.{wordAt, octetsOfWord}
-use Rattle.words.proofs.Words.{word-drop, word-back}
+use Rattle.words.proofs.Words.{word-drop, word-back, word-fits, word-split}
 use Rattle.stream_spec.specs.declared.Shape.{Shape}
 use Rattle.stream_spec.specs.Items.{Pair, Transfer}
-use Rattle.stream_spec.specs.Layout.{maskOf, headOctets, userOctets, userNumber, dataOctets, laneTypes, typesOf, laneType, LaneType, dataLane, positionLane, nullLane, reservedLane, laneOf, lanesOf, Kept, octet, position, keepBit, strbBit, laneOctet, laneUser, usersOf, transferOf, octetsOf}
+use Rattle.stream_spec.specs.Layout.{maskOf, headOctets, userOctets, userNumber, size, dataOctets, laneTypes, typesOf, laneType, LaneType, dataLane, positionLane, nullLane, reservedLane, laneOf, lanesOf, Kept, octet, position, keepBit, strbBit, laneOctet, laneUser, usersOf, transferOf, octetsOf}
+use Rattle.stream_spec.specs.Checks.{userFault}
+use Rattle.stream_spec.proofs.Size.{size-is}
 use Rattle.stream_spec.proofs.Bits.{odd-mask, half-mask}
 use Rattle.stream_spec.proofs.Each.{EachLane, EachTransfer}
 
@@ -118,3 +123,49 @@ users-back s t h k =
     ∙ ap (λ (l : List ℕ). wordAt (userOctets (s .width) m) l 0) (drop-at (map laneOctet ls) us (s .width) (length-map ls laneOctet ∙ h))
     ∙ ap (λ (n : ℕ). wordAt (userOctets n m) us 0) (sym h)
     ∙ word-back (userOctets (length ls) m) (usersOf m ls) (omega (arith, users-fit m ls k, users-held (length ls) m))
+
+-- ---- padding: it is told by the last octet of a record, where lanes and octets do not end together
+
+module _ (s : Shape) (r : List ℕ) (o : (i : ℕ) → getD r i 0 < 256) where
+  abbrev bits : ℕ
+  bits = s .width * s .user
+
+  pub padding-none : bits % 8 ≡ 0 → userFault s r ≡ false
+  padding-none e =
+      let all : 8 * userOctets (s .width) (s .user) ≡ bits = omega arith in
+      let limit : 2 ^ (8 * userOctets (s .width) (s .user)) ≡ 2 ^ bits = ap (λ (n : ℕ). 2 ^ n) all in
+      lt-leb (2 ^ bits) (userNumber s r)
+      (omega (arith, limit, word-fits (userOctets (s .width) (s .user)) r (headOctets + s .width) o))
+
+  -- the octets before the last one, and the last one
+  last-octet : 0 < bits % 8
+      → userNumber s r
+      ≡ wordAt (bits / 8) r (headOctets + s .width) + 2 ^ (8 * (bits / 8)) * getD r (size s - 1) 0
+  last-octet h =
+      let all : userOctets (s .width) (s .user) ≡ bits / 8 + 1 = omega arith in
+      let at : headOctets + s .width + bits / 8 ≡ size s - 1 = omega (arith, size-is s) in
+      ap (λ (k : ℕ). wordAt k r (headOctets + s .width)) all
+      ∙ word-split (bits / 8) 1 r (headOctets + s .width)
+      ∙ ap (λ (x : ℕ). wordAt (bits / 8) r (headOctets + s .width) + 2 ^ (8 * (bits / 8)) * x)
+      (add-zero (getD r (headOctets + s .width + bits / 8) 0) ∙ ap (λ (i : ℕ). getD r i 0) at)
+
+  pub padding-told : 0 < bits % 8 → userFault s r ≡ leb (2 ^ (bits % 8)) (getD r (size s - 1) 0)
+  padding-told h = go (leb (2 ^ (bits % 8)) (getD r (size s - 1) 0)) refl
+    where
+      last : ℕ
+      last = getD r (size s - 1) 0
+
+      place : ℕ
+      place = 2 ^ (8 * (bits / 8))
+
+      limit : 2 ^ bits ≡ place * 2 ^ (bits % 8)
+      limit = let parts : bits ≡ 8 * (bits / 8) + bits % 8 = omega arith in ap (λ (n : ℕ). 2 ^ n) parts ∙ pow-add 2 (8 * (bits / 8)) (bits % 8)
+
+      go : (b : Bool) → leb (2 ^ (bits % 8)) last ≡ b → userFault s r ≡ b
+      go true e =
+          let up = mul-le-mul-left place (leb-true (2 ^ (bits % 8)) last e) in
+          le-leb (2 ^ bits) (userNumber s r) (omega (arith, limit, last-octet h, up))
+      go false e =
+          let up = mul-le-mul-left place (leb-false (2 ^ (bits % 8)) last e) in
+          lt-leb (2 ^ bits) (userNumber s r)
+          (omega (arith, limit, last-octet h, up, mul-add place last 1, word-fits (bits / 8) r (headOctets + s .width) o))

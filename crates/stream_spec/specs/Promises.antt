@@ -4,18 +4,18 @@ use mathlib.Core.Path.{_≡_}
 use mathlib.Core.Bool.{Bool, true, false, not, _&&_, _||_, cond}
 use mathlib.Core.List.{List, [], _∷_, _++_, map}
 use mathlib.Core.Option.{Option, none, some}
-use Prim.Native.Nat.{ℕ, zero, suc, _*_, _/_, _%_, _^_, _≤_, _<_}
+use Prim.Native.Nat.{ℕ, zero, suc, _+_, _*_, _/_, _%_, _^_, _≤_, _<_}
 use mathlib.Core.Logic.{_⊎_, _↔_, _≢_}
-use lib.Dec.{eqb, ltb}
-use lib.ListN.{length, getD}
+use lib.Dec.{eqb, leb, ltb}
+use lib.ListN.{length, getD, take, drop}
 use Rattle.refusal.specs.declared.Refusal.{Refusal}
 use Rattle.refusal.specs.declared.Refusal.the-variants.{Room}
 use Rattle.stream_spec.specs.declared.Shape.{Shape}
 use Rattle.stream_spec.specs.declared.Verdict.the-variants.{Clean}
 use Rattle.stream_spec.specs.Items.{samePair, Transfer, Item, kept, items}
 use Rattle.stream_spec.specs.Packed.{fitted, pack, settled, held, parted}
-use Rattle.stream_spec.specs.Layout.{bit, widthMost, tlast, tvalid, aresetn, tkeep, tstrb, size, atWidth, nullLane, laneType, laneTypes, Kept, records, joined, streamItems, packedTransfers, packed, slicedTransfers, sliced}
-use Rattle.stream_spec.specs.Checks.{widthCheck, lengthCheck}
+use Rattle.stream_spec.specs.Layout.{bit, bitOf, widthMost, tlast, tvalid, aresetn, tkeep, tstrb, size, ofWidth, atWidth, LaneType, nullLane, laneType, laneTypes, laneOf, Kept, keepBit, strbBit, laneOctet, maskOctets, transferOf, octetsOf, records, joined, streamItems, packedTransfers, packed, slicedTransfers, sliced}
+use Rattle.stream_spec.specs.Checks.{widthCheck, userCheck, lengthCheck, fieldFault}
 use Rattle.stream_spec.specs.Handshake.{r1, r2, r3, r4, Finding, firstFinding, handshakes, harvested, filledIn, asFilled}
 use Rattle.stream_spec.specs.Answers.{judgeAnswer, fillAfter, repackRefusal, harvestRefusal, dataRefusal, dataPart}
 use Rattle.stream_spec.specs.Legal.{Octets, Legal}
@@ -43,6 +43,37 @@ pub record SetAbove (n m : ℕ) : Type 0 where
 
 abbrev pub FieldBits : Type 0
 FieldBits = (n m : ℕ) → (2 ^ n ≤ m) ↔ SetAbove n m
+
+-- 16 (T-06): "m above 4"
+abbrev pub UserExactly : Type 0
+UserExactly = (s : Shape) → (userCheck s .found ≡ true) ↔ (4 < s .user)
+
+-- ---- user bits (T-06)
+
+-- what lanes of these types with these data octets carry where there are no user bits
+abbrev pub bareLanes : List LaneType → List ℕ → List (Option Kept)
+bareLanes [] ds = []
+bareLanes (t ∷ ts) [] = laneOf t 0 0 ∷ bareLanes ts []
+bareLanes (t ∷ ts) (d ∷ ds) = laneOf t d 0 ∷ bareLanes ts ds
+
+-- "With m = 0 all else in 01 stays octet for octet": a record's size, its FIELD, what is read of it and what is written are 01's
+-- formulas, written out.
+pub record AsBefore (w : ℕ) : Type 0 where
+  pub size : size (ofWidth w) ≡ 7 + w
+  pub field :
+      (used : ℕ) (r : List ℕ)
+      → fieldFault used (ofWidth w) r
+      ≡ (leb (2 ^ used) (getD r 0 0) || ltb 15 (getD r 2 0)
+      || leb (2 ^ w) (getD r 3 0 + 256 * getD r 4 0) || leb (2 ^ w) (getD r 5 0 + 256 * getD r 6 0))
+  pub reads : (r : List ℕ) → transferOf (ofWidth w) r .lanes ≡ bareLanes (laneTypes (ofWidth w) r) (take w (drop 7 r))
+  pub writes :
+      (t : Transfer Kept)
+      → octetsOf 0 t
+      ≡ bitOf (t .last) ∷ t .pair .tid ∷ t .pair .tdest
+      ∷ (maskOctets (map keepBit (t .lanes)) ++ (maskOctets (map strbBit (t .lanes)) ++ map laneOctet (t .lanes)))
+
+abbrev pub WithoutUserBits : Type 0
+WithoutUserBits = (w : ℕ) → AsBefore w
 
 -- ---- byte types
 
