@@ -1,3 +1,4 @@
 pub mod Field
+pub mod Padding
 pub mod RecordFaults
 pub mod Tests

@@ -1,7 +1,7 @@
 -- The faults of transfer records: what a header's fault says of the record's checks, and the first fault of a take by one
 -- loop. Assumes nothing.
 use mathlib.Core.Path.{_≡_, refl, sym, ap, _∙_}
-use mathlib.Core.Bool.{Bool, true, false, cond}
+use mathlib.Core.Bool.{Bool, true, false, cond, or-true, or-false}
 use mathlib.Core.List.{List, [], _∷_}
 use mathlib.Core.Option.{Option, none, some}
 use Prim.Native.Nat.{ℕ, suc, _+_, _^_, _≤_, _<_}
@@ -13,9 +13,9 @@ use Rattle.refusal.specs.declared.Refusal.the-variants.{Field as FieldAt, Reser
 use Rattle.refusal.specs.Checks.{first}
 use Rattle.stream_spec.specs.declared.Shape.{Shape}
 use Rattle.stream_spec.specs.Layout.{size, typesOf, anyReserved, records}
-use Rattle.stream_spec.specs.Checks.{HeadFits, transferFlags, transferFaults, transferChecks, fieldFault, reservedFault}
+use Rattle.stream_spec.specs.Checks.{Fields, transferFlags, transferFaults, transferChecks, userFault, fieldFault, reservedFault}
 use Rattle.stream_spec.specs.Walk.{Left, recordAt}
-use Rattle.stream_spec.proofs.Fields.{head-fits}
+use Rattle.stream_spec.proofs.Fields.{head-fits, fields-of}
 use Rattle.stream_spec.proofs.RecordChecks.{each-found, each-passed}
 use Rattle.stream_spec.proofs.Walk.{left-start, left-next, records-next, few-next, no-records}
 use Rattle.stream_record.specs.declared.Header.{Header}
@@ -24,7 +24,7 @@ use Rattle.stream_record.specs.declared.Fault.the-variants.{Sound, Field
 use Rattle.stream_record.specs.declared.Checked.{Checked}
 use Rattle.stream_record.specs.declared.Checked.the-variants.{Passed, Refused}
 use Rattle.stream_record.specs.Checked.{checkedOf}
-use Rattle.stream_record.specs.Header.{headerOf, headerFault, faultOf}
+use Rattle.stream_record.specs.Header.{headerOf, headerFault, faultOf, recordFault}
 
 -- ---- a header's fault, as the code finds it
 
@@ -69,21 +69,27 @@ module _ {X : Type 0} (x y : X) where
   pick-sound false true e = let z : _≡_ {A = ℕ} 0 1 = cc in absurd (omega arith)
   pick-sound false false e = (refl, refl)
 
-module _ (s : Shape) (rec : List ℕ) (k : ℕ) (h : Header) (e : h ≡ headerOf rec) where
-  pub told-field : Field ≡ faultOf s h → first (transferFaults s k rec) ≡ some (FieldAt k)
-  told-field f = pick-field (FieldAt k) (ReservedAt k) (fieldFault transferFlags s rec) (reservedFault s rec) (rw e at f)
+module _ (s : Shape) (rec : List ℕ) (k : ℕ) where
+  pub told-field : Field ≡ recordFault s rec → first (transferFaults s k rec) ≡ some (FieldAt k)
+  told-field f = pick-field (FieldAt k) (ReservedAt k) (fieldFault transferFlags s rec) (reservedFault s rec) f
 
-  pub told-reserved : Reserved ≡ faultOf s h → first (transferFaults s k rec) ≡ some (ReservedAt k)
-  told-reserved f = pick-reserved (FieldAt k) (ReservedAt k) (fieldFault transferFlags s rec) (reservedFault s rec) (rw e at f)
+  pub told-reserved : Reserved ≡ recordFault s rec → first (transferFaults s k rec) ≡ some (ReservedAt k)
+  told-reserved f = pick-reserved (FieldAt k) (ReservedAt k) (fieldFault transferFlags s rec) (reservedFault s rec) f
 
-  pub told-sound : Sound ≡ faultOf s h → first (transferFaults s k rec) ≡ none
-  told-sound f = pick-sound (FieldAt k) (ReservedAt k) (fieldFault transferFlags s rec) (reservedFault s rec) (rw e at f) .1
+  pub told-sound : Sound ≡ recordFault s rec → first (transferFaults s k rec) ≡ none
+  told-sound f = pick-sound (FieldAt k) (ReservedAt k) (fieldFault transferFlags s rec) (reservedFault s rec) f .1
 
-  -- a sound header fits
-  pub told-fits : Sound ≡ faultOf s h → HeadFits transferFlags s (h .flags) (h .tdest) (h .keep) (h .strb)
-  told-fits f =
-      head-fits transferFlags s (h .flags) (h .tdest) (h .keep) (h .strb)
-      (pick-sound (FieldAt k) (ReservedAt k) (headerFault transferFlags s h) (anyReserved (typesOf (s .width) (h .keep) (h .strb))) f .0)
+  -- a sound record's fields fit
+  pub told-fields : Sound ≡ recordFault s rec → Fields transferFlags s rec
+  told-fields f =
+      fields-of transferFlags s rec (pick-sound (FieldAt k) (ReservedAt k) (fieldFault transferFlags s rec) (reservedFault s rec) f .0)
+
+-- the padding first, then what the header tells
+pub padding-tells : (s : Shape) (rec : List ℕ) → userFault s rec ≡ true → Field ≡ recordFault s rec
+padding-tells s rec u = rw (u, or-true (headerFault transferFlags s (headerOf rec))) refl
+
+pub head-tells : (s : Shape) (rec : List ℕ) (h : Header) → h ≡ headerOf rec → userFault s rec ≡ false → faultOf s h ≡ recordFault s rec
+head-tells s rec h e u = rw (e, u, or-false (headerFault transferFlags s (headerOf rec))) refl
 
 -- ---- the first fault of a take
 

@@ -10,7 +10,7 @@ use Rattle.refusal.specs.declared.Refusal.the-variants.{Width}
 use Rattle.refusal.specs.Checks.{Check, first}
 use Rattle.refusal.proofs.First.{first-none, append-found, append-passed, append-none}
 use Rattle.stream_spec.specs.declared.Shape.{Shape}
-use Rattle.stream_spec.specs.Checks.{widthCheck, shapeChecks, lengthCheck, takeChecks}
+use Rattle.stream_spec.specs.Checks.{widthCheck, userCheck, shapeChecks, lengthCheck, takeChecks}
 use Rattle.stream_spec.specs.Walk.{Passed as PassedTests}
 use Rattle.stream_spec.proofs.Passed.{WidthFits, ShapeFits, shape-fits as of-shape, shapes-fit as of-shapes, take-passed as passed-both, checks-passed}
 use Rattle.stream_record.specs.declared.Checked.{Checked}
@@ -64,7 +64,7 @@ module _ (s : Shape) (v : ℕ) where
   pub output-refused : widthCheck v .found ≡ true → some Width ≡ first (shapeChecks s (v ∷ []))
   output-refused e = go (widthCheck (s .width) .found) refl
     where
-      go : (b : Bool) → widthCheck (s .width) .found ≡ b → some Width ≡ cond b (some Width) (first (widthCheck v ∷ []))
+      go : (b : Bool) → widthCheck (s .width) .found ≡ b → some Width ≡ cond b (some Width) (first (widthCheck v ∷ userCheck s ∷ []))
       go true h = refl
       go false h = rw e refl
 

@@ -1,16 +1,16 @@
-// The tests in front of a stream call, in paper 01's order: the widths, then the length. Each function answers the first
-// refusal of a list of stream_spec's checks. A test that a shape gets later comes straight after all widths, in check_shape.
+// The tests in front of a stream call, in the papers' order: the widths, the user bits, then the length. Each function answers
+// the first refusal of a list of stream_spec's checks. A test that a shape gets later comes straight after all widths, in check_shape.
 use crate::Checked;
 use crate::bad_length;
+use crate::bad_user;
 use crate::bad_width;
 use refusal::Refusal;
 use stream_spec::Shape;
 ghost use mathlib.Core.Path.{_≡_};
 ghost use mathlib.Core.List.{[], _∷_, _++_};
-ghost use Prim.Native.Nat.{_≤_};
 ghost use Rattle.refusal.specs.Checks.{first};
 ghost use Rattle.stream_spec.specs.Checks.{shapeChecks, lengthCheck, takeChecks};
-ghost use Rattle.stream_spec.specs.Layout.{widthMost};
+ghost use Rattle.stream_spec.specs.Walk.{Narrow};
 ghost use Rattle.stream_record.specs.Checked.{checkedOf};
 
 // The shape of the input, of a call that has no other width.
@@ -19,6 +19,9 @@ fn check_shape(s: Shape) -> Checked
 {
     if bad_width(s.width) {
         return Checked::Refused(Refusal::Width);
+    }
+    if bad_user(s.user) {
+        return Checked::Refused(Refusal::UserBits);
     }
     Checked::Passed
 }
@@ -35,7 +38,7 @@ pub fn check_shapes(s: Shape, v: usize) -> Checked
 
 // The length of the input. Its shape has passed its test.
 pub fn check_length(s: Shape, input: &[u8]) -> Checked
-    requires { ⌜ s .width ≤ widthMost ⌝ }
+    requires { ⌜ Narrow s ⌝ }
     ensures { λ r. ⌜ checkedOf r ≡ first (lengthCheck s (now (input .entry)) ∷ []) ⌝ }
 {
     if bad_length(s, input) {

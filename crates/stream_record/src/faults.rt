@@ -3,6 +3,7 @@
 use crate::Checked;
 use crate::Fault;
 use crate::Header;
+use crate::bad_padding;
 use crate::field_fault;
 use crate::layout::TRANSFER_FLAGS;
 use crate::read_header;
@@ -16,11 +17,11 @@ ghost use lib.ListN.{length};
 ghost use Rattle.refusal.specs.Checks.{first};
 ghost use Rattle.stream_spec.specs.Checks.{transferFaults, transferChecks};
 ghost use Rattle.stream_spec.specs.Layout.{widthMost, size, records};
-ghost use Rattle.stream_spec.specs.Walk.{Passed};
+ghost use Rattle.stream_spec.specs.Walk.{Narrow, Passed};
 ghost use Rattle.stream_record.specs.Checked.{checkedOf};
-ghost use Rattle.stream_record.specs.Header.{faultOf};
+ghost use Rattle.stream_record.specs.Header.{faultOf, recordFault};
 
-// The fault of a transfer record with this header.
+// The fault of a transfer record with this header, as far as its header tells.
 pub fn fault_of(h: Header, s: Shape) -> Fault
     requires { ⌜ s .width ≤ widthMost ⌝ }
     ensures { λ r. ⌜ r ≡ faultOf s h ⌝ }
@@ -34,12 +35,23 @@ pub fn fault_of(h: Header, s: Shape) -> Fault
     Fault::Sound
 }
 
+// The fault of a transfer record: its padding, and its header.
+pub fn fault_in(s: Shape, rec: &[u8]) -> Fault
+    requires { ⌜ Narrow s × (length (now rec) ≡ size s) ⌝ }
+    ensures { λ r. ⌜ r ≡ recordFault s (now (rec .entry)) ⌝ }
+{
+    if bad_padding(s, rec) {
+        return Fault::Field;
+    }
+    fault_of(read_header(rec), s)
+}
+
 // The refusal for the transfer record k.
 pub fn record_fault(s: Shape, rec: &[u8], k: usize) -> Checked
-    requires { ⌜ (s .width ≤ widthMost) × (length (now rec) ≡ size s) ⌝ }
+    requires { ⌜ Narrow s × (length (now rec) ≡ size s) ⌝ }
     ensures { λ r. ⌜ checkedOf r ≡ first (transferFaults s k (now (rec .entry))) ⌝ }
 {
-    match fault_of(read_header(rec), s) {
+    match fault_in(s, rec) {
         Fault::Field => Checked::Refused(Refusal::Field(k)),
         Fault::Reserved => Checked::Refused(Refusal::Reserved(k)),
         Fault::Sound => Checked::Passed,

@@ -21,8 +21,10 @@ pub const TSTRB: usize = 5;
 
 pub const TSTRB_HIGH: usize = TSTRB + 1;
 
-// The most byte lanes, and the octets of the smallest record.
+// The most byte lanes, the most user bits to a byte, and the octets of the smallest record.
 pub const WIDTH_MOST: usize = 16;
+
+pub const USER_MOST: usize = 4;
 
 pub const SIZE_LEAST: usize = HEAD_OCTETS + 1;
 

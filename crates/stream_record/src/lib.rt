@@ -9,6 +9,7 @@ pub use checks::check_input;
 pub use checks::check_length;
 pub use checks::check_shapes;
 pub use checks::check_take;
+pub use faults::fault_in;
 pub use faults::fault_of;
 pub use faults::find_fault;
 pub use faults::record_fault;
@@ -20,15 +21,18 @@ use layout::TDEST_MOST;
 use layout::TID;
 use layout::TKEEP;
 use layout::TSTRB;
+use layout::USER_MOST;
 use layout::WIDTH_MOST;
 use refusal::Refusal;
 use stream_spec::Shape;
 use words::widen4;
 ghost use mathlib.Core.Path.{_≡_};
-ghost use Prim.Native.Nat.{ℕ, _+_, _*_, _≤_, _<_, _^_};
+ghost use Prim.Native.Nat.{ℕ, _+_, _*_, _%_, _≤_, _<_, _^_};
+ghost use lib.Dec.{ltb};
 ghost use lib.ListN.{length, getD};
-ghost use Rattle.stream_spec.specs.Layout.{headOctets, widthMost, ofWidth, atWidth, size, typesOf, anyReserved};
-ghost use Rattle.stream_spec.specs.Checks.{widthCheck, lengthCheck};
+ghost use Rattle.stream_spec.specs.Layout.{headOctets, widthMost, userMost, userOctets, shaped, atWidth, size, typesOf, anyReserved};
+ghost use Rattle.stream_spec.specs.Checks.{widthCheck, lengthCheck, userFault};
+ghost use Rattle.stream_spec.specs.Walk.{Narrow};
 ghost use Rattle.stream_record.specs.Header.{headerOf, headerFault};
 
 // The fields of a record before its data.
@@ -53,18 +57,21 @@ pub enum Fault {
     Reserved,
 }
 
-// The shape of records of so many lanes, and of the same kind of records at another width. No other code makes a shape of its
-// parts.
-pub fn shape_of(width: usize) -> Shape
-    ensures { λ r. ⌜ r ≡ ofWidth width ⌝ }
+// The shape of records of so many lanes with so many user bits to a byte, and of the same kind of records at another width. No
+// other code makes a shape of its parts.
+pub fn shape_of(width: usize, user: usize) -> Shape
+    ensures { λ r. ⌜ r ≡ shaped width user ⌝ }
 {
-    Shape { width }
+    Shape { width, user }
 }
 
 pub fn at_width(s: Shape, v: usize) -> Shape
     ensures { λ r. ⌜ r ≡ atWidth s v ⌝ }
 {
-    Shape { width: v }
+    Shape {
+        width: v,
+        user: s.user,
+    }
 }
 
 // Whether a width is refused.
@@ -77,17 +84,60 @@ fn bad_width(w: usize) -> bool
     WIDTH_MOST < w
 }
 
-// The octets of a record. The width has passed its test.
-pub fn record_size(s: Shape) -> usize
-    requires { ⌜ s .width ≤ widthMost ⌝ }
-    ensures { λ r. ⌜ r ≡ size s ⌝ }
+// Whether a number of user bits is refused.
+fn bad_user(m: usize) -> bool
+    ensures { λ r. ⌜ r ≡ ltb userMost m ⌝ }
 {
-    HEAD_OCTETS + s.width
+    USER_MOST < m
 }
 
-// Whether the length of an input is refused. The width has passed its test.
+// How many user bits a record has, all lanes together. The shape has passed its test.
+fn user_bits(s: Shape) -> usize
+    requires { ⌜ Narrow s ⌝ }
+    ensures { λ r. ⌜ (r ≡ s .width * s .user) × (r ≤ 64) ⌝ }
+{
+    s.width * s.user
+}
+
+// The octets that hold them.
+pub fn user_octets(s: Shape) -> usize
+    requires { ⌜ Narrow s ⌝ }
+    ensures { λ r. ⌜ (r ≡ userOctets (s .width) (s .user)) × (r ≤ 8) ⌝ }
+{
+    (user_bits(s) + 7) / 8
+}
+
+// The octets of a record. The shape has passed its test.
+pub fn record_size(s: Shape) -> usize
+    requires { ⌜ Narrow s ⌝ }
+    ensures { λ r. ⌜ r ≡ size s ⌝ }
+{
+    HEAD_OCTETS + s.width + user_octets(s)
+}
+
+// How many user bits the last octet of a record holds, where others in it are padding; 0 where none is.
+pub fn user_rest(s: Shape) -> usize
+    requires { ⌜ Narrow s ⌝ }
+    ensures { λ r. ⌜ (r ≡ s .width * s .user % 8) × (r < 8) ⌝ }
+{
+    user_bits(s) % 8
+}
+
+// Whether a bit of a record's padding is set.
+fn bad_padding(s: Shape, rec: &[u8]) -> bool
+    requires { ⌜ Narrow s × (length (now rec) ≡ size s) ⌝ }
+    ensures { λ r. ⌜ r ≡ userFault s (now (rec .entry)) ⌝ }
+{
+    let n = user_rest(s);
+    if n == 0 {
+        return false;
+    }
+    1u8 << n <= rec[rec.len() - 1]
+}
+
+// Whether the length of an input is refused. The shape has passed its test.
 fn bad_length(s: Shape, input: &[u8]) -> bool
-    requires { ⌜ s .width ≤ widthMost ⌝ }
+    requires { ⌜ Narrow s ⌝ }
     ensures { λ r. ⌜ r ≡ lengthCheck s (now (input .entry)) .found ⌝ }
 {
     let n = input.len();

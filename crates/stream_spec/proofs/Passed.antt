@@ -92,3 +92,6 @@ checks-passed s xs e =
 -- what has passed once is a shape that fits
 pub passed-shape : (s : Shape) (xs : List ℕ) → Passed s xs → ShapeFits s
 passed-shape s xs p = record { low = p .low; high = p .high; user = p .user }
+
+pub passed-narrow : (s : Shape) (xs : List ℕ) → Passed s xs → Narrow s
+passed-narrow s xs p = record { width = p .high; user = p .user }

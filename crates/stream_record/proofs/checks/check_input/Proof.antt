@@ -2,6 +2,7 @@
 use mathlib.Core.Path.{sym, _∙_}
 use mathlib.Core.List.{[], _∷_}
 use Rattle.stream_spec.specs.Checks.{shapeChecks, lengthCheck}
+use Rattle.stream_spec.proofs.Passed.{shape-narrow}
 use Rattle.stream_record.proofs.Tests.{refused-front, passed-front, shapes-fit}
 use borrow.Author.Needs.{needs}
 use Rattle.stream_record.proofs.checks.check_input.Statement.{statement}
@@ -20,7 +21,7 @@ check-length-requires : tie.Need-check-length-requires
 check-length-requires c κs =
     let a = c .before .before .before .before .args in
     let shape = c .before .before .check-shapes in
-    shapes-fit (shape .result) (c .enum-told .given .1) (a .s) (a .v) (shape .ensures) .input .high
+    shape-narrow (a .s) (shapes-fit (shape .result) (c .enum-told .given .1) (a .s) (a .v) (shape .ensures) .input)
 
 returns : tie.Need-returns
 returns c =

@@ -2,6 +2,7 @@
 use mathlib.Core.Path.{sym, _∙_}
 use mathlib.Core.List.{[], _∷_}
 use Rattle.stream_spec.specs.Checks.{shapeChecks, lengthCheck}
+use Rattle.stream_spec.proofs.Passed.{shape-narrow}
 use Rattle.stream_record.proofs.Tests.{refused-front, passed-front, shape-fits}
 use borrow.Author.Needs.{needs}
 use Rattle.stream_record.proofs.checks.check_take.Statement.{statement}
@@ -20,7 +21,7 @@ check-length-requires : tie.Need-check-length-requires
 check-length-requires c κs =
     let a = c .before .before .before .before .args in
     let shape = c .before .before .check-shape in
-    shape-fits (shape .result) (c .enum-told .given .1) (a .s) (shape .ensures) .high
+    shape-narrow (a .s) (shape-fits (shape .result) (c .enum-told .given .1) (a .s) (shape .ensures))
 
 returns : tie.Need-returns
 returns c =

@@ -6,6 +6,7 @@ use native.Mathlib.Omega.{arith}
 use borrow.Author.Needs.{needs}
 use lib.ListN.{length}
 use Rattle.stream_spec.proofs.Size.{size-pos}
+use Rattle.stream_spec.proofs.Passed.{passed-narrow}
 use Rattle.stream_spec.proofs.Walk.{left-start, record-fits, record-long}
 use Rattle.stream_record.proofs.RecordFaults.{Judging, judging-found, judging-next, judging-done}
 use Rattle.stream_record.proofs.faults.find_fault.Statement.{statement}
@@ -18,7 +19,7 @@ abbrev μ-loop : tie.MeasureT-loop
 μ-loop s transfers z at₀ k₀ at k = length transfers - at
 
 record-size-requires : tie.Need-record-size-requires Inv-loop μ-loop
-record-size-requires c κs = c .before .pre .high
+record-size-requires c κs = passed-narrow (c .before .args .s) (c .before .args .transfers .now) (c .before .pre)
 
 loop-holds : tie.Need-loop-holds Inv-loop μ-loop
 loop-holds c =
@@ -58,7 +59,7 @@ record-fault-requires c κs =
     let a = c .before .before .before .before .before .args in
     let l = c .before .before .loop in
     let z = c .before .before .before .record-size in
-    (c .before .before .before .before .before .pre .high, record-long (a .s) (a .transfers .now) (l .at) (l .inv .left) (c .before .loop-test .taken) (z .result) (z .ensures))
+    (passed-narrow (a .s) (a .transfers .now) (c .before .before .before .before .before .pre), record-long (a .s) (a .transfers .now) (l .at) (l .inv .left) (c .before .loop-test .taken) (z .result) (z .ensures))
 
 enum-known-f : tie.Need-enum-known-f Inv-loop μ-loop
 enum-known-f c = search needs
