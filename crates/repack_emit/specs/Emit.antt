@@ -17,9 +17,9 @@ use Rattle.repack_plain.specs.declared.Head.{Head}
 abbrev pub headOf : ℕ → Head
 headOf e = record { pair = entryPair e; last = entryLast e }
 
--- the octets of the packed form of a table's stretches
-abbrev pub packedFrom : ℕ → List ℕ → List ℕ → List ℕ
-packedFrom v table codes = octets (packStretches v (stretchesOf table codes))
+-- the octets of the packed form of a table's stretches, with m user bits to a byte
+abbrev pub packedFrom : ℕ → ℕ → List ℕ → List ℕ → List ℕ
+packedFrom m v table codes = octets m (packStretches v (stretchesOf table codes))
 
 -- items as two arrays hold them, with a flag that is true only where none is marked
 pub record Held (plain : Bool) (octets marks : List ℕ) : Type 0 where
@@ -43,6 +43,6 @@ countOf v [] = 0
 countOf v (e ∷ es) = (entryCount e - 1) / v + 1 + countOf v es
 
 -- what writing the packed form answers, and the memory after it
-pub record Emitted (v : ℕ) (codes table out after : List ℕ) (r : Written) : Type 0 where
-  pub answer : r ≡ written (first (roomCheck (packedFrom v table codes) (length out) ∷ [])) (length (packStretches v (stretchesOf table codes)))
-  pub memory : after ≡ lentAfter (first (roomCheck (packedFrom v table codes) (length out) ∷ [])) (packedFrom v table codes) out
+pub record Emitted (m v : ℕ) (codes table out after : List ℕ) (r : Written) : Type 0 where
+  pub answer : r ≡ written (first (roomCheck (packedFrom m v table codes) (length out) ∷ [])) (length (packStretches v (stretchesOf table codes)))
+  pub memory : after ≡ lentAfter (first (roomCheck (packedFrom m v table codes) (length out) ∷ [])) (packedFrom m v table codes) out

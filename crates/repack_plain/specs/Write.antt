@@ -26,17 +26,17 @@ itemStrobe x = strbBit (some (keptOf x))
 abbrev pub recordOf : ℕ → Pair → List ℕ → Bool → Transfer Kept
 recordOf v pair codes last = record { pair = pair; lanes = fitted v (map some (map keptOf codes)); last = last }
 
--- the octets of one with n items, from item `from` on
-abbrev pub recordAt : ℕ → ℕ → ℕ → List ℕ → ℕ → ℕ → List ℕ
-recordAt v pair last codes from n = octetsOf (recordOf v (pairFrom pair) (take n (drop from codes)) (odd last))
+-- the octets of one with n items, from item `from` on, and m user bits to a byte
+abbrev pub recordAt : ℕ → ℕ → ℕ → ℕ → List ℕ → ℕ → ℕ → List ℕ
+recordAt m v pair last codes from n = octetsOf m (recordOf v (pairFrom pair) (take n (drop from codes)) (odd last))
 
 -- the octets of a stretch with the items of these codes
-abbrev pub stretchOctets : ℕ → Pair → List ℕ → Bool → List ℕ
-stretchOctets v pair codes last = octets (spread ((length codes - 1) / v) v pair (map some (map keptOf codes)) last)
+abbrev pub stretchOctets : ℕ → ℕ → Pair → List ℕ → Bool → List ℕ
+stretchOctets m v pair codes last = octets m (spread ((length codes - 1) / v) v pair (map some (map keptOf codes)) last)
 
 -- of what is left of a stretch at a cursor
-abbrev pub leftOctets : ℕ → Head → List ℕ → Cursor → List ℕ
-leftOctets v head codes c = stretchOctets v (pairFrom (head .pair)) (take (c .left) (drop (c .from) codes)) (odd (head .last))
+abbrev pub leftOctets : ℕ → ℕ → Head → List ℕ → Cursor → List ℕ
+leftOctets m v head codes c = stretchOctets m v (pairFrom (head .pair)) (take (c .left) (drop (c .from) codes)) (odd (head .last))
 
 -- ---- a stretch
 
@@ -46,23 +46,23 @@ pub record HeadFits (head : Head) : Type 0 where
   pub last : head .last ≤ 1
 
 -- What is left of a stretch can be written: the arrays hold its items and 32 more, and there is room for its octets.
-pub record StretchFits (v : ℕ) (head : Head) (octets codes out : List ℕ) (c : Cursor) : Type 0 where
+pub record StretchFits (m v : ℕ) (head : Head) (octets codes out : List ℕ) (c : Cursor) : Type 0 where
   pub low : 1 ≤ v
   pub high : v ≤ 16
   pub held : c .from + c .left + 32 ≤ length octets
-  pub room : c .to + length (leftOctets v head codes c) ≤ length out
+  pub room : c .to + length (leftOctets m v head codes c) ≤ length out
 
 -- it is written, up to octet r
-pub record StretchPut (v : ℕ) (head : Head) (codes out : List ℕ) (c : Cursor) (after : List ℕ) (r : ℕ) : Type 0 where
+pub record StretchPut (m v : ℕ) (head : Head) (codes out : List ℕ) (c : Cursor) (after : List ℕ) (r : ℕ) : Type 0 where
   pub same : length after ≡ length out
-  pub writes : Writes (leftOctets v head codes c) out (c .to) after r
+  pub writes : Writes (leftOctets m v head codes c) out (c .to) after r
 
--- ---- a stretch of data, record by record
+-- ---- a stretch of data, record by record, without user bits
 
 -- A stretch of data of which all up to a cursor is written: its items are held and its octets have room.
 pub record Fitting (v pair : ℕ) (octets out : List ℕ) (c : Cursor) : Type 0 where
   pub held : c .from + c .left + 32 ≤ length octets
-  pub room : (last : Bool) → c .to + length (stretchOctets v (pairFrom pair) (take (c .left) (drop (c .from) (map dataCode octets))) last) ≤ length out
+  pub room : (last : Bool) → c .to + length (stretchOctets 0 v (pairFrom pair) (take (c .left) (drop (c .from) (map dataCode octets))) last) ≤ length out
 
 -- More of it is written, up to another cursor.
 pub record Advanced (v pair : ℕ) (octets out : List ℕ) (c : Cursor) (after : List ℕ) (r : Cursor) : Type 0 where
@@ -70,5 +70,5 @@ pub record Advanced (v pair : ℕ) (octets out : List ℕ) (c : Cursor) (after :
   pub fits : Fitting v pair octets after r
   pub writes :
       (last : Bool) (before whole rest : List ℕ)
-      → Writing before out (c .to) whole (stretchOctets v (pairFrom pair) (take (c .left) (drop (c .from) (map dataCode octets))) last ++ rest)
-      → Writing before after (r .to) whole (stretchOctets v (pairFrom pair) (take (r .left) (drop (r .from) (map dataCode octets))) last ++ rest)
+      → Writing before out (c .to) whole (stretchOctets 0 v (pairFrom pair) (take (c .left) (drop (c .from) (map dataCode octets))) last ++ rest)
+      → Writing before after (r .to) whole (stretchOctets 0 v (pairFrom pair) (take (r .left) (drop (r .from) (map dataCode octets))) last ++ rest)

@@ -1,59 +1,76 @@
 -- Laws of the codes: what is packed into a code comes out of it again; the codes of a record's kept lanes stand for what
 -- those lanes carry; a table grows by one stretch with each entry. Assumes nothing.
-use mathlib.Core.Path.{_≡_, refl, ap, _∙_}
+use mathlib.Core.Path.{_≡_, refl, ap, ap₂, _∙_}
 use mathlib.Core.Bool.{Bool, true, false}
 use mathlib.Core.List.{List, [], _∷_, _++_, map}
-use Prim.Native.Nat.{ℕ, zero, suc, _+_, _-_, _*_, _/_, _%_, _≤_, _<_}
+use Prim.Native.Nat.{ℕ, zero, suc, _+_, _-_, _*_, _/_, _%_, _^_, _≤_, _<_}
 use native.Mathlib.Omega.{arith}
 use borrow.Author.Tests.{eqb-true, eqb-false}
-use lib.ListN.{length, take, drop, length-drop}
+use lib.ListN.{length, getD, take, drop, length-drop}
 use lib.Seq.{take-append-le, drop-append-le, take-all, drop-drop}
 use Rattle.stream_spec.specs.Items.{kept}
 use Rattle.stream_spec.specs.Packed.{Stretch}
 use Rattle.stream_spec.specs.Layout.{odd, laneType, laneOf, lanesOf, typesOf, Kept, octet, position}
 use Rattle.stream_spec.specs.Legal.{Octets}
-use Rattle.repack_scratch.specs.Codes.{itemCode, keptOf, sifted, pairFrom, entryOf, entryCount, entryLast, entryPair, stretchOf, stretchesOf, total}
+use Rattle.repack_scratch.specs.Codes.{itemCode, taggedCode, keptOf, sifted, tagged, pairFrom, entryOf, entryCount, entryLast, entryPair, stretchOf, stretchesOf, total}
 
 -- ---- items
 
-pub item-data : (t d : ℕ) → d < 256 → odd t ≡ true → keptOf (itemCode t d) ≡ octet d
+pub item-data : (t u d : ℕ) → d < 256 → odd t ≡ true → keptOf (taggedCode t u d) ≡ octet d u
 unfolding keptOf
-item-data t d h e =
+item-data t u d h e =
     let bit : t % 2 ≡ 1 = eqb-true (t % 2) 1 e in
-    let code : d + 256 * (t % 2) ≡ d + 256 = omega arith in
-    let high : (d + 256) / 256 ≡ 1 = omega arith in
-    let low : (d + 256) % 256 ≡ d = omega arith in
-    rw (code, high, low) refl
+    let code : d + 256 * (t % 2) + 512 * u ≡ d + 256 + 512 * u = omega arith in
+    let odd' : (d + 256 + 512 * u) / 256 % 2 ≡ 1 = omega arith in
+    let low : (d + 256 + 512 * u) % 256 ≡ d = omega arith in
+    let high : (d + 256 + 512 * u) / 512 ≡ u = omega arith in
+    rw (code, odd', low, high) refl
 
-pub item-position : (t d : ℕ) → d < 256 → odd t ≡ false → keptOf (itemCode t d) ≡ position
+pub item-position : (t u d : ℕ) → d < 256 → odd t ≡ false → keptOf (taggedCode t u d) ≡ position u
 unfolding keptOf
-item-position t d h e =
+item-position t u d h e =
     let bit : t % 2 ≡ 1 → ⊥ = eqb-false (t % 2) 1 e in
-    let code : d + 256 * (t % 2) ≡ d = omega arith in
-    let high : d / 256 ≡ 0 = omega arith in
-    rw (code, high) refl
+    let code : d + 256 * (t % 2) + 512 * u ≡ d + 512 * u = omega arith in
+    let even : (d + 512 * u) / 256 % 2 ≡ 0 = omega arith in
+    let high : (d + 512 * u) / 512 ≡ u = omega arith in
+    rw (code, even, high) refl
 
 -- the codes of the kept lanes stand for what the lanes carry
-pub sifted-kept : (w k t : ℕ) (ds : List ℕ) → Octets ds → map keptOf (sifted w k t ds) ≡ kept (lanesOf (typesOf w k t) ds)
-sifted-kept zero k t ds h = refl
-sifted-kept (suc w) k t [] h = go (sifted-kept w (k / 2) (t / 2) [] tt) (odd k) refl (odd t) refl
+pub tagged-kept : (m w k t u : ℕ) (ds : List ℕ) → Octets ds → map keptOf (tagged m w k t u ds) ≡ kept (lanesOf m (typesOf w k t) u ds)
+tagged-kept m zero k t u ds h = refl
+tagged-kept m (suc w) k t u [] h = go (tagged-kept m w (k / 2) (t / 2) (u / 2 ^ m) [] tt) (odd k) refl (odd t) refl
   where
-    go : map keptOf (sifted w (k / 2) (t / 2) []) ≡ kept (lanesOf (typesOf w (k / 2) (t / 2)) [])
+    go : map keptOf (tagged m w (k / 2) (t / 2) (u / 2 ^ m) []) ≡ kept (lanesOf m (typesOf w (k / 2) (t / 2)) (u / 2 ^ m) [])
         → (a : Bool) → odd k ≡ a → (b : Bool) → odd t ≡ b
-        → map keptOf (sifted (suc w) k t []) ≡ kept (laneOf (laneType (odd k) (odd t)) 0 ∷ lanesOf (typesOf w (k / 2) (t / 2)) [])
-    go ih true e true f = rw (e, f) (rw (item-data t 0 (omega arith) f, ih) refl)
-    go ih true e false f = rw (e, f) (rw (item-position t 0 (omega arith) f, ih) refl)
+        → map keptOf (tagged m (suc w) k t u [])
+        ≡ kept (laneOf (laneType (odd k) (odd t)) 0 (u % 2 ^ m) ∷ lanesOf m (typesOf w (k / 2) (t / 2)) (u / 2 ^ m) [])
+    go ih true e true f = rw (e, f) (rw (item-data t (u % 2 ^ m) 0 (omega arith) f, ih) refl)
+    go ih true e false f = rw (e, f) (rw (item-position t (u % 2 ^ m) 0 (omega arith) f, ih) refl)
     go ih false e true f = rw (e, f) ih
     go ih false e false f = rw (e, f) ih
-sifted-kept (suc w) k t (d ∷ ds) h = go (sifted-kept w (k / 2) (t / 2) ds (h .1)) (odd k) refl (odd t) refl
+tagged-kept m (suc w) k t u (d ∷ ds) h = go (tagged-kept m w (k / 2) (t / 2) (u / 2 ^ m) ds (h .1)) (odd k) refl (odd t) refl
   where
-    go : map keptOf (sifted w (k / 2) (t / 2) ds) ≡ kept (lanesOf (typesOf w (k / 2) (t / 2)) ds)
+    go : map keptOf (tagged m w (k / 2) (t / 2) (u / 2 ^ m) ds) ≡ kept (lanesOf m (typesOf w (k / 2) (t / 2)) (u / 2 ^ m) ds)
         → (a : Bool) → odd k ≡ a → (b : Bool) → odd t ≡ b
-        → map keptOf (sifted (suc w) k t (d ∷ ds)) ≡ kept (laneOf (laneType (odd k) (odd t)) d ∷ lanesOf (typesOf w (k / 2) (t / 2)) ds)
-    go ih true e true f = rw (e, f) (rw (item-data t d (h .0) f, ih) refl)
-    go ih true e false f = rw (e, f) (rw (item-position t d (h .0) f, ih) refl)
+        → map keptOf (tagged m (suc w) k t u (d ∷ ds))
+        ≡ kept (laneOf (laneType (odd k) (odd t)) d (u % 2 ^ m) ∷ lanesOf m (typesOf w (k / 2) (t / 2)) (u / 2 ^ m) ds)
+    go ih true e true f = rw (e, f) (rw (item-data t (u % 2 ^ m) d (h .0) f, ih) refl)
+    go ih true e false f = rw (e, f) (rw (item-position t (u % 2 ^ m) d (h .0) f, ih) refl)
     go ih false e true f = rw (e, f) ih
     go ih false e false f = rw (e, f) ih
+
+-- without user bits, whatever is said of them: no code has any
+pub sifted-tagged : (w k t u : ℕ) (ds : List ℕ) → sifted w k t ds ≡ tagged 0 w k t u ds
+sifted-tagged zero k t u ds = refl
+sifted-tagged (suc w) k t u ds = go (sifted-tagged w (k / 2) (t / 2) (u / 2 ^ 0) (drop 1 ds)) (odd k) refl
+  where
+    bare : itemCode t (getD ds 0 0) ≡ taggedCode t (u % 2 ^ 0) (getD ds 0 0)
+    bare = omega arith
+
+    go : sifted w (k / 2) (t / 2) (drop 1 ds) ≡ tagged 0 w (k / 2) (t / 2) (u / 2 ^ 0) (drop 1 ds)
+        → (b : Bool) → odd k ≡ b → sifted (suc w) k t ds ≡ tagged 0 (suc w) k t u ds
+    go ih true e = rw e (ap₂ {C = List ℕ} (λ (x : ℕ) (l : List ℕ). x ∷ l) bare ih)
+    go ih false e = rw e ih
 
 -- ---- entries
 

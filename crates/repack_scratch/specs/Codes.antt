@@ -3,7 +3,7 @@
 use mathlib.Core.Path.{_≡_}
 use mathlib.Core.Bool.{cond}
 use mathlib.Core.List.{List, [], _∷_, _++_, map}
-use Prim.Native.Nat.{ℕ, zero, suc, _+_, _-_, _*_, _/_, _%_}
+use Prim.Native.Nat.{ℕ, zero, suc, _+_, _-_, _*_, _/_, _%_, _^_}
 use lib.ListN.{length, getD, take, drop, replicate}
 use Rattle.stream_spec.specs.Items.{Pair}
 use Rattle.stream_spec.specs.Packed.{Stretch}
@@ -11,7 +11,7 @@ use Rattle.stream_spec.specs.Layout.{odd, Kept, octet, position}
 
 -- ---- how much the arrays hold
 
--- Items: the 45,584 of 2,849 records of 16 lanes (a take has at most 65,536 octets, a record of w lanes has 7 + w), and
+-- Items: the 45,584 of 2,849 records of 16 lanes (a take has at most 65,536 octets, a record of w lanes has 7 + w or more), and
 -- more than the 32 that may be read past the last one.
 abbrev pub itemRoom : ℕ
 itemRoom = 0xB260
@@ -24,10 +24,13 @@ markRoom = 0x164C
 abbrev pub stretchRoom : ℕ
 stretchRoom = 0x2001
 
--- ---- an item's code: its octet, and its strobe times 0x100
+-- ---- an item's code: its octet, its strobe times 0x100, and its user bits, if there are any, times 0x200
 
 abbrev pub itemCode : ℕ → ℕ → ℕ
 itemCode strb d = d + 0x100 * (strb % 2)
+
+abbrev pub taggedCode : ℕ → ℕ → ℕ → ℕ
+taggedCode strb user d = itemCode strb d + 0x200 * user
 
 -- a data item's code
 abbrev pub dataCode : ℕ → ℕ
@@ -63,7 +66,7 @@ Unmarked ms = ms ≡ replicate {A = ℕ} (length ms) 0
 
 -- what an item's code stands for; every number stands for something
 unfoldable pub keptOf : ℕ → Kept
-keptOf x = cond (odd (x / 0x100)) (octet (x % 0x100)) position
+keptOf x = cond (odd (x / 0x100)) (octet (x % 0x100) (x / 0x200)) (position (x / 0x200))
 
 -- the codes of the lanes that TKEEP keeps: lane 0 has the lowest bit of both masks
 abbrev pub sifted : ℕ → ℕ → ℕ → List ℕ → List ℕ
@@ -71,6 +74,13 @@ sifted zero keep strb ds = []
 sifted (suc w) keep strb ds =
     cond (odd keep) (itemCode strb (getD ds 0 0) ∷ sifted w (keep / 2) (strb / 2) (drop 1 ds))
     (sifted w (keep / 2) (strb / 2) (drop 1 ds))
+
+-- the same of lanes with m user bits each, all of them as one number: lane 0 has the lowest
+abbrev pub tagged : ℕ → ℕ → ℕ → ℕ → ℕ → List ℕ → List ℕ
+tagged m zero keep strb user ds = []
+tagged m (suc w) keep strb user ds =
+    cond (odd keep) (taggedCode strb (user % 2 ^ m) (getD ds 0 0) ∷ tagged m w (keep / 2) (strb / 2) (user / 2 ^ m) (drop 1 ds))
+    (tagged m w (keep / 2) (strb / 2) (user / 2 ^ m) (drop 1 ds))
 
 -- ---- a stretch's entry: how many bytes it has, whether an end is behind them, and its pair
 

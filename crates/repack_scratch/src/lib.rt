@@ -1,6 +1,7 @@
-// How the fast converter holds a take between reading and writing: an item as its octet and a mark, which make its code, and
-// a stretch as one entry of a table. What codes and entries mean is in specs/, the laws are in proofs/. Reading and writing
-// records is not here. The fast converter knows a record by its width: it carries no user bits.
+// How a converter holds a take between reading and writing: an item as a code, and a stretch as one entry of a table. The fast
+// converter, which knows a record by its width and carries no user bits, holds a code as an octet and a mark. What codes and
+// entries mean is in specs/, the laws are in proofs/. Reading and writing records is not here.
+use stream_record::HEAD_OCTETS;
 ghost use mathlib.Core.Path.{_≡_};
 ghost use Prim.Native.Nat.{_≤_, _<_};
 ghost use Rattle.stream_spec.specs.Layout.{size, ofWidth};
@@ -35,7 +36,7 @@ pub fn record_size(w: usize) -> usize
     requires { ⌜ w ≤ 16 ⌝ }
     ensures { λ r. ⌜ r ≡ size (ofWidth w) ⌝ }
 {
-    stream_record::record_size(stream_record::shape_of(w))
+    HEAD_OCTETS + w
 }
 
 // So many lanes with the mask of them all. The width has passed its test.
