@@ -67,7 +67,7 @@ module _ {s : Shape} {h : Header} {prevFlags : ℕ} {prev rec : List ℕ} (c : C
   reserved-is r f =
       sym
       (subst (λ (x : Header). (n : ℕ) → x .strb < 2 ^ n → r ≡ anyReserved (typesOf n (x .keep) (x .strb))) (c .header) f (s .width)
-      (fields-of cycleFlags s rec (c .sound) .strb))
+      (fields-of cycleFlags s rec (c .sound) .head .strb))
 
   -- w tells whether the record before waited; ARESETn is high, and was
   module _ (w : Bool) (told : w ≡ waitsBy prevFlags) (high : (bit aresetnBit (h .flags) && bit aresetnBit prevFlags) ≡ true) where
@@ -96,7 +96,7 @@ module _ {s : Shape} {h : Header} {prevFlags : ℕ} {prev rec : List ℕ} (c : C
         record {
           long = c .prevWhole (prev-some e) ∙ sym (c .whole);
           low = rw (c .whole) (size-least s (c .low));
-          high = rw (c .whole) (omega (arith, size-most s (c .high)));
+          high = rw (c .whole) (omega (arith, size-most s (c .high) (c .user)));
         }
 
     -- where the record before waited, it is `prev`

@@ -17,12 +17,12 @@ use Rattle.refusal.specs.declared.Refusal.the-variants.{Field}
 use Rattle.stream_spec.specs.declared.Shape.{Shape}
 use Rattle.stream_spec.specs.declared.Verdict.{Verdict}
 use Rattle.stream_spec.specs.declared.Verdict.the-variants.{Clean, Broken, Refused}
-use Rattle.stream_spec.specs.Layout.{bitOf, widthMost, size, records}
+use Rattle.stream_spec.specs.Layout.{bitOf, size, records}
 use Rattle.refusal.specs.Checks.{Check, first}
 use Rattle.stream_spec.specs.Checks.{fieldFault, cycleFlags, cycleChecks, takeChecks}
 use Rattle.stream_spec.specs.Handshake.{r1, r2, r3, r4, transferred, handshakes, Finding, finding, ruleChecks, findings}
 use Rattle.stream_spec.specs.Answers.{verdict, verdictValues, judgeAnswer, Judged}
-use Rattle.stream_spec.specs.Walk.{Passed, recordAt}
+use Rattle.stream_spec.specs.Walk.{Narrow, Passed, recordAt}
 use Rattle.stream_spec.proofs.Bits.{bit-one}
 use Rattle.stream_spec.proofs.Size.{size-pos}
 use Rattle.stream_spec.proofs.Walk.{left-start, record-long, left-next, records-next, few-next, no-records}
@@ -30,9 +30,9 @@ use Rattle.stream_record.specs.declared.Checked.{Checked}
 use Rattle.stream_record.specs.declared.Checked.the-variants.{Passed as Yes, Refused as Not}
 use Rattle.stream_record.specs.declared.Header.{Header}
 use Rattle.stream_head.specs.declared.Zeros.{Zeros}
-use Rattle.stream_record.specs.Header.{headerOf, headerFault}
+use Rattle.stream_record.specs.Header.{headerOf}
 use Rattle.stream_record.specs.Checked.{checkedOf}
-use Rattle.stream_head.specs.Zeros.{zerosOf}
+use Rattle.stream_head.specs.Zeros.{zerosOf, TellsFault}
 use Rattle.stream_record.proofs.Tests.{refused-front, passed-front}
 use Rattle.stream_judge.specs.Scan.{transfersBy, beforeOf, flagsBefore, lowestRule, CycleAt, verdictFrom, Turning, verdictBehind, Behind, Looking}
 
@@ -91,10 +91,9 @@ module _ (s : Shape) (k : ℕ) (c : List ℕ) (cs : List (List ℕ)) where
 -- ---- the record at `at`
 
 -- what the test of the bits that must be zero found, of a record
-pub fault-is : (s : Shape) (c : List ℕ) (z : Zeros) (r t : Bool) → s .width ≤ widthMost → z ≡ zerosOf cycleFlags s
-    → ((used : ℕ) (x : Shape) → used ≤ 8 → x .width ≤ widthMost → z ≡ zerosOf used x → r ≡ headerFault used x (headerOf c)) → r ≡ t
-    → fieldFault cycleFlags s c ≡ t
-fault-is s c z r t w e f g = sym (f cycleFlags s (omega arith) w e) ∙ g
+pub fault-is : (s : Shape) (c : List ℕ) (z : Zeros) (r t : Bool) → Narrow s → length c ≡ size s → z ≡ zerosOf cycleFlags s
+    → TellsFault z c r → r ≡ t → fieldFault cycleFlags s c ≡ t
+fault-is s c z r t n l e f g = sym (f cycleFlags s (omega arith) n l e) ∙ g
 
 -- ---- behind a finding
 
@@ -181,6 +180,7 @@ module _ (s : Shape) (xs : List ℕ) (from at k count prevFlags : ℕ) (h : Turn
         record {
           low = p .low;
           high = p .high;
+          user = p .user;
           header = e;
           sound = f;
           whole = record-long s xs at (h .left) l z q;

@@ -9,7 +9,7 @@ use lib.ListN.{length, take, drop}
 use Rattle.refusal.specs.Checks.{first}
 use Rattle.stream_spec.specs.declared.Shape.{Shape}
 use Rattle.stream_spec.specs.declared.Verdict.{Verdict}
-use Rattle.stream_spec.specs.Layout.{bit, tvalidBit, treadyBit, aresetnBit, flags, widthMost, size, sizeLeast, records}
+use Rattle.stream_spec.specs.Layout.{bit, tvalidBit, treadyBit, aresetnBit, flags, widthMost, userMost, size, sizeLeast, records}
 use Rattle.stream_spec.specs.Checks.{fieldFault, cycleFlags, cycleChecks}
 use Rattle.stream_spec.specs.Handshake.{r1, r2, r3, r4, handshakes, Finding, findings}
 use Rattle.stream_spec.specs.Answers.{verdict}
@@ -59,6 +59,7 @@ lowestRule s b c = cond (r1 b c) 1 (cond (r2 b c) 2 (cond (r3 b c) 3 (cond (r4 s
 pub record CycleAt (s : Shape) (h : Header) (prevFlags : ℕ) (prev rec : List ℕ) : Type 0 where
   pub low : 1 ≤ s .width
   pub high : s .width ≤ widthMost
+  pub user : s .user ≤ userMost
   pub header : h ≡ headerOf rec
   pub sound : fieldFault cycleFlags s rec ≡ false
   pub whole : length rec ≡ size s

@@ -11,6 +11,7 @@ use Rattle.stream_spec.specs.Layout as layout
 use Rattle.stream_spec.specs.Checks.{fieldFault, cycleFlags}
 use Rattle.stream_spec.specs.Handshake.{Finding, finding}
 use Rattle.stream_spec.specs.Walk.{recordAt}
+use Rattle.stream_spec.proofs.Passed.{passed-narrow}
 use Rattle.stream_spec.proofs.Size.{size-pos, size-holds}
 use Rattle.stream_spec.proofs.Walk.{record-fits, record-long}
 use Rattle.stream_judge.specs.Scan.{Looking, Behind}
@@ -68,15 +69,18 @@ Fits t s = Behind s (entry t .args .z) (octets t) (entry t .args .from) (entry t
 abbrev turn-of : tie.After-breaks Inv-loop μ-loop → Turn
 turn-of c = c .before .before
 
-fault-told : (c : tie.After-breaks Inv-loop μ-loop) (s : Shape) → Fits (turn-of c .before) s → (r : Bool) → c .breaks .result ≡ r
-    → fieldFault cycleFlags s (rec (turn-of c)) ≡ r
-fault-told c s b r e =
-    fault-is s (rec (turn-of c)) (entry (turn-of c .before) .args .z) (c .breaks .result) r (b .passed .high) (b .zeros) (c .breaks .ensures) e
+fault-told : (c : tie.After-breaks Inv-loop μ-loop) (s : Shape) → Fits (turn-of c .before) s → long (turn-of c .before) ≡ layout.size s → (r : Bool)
+    → c .breaks .result ≡ r → fieldFault cycleFlags s (rec (turn-of c)) ≡ r
+fault-told c s b z r e =
+    let t = turn-of c .before in
+    let whole = record-long s (octets t) (t .loop .at) (t .loop .inv s b z .left) (turn-of c .loop-test .taken) (long t) z in
+    fault-is s (rec (turn-of c)) (entry t .args .z) (c .breaks .result) r (passed-narrow s (octets t) (b .passed)) whole (b .zeros)
+    (c .breaks .ensures) e
 
 -- ---- the needs
 
 record-size-requires : tie.Need-record-size-requires Inv-loop μ-loop
-record-size-requires c κs = c .before .pre .passed .high
+record-size-requires c κs = passed-narrow (c .before .args .s) (c .before .args .capture .now) (c .before .pre .passed)
 
 loop-holds : tie.Need-loop-holds Inv-loop μ-loop
 loop-holds c =
@@ -106,7 +110,7 @@ returns c =
     let turn = c .before .before .before in
     let t = turn .before in
     looks-bad (shape t) (octets t) (entry t .args .from) (entry t .args .j) (t .loop .at) (t .loop .k) (found t) (looking t)
-    (turn .loop-test .taken) (long t) (t .before .record-size .ensures) (fault-told (c .before) (shape t) (entry t .pre) true (c .if1 .taken))
+    (turn .loop-test .taken) (long t) (t .before .record-size .ensures) (fault-told (c .before) (shape t) (entry t .pre) (t .before .record-size .ensures) true (c .if1 .taken))
 
 add-k : tie.Need-add-k Inv-loop μ-loop
 add-k c =
@@ -123,7 +127,7 @@ loop-again c =
     let turn = c .before .before .before in
     let t = turn .before in
     λ s b e. looks-on s (octets t) (entry t .args .from) (entry t .args .j) (t .loop .at) (t .loop .k) (found t) (t .loop .inv s b e)
-    (turn .loop-test .taken) (long t) e (fault-told (c .before) s b false (c .if1 .left))
+    (turn .loop-test .taken) (long t) e (fault-told (c .before) s b e false (c .if1 .left))
 
 returns-2 : tie.Need-returns-2 Inv-loop μ-loop
 returns-2 c =

@@ -8,9 +8,10 @@ use native.Mathlib.Omega.{arith}
 use lib.ListN.{length}
 use borrow.Author.Needs.{needs}
 use Rattle.stream_spec.specs.declared.Shape.{Shape}
-use Rattle.stream_spec.specs.Layout.{headOctets}
+use Rattle.stream_spec.specs.Layout.{headOctets, size as recordSize}
 use Rattle.stream_spec.specs.Checks.{captureMost, fieldFault, cycleFlags}
 use Rattle.stream_spec.specs.Walk.{recordAt}
+use Rattle.stream_spec.proofs.Passed.{passed-narrow}
 use Rattle.stream_spec.proofs.Size.{size-pos, size-holds}
 use Rattle.stream_spec.proofs.Walk.{record-fits, record-long}
 use Rattle.stream_judge.specs.Scan.{Turning}
@@ -52,11 +53,13 @@ fits c =
     let t = c .before in
     record-fits (shape t) (octets t) (t .loop .at) (t .loop .inv .left) (c .loop-test .taken) (long t) (t .before .before .record-size .ensures)
 
-header-fits : (c : Turn) → headOctets ≤ length (rec c)
-header-fits c =
+whole : (c : Turn) → length (rec c) ≡ recordSize (shape (c .before))
+whole c =
     let t = c .before in
-    let whole = record-long (shape t) (octets t) (t .loop .at) (t .loop .inv .left) (c .loop-test .taken) (long t) (t .before .before .record-size .ensures) in
-    omega (arith, whole, size-holds (shape t))
+    record-long (shape t) (octets t) (t .loop .at) (t .loop .inv .left) (c .loop-test .taken) (long t) (t .before .before .record-size .ensures)
+
+header-fits : (c : Turn) → headOctets ≤ length (rec c)
+header-fits c = omega (arith, whole c, size-holds (shape (c .before)))
 
 counts : (t : Turns) → t .loop .k ≤ captureMost
 counts t = omega (arith, t .loop .inv .few, t .loop .inv .left .within, entry t .pre .short)
@@ -66,8 +69,8 @@ fault-told : (c : tie.After-breaks Inv-loop μ-loop) (r : Bool) → c .breaks .r
     → fieldFault cycleFlags (shape (c .before .before .before)) (rec (c .before .before)) ≡ r
 fault-told c r e =
     let t = c .before .before .before in
-    fault-is (shape t) (rec (c .before .before)) (t .before .must-be-zero .result) (c .breaks .result) r (entry t .pre .high)
-    (t .before .must-be-zero .ensures) (c .breaks .ensures) e
+    fault-is (shape t) (rec (c .before .before)) (t .before .must-be-zero .result) (c .breaks .result) r
+    (passed-narrow (shape t) (octets t) (entry t .pre)) (whole (c .before .before)) (t .before .must-be-zero .ensures) (c .breaks .ensures) e
 
 -- a turn whose record is sound, from where its header is read
 abbrev sound-turn : tie.After-read-header Inv-loop μ-loop → Turn
@@ -79,10 +82,10 @@ sound c = fault-told (c .before .before .before) false (c .before .before .if1 .
 -- ---- the needs
 
 record-size-requires : tie.Need-record-size-requires Inv-loop μ-loop
-record-size-requires c κs = c .before .pre .high
+record-size-requires c κs = passed-narrow (c .before .args .s) (c .before .args .capture .now) (c .before .pre)
 
 must-be-zero-requires : tie.Need-must-be-zero-requires Inv-loop μ-loop
-must-be-zero-requires c κs = (c .before .before .pre .high, omega arith)
+must-be-zero-requires c κs = let e = c .before .before in (passed-narrow (e .args .s) (e .args .capture .now) (e .pre), omega arith)
 
 loop-holds : tie.Need-loop-holds Inv-loop μ-loop
 loop-holds c = let e = c .before .before .before in turning-start (e .args .s) (e .args .capture .now) (e .pre)
