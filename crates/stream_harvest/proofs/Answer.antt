@@ -15,14 +15,15 @@ use Rattle.stream_spec.specs.declared.Verdict.{Verdict}
 use Rattle.stream_spec.specs.declared.Verdict.the-variants.{Clean, Broken, Refused}
 use Rattle.stream_spec.specs.declared.Written.{Written}
 use Rattle.stream_spec.specs.declared.Written.the-variants.{Records, Refused as NotWritten}
-use Rattle.stream_spec.specs.Layout.{widthMost, size, records}
+use Rattle.stream_spec.specs.Layout.{size, records}
 use Rattle.refusal.specs.Checks.{Check, first}
 use Rattle.stream_spec.specs.Checks.{captureMost, roomCheck}
 use Rattle.stream_spec.specs.Handshake.{Finding, findings, firstFinding, transferCount, harvested}
 use Rattle.stream_spec.specs.Answers.{verdict, writtenValues, judgeChecks, judgeAnswer, uncleanCheck, harvestRefusal, harvestAnswer, harvestAfter, Harvested}
 use Rattle.stream_spec.specs.Memory.{inFront}
-use Rattle.stream_spec.specs.Walk.{Passed}
+use Rattle.stream_spec.specs.Walk.{Narrow, Passed}
 use Rattle.stream_spec.proofs.Harvest.{harvested-long, harvested-short}
+use Rattle.stream_spec.proofs.Passed.{passed-narrow}
 use Rattle.stream_spec.proofs.Clean.{clean-count, clean-passed}
 use Rattle.stream_harvest.specs.Filling.{TakeFits}
 
@@ -99,8 +100,8 @@ module _ (s : Shape) (xs : List ℕ) (v : Verdict) (judged : v ≡ judgeAnswer s
     counted : n ≡ transferCount s xs
     counted = clean-count s xs n sound
 
-    pub clean-width : s .width ≤ widthMost
-    clean-width = tests .high
+    pub clean-narrow : Narrow s
+    clean-narrow = passed-narrow s xs tests
 
     -- the code has the record's size in z
     module _ (z : ℕ) (q : z ≡ size s) where

@@ -61,7 +61,7 @@ module _ (s : Shape) (xs before out : List ℕ) (at to : ℕ) (h : Filling s xs 
       let all : lent ≡ drop to out = take-all (length out - to) (drop to out) (omega (arith, length-drop to out)) in
       record {
         low = omega (arith, long, size-least s (p .low));
-        high = omega (arith, long, size-most s (p .high));
+        high = omega (arith, long, size-most s (p .high) (p .user));
         room = rw all (omega (arith, room, length-drop to out));
       }
 

@@ -6,16 +6,15 @@ use mathlib.Core.List.{List, []}
 use Prim.Native.Nat.{ℕ, _+_, _≤_}
 use lib.ListN.{length, drop}
 use Rattle.stream_spec.specs.declared.Shape.{Shape}
-use Rattle.stream_spec.specs.Layout.{sizeLeast}
+use Rattle.stream_spec.specs.Layout.{sizeLeast, sizeMost}
 use Rattle.stream_spec.specs.Handshake.{transferred, asTransfer, harvested}
 use Rattle.stream_spec.specs.Memory.{inFront, Writing}
 use Rattle.stream_spec.specs.Walk.{Passed, Left}
-use Rattle.stream_judge.specs.Scan.{groupedMost}
 
 -- a record whose octets find room at the front of `out`
 pub record RecordFits (rec out : List ℕ) : Type 0 where
   pub low : sizeLeast ≤ length rec
-  pub high : length rec ≤ groupedMost
+  pub high : length rec ≤ sizeMost
   pub room : length rec ≤ length out
 
 -- the octets that a cycle adds: a transfer record, or none
@@ -25,7 +24,7 @@ added c = cond (transferred c) (asTransfer c) []
 -- a cycle whose octets find room
 pub record CycleFits (c out : List ℕ) : Type 0 where
   pub low : sizeLeast ≤ length c
-  pub high : length c ≤ groupedMost
+  pub high : length c ≤ sizeMost
   pub room : length (added c) ≤ length out
 
 -- its octets stand at the front, and n counts them

@@ -9,7 +9,7 @@ use lib.ListN.{length, take, drop}
 use Rattle.refusal.specs.Checks.{first}
 use Rattle.stream_spec.specs.declared.Shape.{Shape}
 use Rattle.stream_spec.specs.declared.Verdict.{Verdict}
-use Rattle.stream_spec.specs.Layout.{bit, tvalidBit, treadyBit, aresetnBit, flags, widthMost, userMost, size, sizeLeast, records}
+use Rattle.stream_spec.specs.Layout.{bit, tvalidBit, treadyBit, aresetnBit, flags, widthMost, userMost, size, sizeLeast, sizeMost, records}
 use Rattle.stream_spec.specs.Checks.{fieldFault, cycleFlags, cycleChecks}
 use Rattle.stream_spec.specs.Handshake.{r1, r2, r3, r4, handshakes, Finding, findings}
 use Rattle.stream_spec.specs.Answers.{verdict}
@@ -21,16 +21,11 @@ use Rattle.stream_head.specs.Zeros.{zerosOf}
 
 -- ---- one cycle
 
--- Two records are compared here, and one is copied in stream_harvest, in groups of octets, proved for records of up to so
--- many octets. A record has at most `sizeMost`, which is less: records with user bits fit as well.
-abbrev pub groupedMost : ℕ
-groupedMost = 31
-
 -- two records that can be compared: of one length, and neither too short nor too long
 pub record Alike (prev rec : List ℕ) : Type 0 where
   pub long : length prev ≡ length rec
   pub low : sizeLeast ≤ length rec
-  pub high : length rec ≤ groupedMost
+  pub high : length rec ≤ sizeMost
 
 -- whether a cycle with these flags waits, and whether it is a transfer
 abbrev pub waitsBy : ℕ → Bool

@@ -1,5 +1,6 @@
 -- `stream_data::data_start` meets its contract: the data starts behind the header of record k. Assumes nothing.
 use native.Mathlib.Omega.{arith}
+use Rattle.stream_spec.proofs.Passed.{passed-narrow}
 use Rattle.stream_spec.proofs.Promises.{data-there}
 use Rattle.stream_data.proofs.DataPart.{found-there, no-start, part-within, start-present}
 use borrow.Author.Needs.{needs}
@@ -26,7 +27,8 @@ record-size-requires : tie.Need-record-size-requires
 record-size-requires c κs =
     let a = c .before .before .before .before .args in
     let found = c .before .before .find-data in
-    data-there (a .s) (a .capture .now) (a .k) (found-there (a .s) (a .capture .now) (a .k) (found .result) (c .enum-told .given .1) (found .ensures)) .0 .high
+    passed-narrow (a .s) (a .capture .now)
+    (data-there (a .s) (a .capture .now) (a .k) (found-there (a .s) (a .capture .now) (a .k) (found .result) (c .enum-told .given .1) (found .ensures)) .0)
 
 mul-result : tie.Need-mul-result
 mul-result c =

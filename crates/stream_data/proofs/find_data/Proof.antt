@@ -1,4 +1,5 @@
 -- `stream_data::find_data` meets its contract: the tests in front, then INDEX. Assumes nothing.
+use Rattle.stream_spec.proofs.Passed.{passed-narrow}
 use Rattle.stream_spec.proofs.Size.{size-pos}
 use Rattle.stream_record.proofs.Tests.{take-passed}
 use Rattle.stream_data.proofs.DataPart.{looked-refused, looked-index, looked-present}
@@ -19,7 +20,7 @@ record-size-requires : tie.Need-record-size-requires
 record-size-requires c κs =
     let a = c .before .before .before .before .args in
     let take = c .before .before .check-take in
-    take-passed (take .result) (c .enum-told .given .1) (a .s) (a .capture .now) (take .ensures) .high
+    passed-narrow (a .s) (a .capture .now) (take-passed (take .result) (c .enum-told .given .1) (a .s) (a .capture .now) (take .ensures))
 
 div-if1 : tie.Need-div-if1
 div-if1 c = rw (c .record-size .ensures) (size-pos (c .before .before .before .before .before .args .s))

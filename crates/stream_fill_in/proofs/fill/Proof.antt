@@ -6,6 +6,7 @@ use native.Mathlib.Omega.{arith}
 use lib.ListN.{length, drop, length-drop}
 use lib.Seq.{length-take-le}
 use Rattle.stream_spec.specs.Checks.{captureMost}
+use Rattle.stream_spec.proofs.Passed.{passed-narrow}
 use Rattle.stream_spec.proofs.Size.{size-pos}
 use Rattle.stream_fill_in.specs.Filling.{Filling}
 use Rattle.stream_fill_in.proofs.Laws.{filling-start, fits, filling-more, filling-end}
@@ -61,7 +62,9 @@ put-last-requires c κs =
     omega (arith, c .before .loop-test .taken, rest, length-take-le (length (l .capture) - l .at) (drop (l .at) (l .capture)) (omega (arith, rest)))
 
 record-size-requires : tie.Need-record-size-requires Inv-loop μ-loop
-record-size-requires c κs = let turn = c .before .before .before .before in entry (turn .before) .pre .high
+record-size-requires c κs =
+    let e = entry (c .before .before .before .before .before) in
+    passed-narrow (e .args .s) (e .args .capture .now) (e .pre)
 
 add-at : tie.Need-add-at Inv-loop μ-loop
 add-at c = omega (arith, record-fits c, short (turn c .before))

@@ -6,7 +6,7 @@ use native.Mathlib.Omega.{arith}
 use borrow.Author.Needs.{needs}
 use Rattle.stream_spec.specs.declared.Shape.{Shape}
 use Rattle.stream_spec.specs.declared.Verdict.the-variants.{Clean}
-use Rattle.stream_harvest.proofs.Answer.{harvest-refused, harvest-broken, clean-width, clean-short, harvest-room, harvest-fits, harvest-written}
+use Rattle.stream_harvest.proofs.Answer.{harvest-refused, harvest-broken, clean-narrow, clean-short, harvest-room, harvest-fits, harvest-written}
 use Rattle.stream_harvest.proofs.harvest.Statement.{statement}
 use Rattle.stream_harvest.proofs.harvest.Tie as tie
 
@@ -47,7 +47,7 @@ enum-known-verdict-3 c = search needs
 record-size-requires : tie.Need-record-size-requires
 record-size-requires c κs =
     let j = judged c in
-    clean-width (shape j) (octets j) (j .judge .result) (j .judge .ensures .is) (count c) (clean c)
+    clean-narrow (shape j) (octets j) (j .judge .result) (j .judge .ensures .is) (count c) (clean c)
 
 mul-if1 : tie.Need-mul-if1
 mul-if1 c =

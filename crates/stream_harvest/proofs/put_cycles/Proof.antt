@@ -8,6 +8,7 @@ use native.Mathlib.Omega.{arith}
 use lib.ListN.{length}
 use Rattle.stream_spec.specs.declared.Shape.{Shape}
 use Rattle.stream_spec.specs.Layout.{size as sizeOf}
+use Rattle.stream_spec.proofs.Passed.{passed-narrow}
 use Rattle.stream_spec.proofs.Size.{size-pos}
 use Rattle.stream_spec.proofs.Walk.{record-fits}
 use Rattle.stream_harvest.specs.Filling.{Filling}
@@ -59,7 +60,9 @@ turn c = c .before .before .before .before .before
 -- ---- the needs
 
 record-size-requires : tie.Need-record-size-requires Inv-loop μ-loop
-record-size-requires c κs = c .before .before .pre .passed .high
+record-size-requires c κs =
+    let e = c .before .before in
+    passed-narrow (e .args .s) (e .args .capture .now) (e .pre .passed)
 
 loop-holds : tie.Need-loop-holds Inv-loop μ-loop
 loop-holds c =
