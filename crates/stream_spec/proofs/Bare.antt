@@ -43,8 +43,8 @@ pub bare-octets : (ls : List (Option Kept)) → laneOctets 0 ls ≡ map laneOcte
 bare-octets ls =
     ap (λ (k : ℕ). map laneOctet ls ++ octetsOfWord k (usersOf 0 ls)) (no-users (length ls)) ∙ append-nil (map laneOctet ls)
 
-pub withoutUserBits : WithoutUserBits
-withoutUserBits w =
+pub without-user-bits : WithoutUserBits
+without-user-bits w =
     record {
       size = size-bare w;
       field = λ used r. bare-field used w r;

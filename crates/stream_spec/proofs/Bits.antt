@@ -2,11 +2,13 @@
 use mathlib.Core.Path.{_≡_, refl, sym, ap, _∙_}
 use mathlib.Core.Bool.{Bool, true, false}
 use mathlib.Core.List.{List, [], _∷_}
-use Prim.Native.Nat.{ℕ, suc, _+_, _*_, _/_, _%_, _^_, _≤_, _<_}
-use native.Mathlib.Nat.{div-one, div-div-eq-div-mul, mul-comm, pow-suc}
+use Prim.Native.Nat.{ℕ, zero, suc, _+_, _*_, _/_, _%_, _^_, _≤_, _<_}
+use native.Mathlib.Nat.{div-one, div-div-eq-div-mul, mul-comm, mul-assoc, pow-suc, zero-div}
 use native.Mathlib.Omega.{arith}
 use borrow.Author.Tests.{eq-eqb, ne-eqb, eqb-true, eqb-false}
+use lib.Dec.{eqb}
 use lib.ListN.{length}
+use lib.Pow.{shr-shr}
 use Rattle.stream_spec.specs.Layout.{bit, odd, bitOf, maskOf, octetValues}
 
 -- ---- one bit
@@ -44,6 +46,30 @@ number-back n h = odd-number n ∙ omega arith
 pub bit-one : (b : Bool) → bitOf b ≤ 1
 bit-one true = omega arith
 bit-one false = omega arith
+
+-- ---- numbers in parts
+
+twice : (k n : ℕ) → 2 ^ suc k * n ≡ 2 * (2 ^ k * n)
+twice k n = rw (pow-suc 2 k, mul-comm (2 ^ k) 2) (mul-assoc 2 (2 ^ k) n)
+
+-- what is added from bit k on changes no bit below it
+pub bit-below : (k o n x : ℕ) → x < k → bit x (o + 2 ^ k * n) ≡ bit x o
+bit-below zero o n x l = absurd (omega arith)
+bit-below (suc k) o n zero l =
+    let same : (o + 2 ^ suc k * n) % 2 ≡ o % 2 = omega (arith, twice k n) in
+    bit-zero (o + 2 ^ suc k * n) ∙ ap (λ (m : ℕ). eqb m 1) same ∙ sym (bit-zero o)
+bit-below (suc k) o n (suc x) l =
+    let half : (o + 2 ^ suc k * n) / 2 ≡ o / 2 + 2 ^ k * n = omega (arith, twice k n) in
+    bit-suc x (o + 2 ^ suc k * n) ∙ ap (bit x) half ∙ bit-below k (o / 2) n x (omega arith) ∙ sym (bit-suc x o)
+
+-- the bits from 8 on are those of the octets behind
+pub bit-above : (o n y : ℕ) → o < 256 → bit (8 + y) (o + 256 * n) ≡ bit y n
+bit-above o n y small =
+    let whole : (o + 256 * n) / 256 ≡ n = omega arith in
+    ap (λ (m : ℕ). eqb (m % 2) 1) (sym (shr-shr (o + 256 * n) 8 y) ∙ ap (λ (m : ℕ). m / 2 ^ y) whole)
+
+pub no-bit : (x : ℕ) → bit x 0 ≡ false
+no-bit x = ap (λ (m : ℕ). eqb (m % 2) 1) (zero-div (2 ^ x))
 
 -- ---- masks
 

@@ -117,7 +117,7 @@ pub legal-sound : (s : Shape) (xs : List ℕ) → Legal s xs → Sound (s .user)
 legal-sound s xs l =
     records-sound s (records s xs) (pieces-octets (recordCount s xs) (size s) xs (l .octets)) (faultless-of s 0 (records s xs) (l .faultless))
 
-typesOf-length : (w k t : ℕ) → length (typesOf w k t) ≡ w
+pub typesOf-length : (w k t : ℕ) → length (typesOf w k t) ≡ w
 typesOf-length zero k t = refl
 typesOf-length (suc w) k t = ap suc (typesOf-length w (k / 2) (t / 2))
 

@@ -14,6 +14,7 @@ pub mod Fields
 pub mod Records
 pub mod RecordChecks
 pub mod Legal
+pub mod UserBits
 pub mod Passed
 pub mod Repack
 pub mod Walk

@@ -2,8 +2,8 @@
 use mathlib.Core.Path.{_≡_, refl, sym, ap, ap₂, _∙_}
 use mathlib.Core.Logic.{inl, inr, ⊎-elim}
 use mathlib.Core.Bool.{Bool, true, false, not, _||_, or-true}
-use mathlib.Core.List.{List, [], _∷_}
-use borrow.Author.Tests.{eqb-true, eqb-false, eq-eqb, ne-eqb, ltb-true, lt-ltb, leb-false, not-true}
+use mathlib.Core.List.{List, [], _∷_, map}
+use borrow.Author.Tests.{eqb-true, eqb-false, eq-eqb, ne-eqb, ltb-true, lt-ltb, leb-true, leb-false, le-leb, not-true}
 use lib.Dec.{eqb, ltb}
 use Prim.Native.Nat.{ℕ, zero, suc, _+_, _-_, _*_, _/_, _%_, _^_, _≤_, _<_}
 use lib.Pow.{pow-pos, pow-mono, shr-shr}
@@ -15,20 +15,23 @@ use Rattle.stream_spec.specs.declared.Shape.{Shape}
 use Rattle.stream_spec.specs.declared.Verdict.the-variants.{Clean}
 use Rattle.stream_spec.specs.Items.{Item, Transfer, items}
 use Rattle.stream_spec.specs.Packed.{pack, sliceTransfer, slices}
-use Rattle.stream_spec.specs.Layout.{bit, odd, size, tvalid, aresetn, tkeep, tstrb, shaped, atWidth, nullLane, laneType, typesOf, Kept, dataOctets, recordCount, records, transferOf, transfers, octets, streamItems, packed, slicedTransfers}
+use Rattle.stream_spec.specs.Layout.{bit, odd, size, tvalid, aresetn, tkeep, tstrb, shaped, atWidth, nullLane, laneType, typesOf, Kept, dataOctets, userNumber, octetsOf, recordCount, records, transferOf, transfers, octets, streamItems, packedTransfers, packed, slicedTransfers}
 use Rattle.stream_spec.specs.Checks.{takeChecks, indexCheck}
 use Rattle.stream_spec.specs.Handshake.{wasReset}
 use Rattle.stream_spec.specs.Walk.{Passed}
 use Rattle.stream_spec.specs.Answers.{judgeAnswer, dataRefusal, dataPart}
-use Rattle.stream_spec.specs.Promises.{SetAbove, cycleBefore, FieldBits, DataHandedOut, WidthExactly, LengthExactly, ByteTypes, RepackingKeeps, PackedLegal, PackedLength, PackedFull, PackedOnly, Holds, Joins, Canonical, LaneKeeping, Findings, ResetQuiet, HarvestLegal, HarvestRepacks, FilledHarvest, JudgedAlike, EachItsPacket}
+use Rattle.stream_spec.specs.Promises.{SetAbove, cycleBefore, FieldBits, UserExactly, WithoutUserBits, LaneUserBits, PaddingExactly, NullsZero, NullLanesZero, DataHandedOut, WidthExactly, LengthExactly, ByteTypes, RepackingKeeps, PackedLegal, PackedLength, PackedFull, PackedOnly, Holds, Joins, Canonical, LaneKeeping, Findings, ResetQuiet, HarvestLegal, HarvestRepacks, FilledHarvest, JudgedAlike, EachItsPacket}
 use Rattle.stream_spec.proofs.Bits.{bit-zero, bit-suc}
 use Rattle.stream_spec.proofs.Size.{data-long}
 use Rattle.stream_spec.proofs.Bools.{or-split, not-left}
 use Rattle.refusal.proofs.First.{first-none, append-none}
 use Rattle.stream_spec.proofs.Passed.{checks-passed}
-use Rattle.stream_spec.proofs.Pack.{pack-parted, length-spread, items-slices, wide-slices}
+use Rattle.stream_spec.proofs.Pack.{Wide, pack-parted, length-spread, items-slices, wide-pack, wide-slices}
 use Rattle.stream_spec.proofs.Hold.{hold}
-use Rattle.stream_spec.proofs.Records.{packed-items, length-packed, transfers-back, sliced-tagged}
+use Rattle.stream_spec.proofs.Records.{octets-sized, records-joined, packed-items, length-packed, transfers-back, packed-tagged, sliced-tagged}
+use Rattle.stream_spec.proofs.Users.{Tagged}
+use Rattle.stream_spec.proofs.Bare.{without-user-bits}
+use Rattle.stream_spec.proofs.UserBits.{lane-reads, padding-set, set-padding, transfers-nulls}
 use Rattle.stream_spec.proofs.Legal.{packed-legal, sliced-legal, wide-transfers}
 use Rattle.stream_spec.proofs.Full.{packed-full}
 use Rattle.stream_spec.proofs.Only.{packed-only}
@@ -53,6 +56,9 @@ lengthExactly s xs =
       (λ e. ⊎-elim (λ h. inl (ltb-true 65536 (length xs) h)) (λ h. inr (eqb-false (length xs % size s) 0 (not-true whole h))) (or-split over (not whole) e)),
       ⊎-elim (λ h. rw (lt-ltb 65536 (length xs) h) refl) (λ h. rw (ne-eqb (length xs % size s) 0 h) (or-true over)),
     )
+
+pub userExactly : UserExactly
+userExactly s = ((λ e. ltb-true 4 (s .user) e), (λ h. lt-ltb 4 (s .user) h))
 
 -- ---- byte types
 
@@ -85,6 +91,30 @@ fieldBits n m = (found, bounded)
         let one : m / 2 ^ s .place % 2 ≡ 1 = eqb-true (m / 2 ^ s .place % 2) 1 (s .high) in
         let up : 1 ≤ m / 2 ^ s .place = omega (arith, mod-le (m / 2 ^ s .place) 2) in
         le-trans (pow-mono (s .above)) (rw (one-mul (2 ^ s .place)) at (le-div-iff-mul-le (pow-pos (s .place)) .0 up))
+
+-- ---- user bits
+
+pub withoutUserBits : WithoutUserBits
+withoutUserBits = without-user-bits
+
+pub laneUserBits : LaneUserBits
+laneUserBits = lane-reads
+
+pub paddingExactly : PaddingExactly
+paddingExactly s r o =
+    let limit = s .width * s .user in (
+      (λ e. padding-set s r o (fieldBits limit (userNumber s r) .0 (leb-true (2 ^ limit) (userNumber s r) e))),
+      (λ p. le-leb (2 ^ limit) (userNumber s r) (fieldBits limit (userNumber s r) .1 (set-padding s r o p))),
+    )
+
+nulls-of : (s : Shape) (ts : List (Transfer Kept)) → Wide (s .width) ts → Tagged (s .user) ts → NullsZero s (records s (octets (s .user) ts))
+nulls-of s ts h k = rw (records-joined s (map (octetsOf (s .user)) ts) (octets-sized s ts h)) (transfers-nulls s ts h k)
+
+pub nullLanesZero : NullLanesZero
+nullLanesZero s v xs = (
+  nulls-of (atWidth s v) (packedTransfers s v xs) (wide-pack v (streamItems s xs)) (packed-tagged s v xs),
+  nulls-of (atWidth s v) (slicedTransfers s v xs) (wide-slices (s .width) v (transfers s xs)) (sliced-tagged s v xs),
+)
 
 types-at : (w x k t : ℕ) → x < w → getD (typesOf w k t) x nullLane ≡ laneType (bit x k) (bit x t)
 types-at zero x k t h = absurd (omega arith)

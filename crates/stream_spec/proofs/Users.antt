@@ -73,7 +73,7 @@ transfers-tagged s (r ∷ rs) =
 -- ---- lanes whose bits fit, as one number
 
 -- lane 0's bits, and those of the others
-lane-first : (m : ℕ) (l : Option Kept) (ls : List (Option Kept)) → LanesTagged m (l ∷ ls) → (laneUser l < 2 ^ m) × LanesTagged m ls
+pub lane-first : (m : ℕ) (l : Option Kept) (ls : List (Option Kept)) → LanesTagged m (l ∷ ls) → (laneUser l < 2 ^ m) × LanesTagged m ls
 lane-first m none ls h = (pow-pos m, h)
 lane-first m (some (octet d u)) ls h = (h .0, h .1)
 lane-first m (some (position u)) ls h = (h .0, h .1)

@@ -14,8 +14,8 @@ use Rattle.stream_spec.specs.declared.Shape.{Shape}
 use Rattle.stream_spec.specs.declared.Verdict.the-variants.{Clean}
 use Rattle.stream_spec.specs.Items.{samePair, Transfer, Item, kept, items}
 use Rattle.stream_spec.specs.Packed.{fitted, pack, settled, held, parted}
-use Rattle.stream_spec.specs.Layout.{bit, bitOf, widthMost, tlast, tvalid, aresetn, tkeep, tstrb, size, ofWidth, atWidth, LaneType, nullLane, laneType, laneTypes, laneOf, Kept, keepBit, strbBit, laneOctet, maskOctets, transferOf, octetsOf, records, joined, streamItems, packedTransfers, packed, slicedTransfers, sliced}
-use Rattle.stream_spec.specs.Checks.{widthCheck, userCheck, lengthCheck, fieldFault}
+use Rattle.stream_spec.specs.Layout.{bit, bitOf, widthMost, userOctets, userNumber, dataOctets, tlast, tvalid, aresetn, tkeep, tstrb, size, ofWidth, atWidth, LaneType, dataLane, nullLane, laneType, laneTypes, laneOf, Kept, keepBit, strbBit, laneOctet, maskOctets, transferOf, octetsOf, records, joined, streamItems, packedTransfers, packed, slicedTransfers, sliced}
+use Rattle.stream_spec.specs.Checks.{widthCheck, userCheck, lengthCheck, userFault, fieldFault}
 use Rattle.stream_spec.specs.Handshake.{r1, r2, r3, r4, Finding, firstFinding, handshakes, harvested, filledIn, asFilled}
 use Rattle.stream_spec.specs.Answers.{judgeAnswer, fillAfter, repackRefusal, harvestRefusal, dataRefusal, dataPart}
 use Rattle.stream_spec.specs.Legal.{Octets, Legal}
@@ -74,6 +74,44 @@ pub record AsBefore (w : ℕ) : Type 0 where
 
 abbrev pub WithoutUserBits : Type 0
 WithoutUserBits = (w : ℕ) → AsBefore w
+
+-- the user bits of lane x
+abbrev pub laneBits : Shape → List ℕ → ℕ → ℕ
+laneBits s r x = userNumber s r / 2 ^ (x * s .user) % 2 ^ s .user
+
+-- "holding the bits of lane x from bit x*m, low octet first": bit j of lane x is bit (x*m + j) mod 8 of octet 7 + w + (x*m + j)/8,
+-- and with its type and its data octet these bits are what the lane carries, whatever the other lanes are.
+pub record LaneReads (s : Shape) (r : List ℕ) (x : ℕ) : Type 0 where
+  pub few : laneBits s r x < 2 ^ s .user
+  pub bits :
+      (j : ℕ) → j < s .user
+      → bit j (laneBits s r x) ≡ bit ((x * s .user + j) % 8) (getD r (7 + s .width + (x * s .user + j) / 8) 0)
+  pub carries :
+      getD (transferOf s r .lanes) x none ≡ laneOf (getD (laneTypes s r) x nullLane) (getD (dataOctets s r) x 0) (laneBits s r x)
+
+abbrev pub LaneUserBits : Type 0
+LaneUserBits = (s : Shape) (r : List ℕ) (x : ℕ) → Octets r → x < s .width → LaneReads s r x
+
+-- "FIELD covers the padding": a bit above those of the lanes is set in the octets of the user bits, and no other bit counts.
+pub record PaddingSet (s : Shape) (r : List ℕ) : Type 0 where
+  pub place : ℕ
+  pub above : s .width * s .user ≤ place
+  pub within : place < 8 * userOctets (s .width) (s .user)
+  pub high : bit (place % 8) (getD r (7 + s .width + place / 8) 0) ≡ true
+
+abbrev pub PaddingExactly : Type 0
+PaddingExactly = (s : Shape) (r : List ℕ) → Octets r → (userFault s r ≡ true) ↔ PaddingSet s r
+
+-- "null lanes get zero bits", in each record that packing and slicing write
+abbrev pub NullsZero : Shape → List (List ℕ) → Type 0
+NullsZero s rs =
+    (k x : ℕ) → k < length rs → x < s .width → getD (laneTypes s (getD rs k [])) x dataLane ≡ nullLane
+    → laneBits s (getD rs k []) x ≡ 0
+
+abbrev pub NullLanesZero : Type 0
+NullLanesZero =
+    (s : Shape) (v : ℕ) (xs : List ℕ)
+    → NullsZero (atWidth s v) (records (atWidth s v) (packed s v xs)) × NullsZero (atWidth s v) (records (atWidth s v) (sliced s v xs))
 
 -- ---- byte types
 

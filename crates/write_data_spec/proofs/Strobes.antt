@@ -4,17 +4,15 @@ use mathlib.Core.Bool.{Bool, true, false, not, _&&_, and-false, or-true}
 use mathlib.Core.List.{List, [], _∷_}
 use mathlib.Core.Logic.{_⊎_, inl, inr}
 use mathlib.Core.Path.{_≡_, refl, sym, ap, ap₂, _∙_}
-use Prim.Native.Nat.{ℕ, zero, suc, _+_, _-_, _*_, _/_, _%_, _^_, _<_}
+use Prim.Native.Nat.{ℕ, suc, _+_, _-_, _*_, _/_, _%_, _<_}
 use native.Mathlib.Decide.{decLt}
-use native.Mathlib.Nat.{mul-comm, mul-assoc, pow-suc, zero-div}
 use native.Mathlib.Omega.{arith}
-use lib.Dec.{leb, ltb, eqb}
+use lib.Dec.{leb, ltb}
 use lib.ListN.{getD}
-use lib.Pow.{shr-shr}
 use borrow.Author.Tests.{ltb-true, leb-true, leb-false, lt-ltb, lt-leb, le-leb, not-true}
 use Rattle.stream_spec.specs.Layout.{bit}
 use Rattle.stream_spec.specs.Legal.{Octets}
-use Rattle.stream_spec.proofs.Bits.{bit-zero, bit-suc}
+use Rattle.stream_spec.proofs.Bits.{bit-below, bit-above, no-bit}
 use Rattle.stream_spec.proofs.Bools.{no-such, and-left, and-right, or-split}
 use Rattle.burst_spec.specs.declared.Burst.{Burst}
 use Rattle.burst_spec.specs.Address.{beats, beatOf}
@@ -27,28 +25,6 @@ use Rattle.write_data_spec.specs.Promises.{lowFirst, StrobeBits, Stray, 
 use Rattle.write_data_spec.proofs.Sums.{some-at}
 
 -- ---- WSTRB as one number
-
-twice : (k n : ℕ) → 2 ^ suc k * n ≡ 2 * (2 ^ k * n)
-twice k n = rw (pow-suc 2 k, mul-comm (2 ^ k) 2) (mul-assoc 2 (2 ^ k) n)
-
--- what is added from bit k on changes no bit below it
-bit-below : (k o n x : ℕ) → x < k → bit x (o + 2 ^ k * n) ≡ bit x o
-bit-below zero o n x l = absurd (omega arith)
-bit-below (suc k) o n zero l =
-    let same : (o + 2 ^ suc k * n) % 2 ≡ o % 2 = omega (arith, twice k n) in
-    bit-zero (o + 2 ^ suc k * n) ∙ ap (λ (m : ℕ). eqb m 1) same ∙ sym (bit-zero o)
-bit-below (suc k) o n (suc x) l =
-    let half : (o + 2 ^ suc k * n) / 2 ≡ o / 2 + 2 ^ k * n = omega (arith, twice k n) in
-    bit-suc x (o + 2 ^ suc k * n) ∙ ap (bit x) half ∙ bit-below k (o / 2) n x (omega arith) ∙ sym (bit-suc x o)
-
--- the bits from 8 on are those of the octets behind
-bit-above : (o n y : ℕ) → o < 256 → bit (8 + y) (o + 256 * n) ≡ bit y n
-bit-above o n y small =
-    let whole : (o + 256 * n) / 256 ≡ n = omega arith in
-    ap (λ (m : ℕ). eqb (m % 2) 1) (sym (shr-shr (o + 256 * n) 8 y) ∙ ap (λ (m : ℕ). m / 2 ^ y) whole)
-
-no-bit : (x : ℕ) → bit x 0 ≡ false
-no-bit x = ap (λ (m : ℕ). eqb (m % 2) 1) (zero-div (2 ^ x))
 
 octet-bits : (os : List ℕ) → Octets os → (x : ℕ) → bit (x % 8) (getD os (x / 8) 0) ≡ bit x (lowFirst os)
 octet-bits [] h x = no-bit (x % 8) ∙ sym (no-bit x)
