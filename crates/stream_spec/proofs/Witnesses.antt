@@ -12,18 +12,18 @@ use lib.ListN.{length, getD}
 use Rattle.refusal.specs.declared.Refusal.the-variants.{Room, Index}
 use Rattle.stream_spec.specs.declared.Verdict.the-variants.{Clean}
 use Rattle.stream_spec.specs.Packed.{pack}
-use Rattle.stream_spec.specs.Layout.{size, dataLane, nullLane, laneTypes, records, streamItems, packedTransfers, packed, slicedTransfers}
-use Rattle.stream_spec.specs.Checks.{widthCheck}
+use Rattle.stream_spec.specs.Layout.{bit, size, shaped, position, transferOf, dataLane, nullLane, laneTypes, records, streamItems, packedTransfers, packed, slicedTransfers}
+use Rattle.stream_spec.specs.Checks.{widthCheck, userFault}
 use Rattle.stream_spec.specs.Handshake.{low, high, harvested, filledIn}
 use Rattle.stream_spec.specs.Answers.{judgeAnswer, fillAfter, repackRefusal, repackAnswer, repackAfter, dataPart}
-use Rattle.stream_spec.specs.Legal.{Legal}
-use Rattle.stream_spec.specs.Promises.{Width, SetAbove, Packs, breaks, IsEarliest, Quiet}
+use Rattle.stream_spec.specs.Legal.{Octets, Legal}
+use Rattle.stream_spec.specs.Promises.{Width, SetAbove, laneBits, PaddingSet, Packs, breaks, IsEarliest, Quiet}
 use Rattle.stream_spec.specs.Demand3.{acceptedAt, next, afterCalls, whole}
-use Rattle.stream_spec.specs.Tables.{lanes, stream, isLegal}
-use Rattle.stream_spec.specs.Cases.{p1}
-use Rattle.stream_spec.specs.Witnesses.{first, firstItems, atOne, atFour, atSixteen, endless, endlessItems, lends, refusedCalls, mixedCalls, someParts, someNumbers, someJoined, packedOnes, onesBytes, onesEnds, onesItems, p1Slices, p1Items, p1Packed, wide, brokenTake, cleanTake, resetTake, earlyTake, loudTake, harvest, harvestLow, harvestHigh, lastOnes, lastTwos}
+use Rattle.stream_spec.specs.Tables.{lanes, stream, tagged, isLegal}
+use Rattle.stream_spec.specs.Cases.{p1, straddled}
+use Rattle.stream_spec.specs.Witnesses.{first, firstItems, atOne, atFour, atSixteen, endless, endlessItems, lends, refusedCalls, mixedCalls, someParts, someNumbers, someJoined, packedOnes, onesBytes, onesEnds, onesItems, p1Slices, p1Items, p1Packed, wide, brokenTake, cleanTake, resetTake, earlyTake, loudTake, harvest, harvestLow, harvestHigh, lastOnes, lastTwos, tags, tagsItems, tagsAtOne, tagsAtTwo, tagsSlices, tagsCalls, padded, twoTags, tagsTake, tagsHarvest}
 use Rattle.stream_spec.proofs.Bools.{no-such}
-use Rattle.stream_spec.proofs.Promises.{fieldBits, byteTypes, dataHandedOut, repackingKeeps, packedLegal, packedFull, packedOnly, holds, joins, canonical, laneKeeping, findings, resetQuiet, harvestLegal, harvestRepacks, filledHarvest, judgedAlike, eachItsPacket}
+use Rattle.stream_spec.proofs.Promises.{fieldBits, userExactly, laneUserBits, paddingExactly, nullLanesZero, byteTypes, dataHandedOut, repackingKeeps, packedLegal, packedFull, packedOnly, holds, joins, canonical, laneKeeping, findings, resetQuiet, harvestLegal, harvestRepacks, filledHarvest, judgedAlike, eachItsPacket}
 use Rattle.stream_spec.proofs.Demand3.{calls, parts}
 use Rattle.stream_spec.proofs.Tables.{widthTested, octets-tested, legalTested, dividesTested}
 
@@ -200,3 +200,67 @@ judged-alike = judgedAlike high low (lanes 1) cleanTake
 pub own-packets : packed (lanes 1) 2 lastOnes ≡ lastTwos
 unfolding size
 own-packets = eachItsPacket (lanes 1) 2 lastOnes (refl, (refl, tt))
+
+-- ---- user bits (T-06)
+
+octets-straddled : Octets straddled
+octets-straddled = octets-tested straddled .1 refl
+
+legal-tags : Legal (tags .shape) (tags .octets)
+unfolding size
+legal-tags = legalTested (shaped 3 3) straddled .1 refl
+
+-- 5 is above 4
+pub five-refused : 4 < 5
+five-refused = userExactly (shaped 1 5) .0 refl
+
+-- lane 2's three bits are bits 6 and 7 of octet 10 and bit 0 of octet 11; the lane is a position item with 6
+pub lane-two : (getD (transferOf (shaped 3 3) straddled .lanes) 2 none ≡ some (position 6)) × (bit 2 6 ≡ bit 0 0x01) × (bit 0 6 ≡ bit 6 0xBD)
+lane-two = let l = laneUserBits (shaped 3 3) straddled 2 octets-straddled (lit< tt) in (l .carries, l .bits 2 (lit< tt), l .bits 0 (lit< tt))
+
+-- bit 9 is the lowest of the padding, and it is found both ways
+pub padding-nine : PaddingSet (shaped 3 3) padded × (userFault (shaped 3 3) padded ≡ true)
+padding-nine =
+    let o = octets-tested padded .1 refl in (
+      paddingExactly (shaped 3 3) padded o .0 refl,
+      paddingExactly (shaped 3 3) padded o .1 (record { place = 9; above = lit≤ tt; within = lit< tt; high = refl }),
+    )
+
+-- the null lane of the second slice has no bits, though 7 was sampled there
+pub null-slice : (laneBits (shaped 3 3) straddled 1 ≡ 7) × (laneBits (shaped 1 3) (getD (records (shaped 1 3) tagsSlices) 1 []) 0 ≡ 0)
+unfolding size
+null-slice = (refl, nullLanesZero (shaped 3 3) 1 straddled .1 1 0 (lit< tt) (lit< tt) refl)
+
+-- the items keep their bits, in the packed form and in slices
+pub tags-kept : streamItems (shaped 2 3) tagsAtTwo ≡ tagsItems
+unfolding size
+tags-kept = repackingKeeps (shaped 3 3) 2 straddled (width 2 refl)
+
+pub tags-sliced : (streamItems (shaped 1 3) tagsSlices ≡ tagsItems) × Legal (shaped 1 3) tagsSlices × (packed (shaped 1 3) 2 tagsSlices ≡ tagsAtTwo)
+unfolding size
+tags-sliced = let k = laneKeeping (shaped 3 3) 1 straddled (width 1 refl) refl legal-tags in (k .same, k .legal, k .packs 2)
+
+-- demand 3 with one m in all the calls
+pub tags-stand : afterCalls tags tagsCalls ≡ tagged 2 3 tagsAtTwo
+unfolding size repackAnswer repackAfter
+tags-stand = calls tags legal-tags tagsCalls .stands
+
+-- two widths of one m
+pub tags-same : tagsAtTwo ≡ packed (shaped 1 3) 2 tagsAtOne
+unfolding size
+tags-same =
+    canonical (shaped 3 3) (shaped 1 3) 2 straddled tagsAtOne refl (width 2 refl) legal-tags (legalTested (shaped 1 3) tagsAtOne .1 refl) .1 refl
+
+-- Of two different m equal octets may carry other items, and other octets the same items: bits 1 and 1, or 3 and 0.
+pub other-m : (packed (shaped 2 1) 2 (twoTags 3) ≡ packed (shaped 2 2) 2 (twoTags 3)) × (streamItems (shaped 2 1) (twoTags 3) ≡ streamItems (shaped 2 2) (twoTags 3) → ⊥)
+unfolding size
+other-m = (refl, λ e. let z : _≡_ {A = ℕ} 1 3 = cc in omega arith)
+
+pub other-octets : (streamItems (shaped 2 1) (twoTags 3) ≡ streamItems (shaped 2 2) (twoTags 5)) × (packed (shaped 2 1) 2 (twoTags 3) ≡ packed (shaped 2 2) 2 (twoTags 5) → ⊥)
+unfolding size
+other-octets = (refl, λ e. let z : _≡_ {A = ℕ} 3 5 = cc in omega arith)
+
+-- harvested with its bits
+pub tags-harvested : Legal (shaped 1 2) tagsHarvest × (9 ≤ 18)
+unfolding size
+tags-harvested = harvestLegal (shaped 1 2) tagsTake 9 (octets-tested tagsTake .1 refl) refl

@@ -8,6 +8,7 @@ use Prim.Native.Nat.{ℕ}
 use lib.ListN.{length}
 use Rattle.stream_spec.specs.declared.Shape.{Shape}
 use Rattle.stream_spec.specs.Answers.{Values, values, verdictValues, writtenValues, lookupValues, judgeAnswer, harvestAnswer, harvestAfter, fillAnswer, fillAfter, dataAnswer, dataPart, dataStart, repackAnswer, repackAfter, downsizeAnswer, downsizeAfter}
+use Rattle.stream_spec.specs.Layout.{shaped}
 use Rattle.stream_spec.specs.Handshake.{low, high}
 use Rattle.stream_spec.specs.Tables.{lanes, one}
 
@@ -77,6 +78,10 @@ lastAlone = 0x01 ∷ 0x00 ∷ 0x00 ∷ 0x00 ∷ 0x00 ∷ 0x00 ∷ 0x00 ∷ 0x00 
 -- an all-null record of width 1 without TLAST, of the pair (tid, 0)
 abbrev nulls : ℕ → List ℕ
 nulls tid = 0x00 ∷ tid ∷ 0x00 ∷ 0x00 ∷ 0x00 ∷ 0x00 ∷ 0x00 ∷ 0x00 ∷ []
+
+-- T-06: three lanes with three user bits each, numbers 5, 7 and 6: 5 + 7*8 + 6*64 is 0x1BD
+abbrev pub straddled : List ℕ
+straddled = 0x01 ∷ 1 ∷ 2 ∷ 0x05 ∷ 0 ∷ 0x01 ∷ 0 ∷ 17 ∷ 34 ∷ 51 ∷ 0xBD ∷ 0x01 ∷ []
 
 -- ---- paper 01, 'Bench cases': the starred ones on streams, and S6 and S7
 
@@ -325,4 +330,48 @@ workedCases =
     -- W85: T-03: each transfer its own packet: two records with TLAST, the second all-null, give a record each
     ∷ gives (repack (lanes 1) 2 (one 0x01 0 0 1 1 7 ++ one 0x01 0 0 0 0 0) (eight ++ eight ++ ee)) 2
     (0x01 ∷ 0x00 ∷ 0x00 ∷ 0x01 ∷ 0x00 ∷ 0x01 ∷ 0x00 ∷ 0x07 ∷ 0x00 ∷ 0x01 ∷ 0x00 ∷ 0x00 ∷ 0x00 ∷ 0x00 ∷ 0x00 ∷ 0x00 ∷ 0x00 ∷ 0x00 ∷ 0xEE ∷ 0xEE ∷ [])
+    -- W86: T-06: three lanes of three bits: data with 5, null with 7, position with 6, whose bits 6 to 8 straddle two octets. The two
+    -- items keep their bits
+    ∷ gives (repack (shaped 3 3) 2 straddled (eight ++ ee)) 1 (0x01 ∷ 1 ∷ 2 ∷ 0x03 ∷ 0 ∷ 0x01 ∷ 0 ∷ 17 ∷ 0 ∷ 0x35 ∷ 0xEE ∷ 0xEE ∷ [])
+    -- W87: T-06: at width 1 a record each; the null lane and its bits are gone
+    ∷ gives (repack (shaped 3 3) 1 straddled (eight ++ eight ++ ee)) 2 (one 0 1 2 1 1 17 ++ (5 ∷ []) ++ one 1 1 2 1 0 0 ++ (6 ∷ 0xEE ∷ 0xEE ∷ []))
+    -- W88: T-06: lane-keeping to 1: the null lane stays, and gets zero bits
+    ∷ gives (downsize (shaped 3 3) 1 straddled (eight ++ eight ++ eight ++ ee)) 3
+    (one 0 1 2 1 1 17 ++ (5 ∷ []) ++ one 0 1 2 0 0 0 ++ (0 ∷ []) ++ one 1 1 2 1 0 0 ++ (6 ∷ 0xEE ∷ []))
+    -- W89: T-06: harvesting keeps the bits of a null lane as sampled
+    ∷ gives (harvest (shaped 1 2) (one 0x0E 1 2 0 0 7 ++ (3 ∷ [])) (eight ++ ee)) 1 (one 0 1 2 0 0 7 ++ (3 ∷ 0xEE ∷ 0xEE ∷ 0xEE ∷ []))
+    -- W90: T-06: R3 compares them
+    ∷ breaks (judge (shaped 1 2) (one 0x0A 1 2 0 0 7 ++ (3 ∷ []) ++ one 0x0E 1 2 0 0 7 ++ (2 ∷ []))) 1 3
+    -- W91: T-06: FIELD at the lowest bit of the padding, of a cycle record
+    ∷ refuses (judge (shaped 1 2) (one 0x08 0 0 0 0 0 ++ (3 ∷ []) ++ one 0x08 0 0 0 0 0 ++ (4 ∷ []))) 3 1 []
+    -- W92: T-06: the same of a transfer record, in its second octet of user bits
+    ∷ refuses (repack (shaped 3 3) 2 (straddled ++ (0 ∷ 0 ∷ 0 ∷ 0 ∷ 0 ∷ 0 ∷ 0 ∷ 0 ∷ 0 ∷ 0 ∷ 0 ∷ 2 ∷ [])) ee) 3 1 ee
+    -- W93: T-06: no padding where the bits fill their octets
+    ∷ gives (repack (shaped 2 4) 2 (0 ∷ 0 ∷ 0 ∷ 3 ∷ 0 ∷ 3 ∷ 0 ∷ 1 ∷ 2 ∷ 0xF7 ∷ []) (eight ++ ee)) 1
+    (0 ∷ 0 ∷ 0 ∷ 3 ∷ 0 ∷ 3 ∷ 0 ∷ 1 ∷ 2 ∷ 0xF7 ∷ 0xEE ∷ 0xEE ∷ [])
+    -- W94: T-06: 16 of judging, before 2
+    ∷ refuses (judge (shaped 1 5) (0 ∷ [])) 16 0 []
+    -- W95: T-06: of harvesting
+    ∷ refuses (harvest (shaped 1 5) (0 ∷ []) ee) 16 0 ee
+    -- W96: T-06: of fill-in, which leaves the take as it was
+    ∷ refuses (fillIn high (shaped 1 5) (0 ∷ [])) 16 0 (0 ∷ [])
+    -- W97: T-06: of data octets
+    ∷ refuses (dataOf (shaped 1 5) (0 ∷ []) 0) 16 0 []
+    -- W98: T-06: of repacking; the most that a number holds
+    ∷ refuses (repack (shaped 1 0xFFFF_FFFF_FFFF_FFFF) 1 (0 ∷ []) ee) 16 0 ee
+    -- W99: T-06: of downsizing, before 6
+    ∷ refuses (downsize (shaped 3 5) 2 (0 ∷ []) ee) 16 0 ee
+    -- W100: T-06: 1 before 16, of the input
+    ∷ refuses (judge (shaped 17 5) (0 ∷ [])) 1 0 []
+    -- W101: T-06: and of the output
+    ∷ refuses (repack (shaped 1 5) 17 (0 ∷ []) ee) 1 0 ee
+    -- W102: T-06: 2: a record has an octet for its user bits
+    ∷ refuses (judge (shaped 1 1) (one 0x08 0 0 0 0 0)) 2 0 []
+    -- W103: T-06: data octets are still the lanes, of the second record too
+    ∷ gives (dataOf (shaped 1 4) (one 0 0 0 1 1 7 ++ (15 ∷ []) ++ one 0 0 0 1 1 8 ++ (14 ∷ [])) 1) 0 (8 ∷ [])
+    -- W104: T-06: and start where they do
+    ∷ gives (startOf (shaped 1 4) (one 0 0 0 1 1 7 ++ (15 ∷ []) ++ one 0 0 0 1 1 8 ++ (14 ∷ [])) 1) 0 (16 ∷ [])
+    -- W105: T-06: fill-in touches no user bit
+    ∷ gives (fillIn high (shaped 1 1) (one 0xFE 0 0 0 0 0 ++ (0xFE ∷ []) ++ one 0x08 0 0 0 0 0 ++ (0 ∷ []))) 2
+    (one 0xFF 0 0 0 0 0 ++ (0xFE ∷ []) ++ one 0x09 0 0 0 0 0 ++ (0 ∷ []))
     ∷ []

@@ -10,7 +10,8 @@ use lib.ListN.{length, replicate}
 use Rattle.stream_spec.specs.Items.{Transfer, Item, byte, end}
 use Rattle.stream_spec.specs.Layout.{Kept, octet, position}
 use Rattle.stream_spec.specs.Demand3.{Call, Standing, Part, whole, PartsJoin}
-use Rattle.stream_spec.specs.Tables.{lanes, one, stream, pair, part, seven, otherTid, otherTdest, ended, nulls}
+use Rattle.stream_spec.specs.Cases.{straddled}
+use Rattle.stream_spec.specs.Tables.{lanes, one, stream, tagged, pair, part, seven, otherTid, otherTdest, ended, nulls}
 
 -- ---- a stream: two data bytes, a position byte and an end of the pair (1, 2)
 
@@ -147,3 +148,40 @@ lastOnes = one 1 1 2 1 1 7 ++ one 1 1 2 0 0 0
 
 abbrev pub lastTwos : List ℕ
 lastTwos = 1 ∷ 1 ∷ 2 ∷ 1 ∷ 0 ∷ 1 ∷ 0 ∷ 7 ∷ 0 ∷ 1 ∷ 1 ∷ 2 ∷ 0 ∷ 0 ∷ 0 ∷ 0 ∷ 0 ∷ 0 ∷ []
+
+-- ---- user bits (T-06): the stream `straddled` of Cases, three lanes with three bits each; its items, its packed forms at widths 1 and
+-- 2, and its slices of width 1
+
+abbrev pub tags : Standing
+tags = tagged 3 3 straddled
+
+abbrev pub tagsItems : List (Item Kept)
+tagsItems = byte (pair 1 2) (octet 17 5) ∷ byte (pair 1 2) (position 6) ∷ end (pair 1 2) ∷ []
+
+abbrev pub tagsAtOne : List ℕ
+tagsAtOne = 0 ∷ 1 ∷ 2 ∷ 1 ∷ 0 ∷ 1 ∷ 0 ∷ 17 ∷ 5 ∷ 1 ∷ 1 ∷ 2 ∷ 1 ∷ 0 ∷ 0 ∷ 0 ∷ 0 ∷ 6 ∷ []
+
+abbrev pub tagsAtTwo : List ℕ
+tagsAtTwo = 1 ∷ 1 ∷ 2 ∷ 3 ∷ 0 ∷ 1 ∷ 0 ∷ 17 ∷ 0 ∷ 0x35 ∷ []
+
+abbrev pub tagsSlices : List ℕ
+tagsSlices = 0 ∷ 1 ∷ 2 ∷ 1 ∷ 0 ∷ 1 ∷ 0 ∷ 17 ∷ 5 ∷ 0 ∷ 1 ∷ 2 ∷ 0 ∷ 0 ∷ 0 ∷ 0 ∷ 0 ∷ 0 ∷ 1 ∷ 1 ∷ 2 ∷ 1 ∷ 0 ∷ 0 ∷ 0 ∷ 0 ∷ 6 ∷ []
+
+-- refused for its width; to 1, in exactly the room it needs; to 2 with an octet too few; to 2
+abbrev pub tagsCalls : List Call
+tagsCalls = lends 17 40 ∷ lends 1 18 ∷ lends 2 9 ∷ lends 2 10 ∷ []
+
+-- the same with the lowest bit of its padding set
+abbrev pub padded : List ℕ
+padded = 0x01 ∷ 1 ∷ 2 ∷ 0x05 ∷ 0 ∷ 0x01 ∷ 0 ∷ 17 ∷ 34 ∷ 51 ∷ 0xBD ∷ 0x03 ∷ []
+
+-- two data lanes whose user bits are this number
+abbrev pub twoTags : ℕ → List ℕ
+twoTags u = 0 ∷ 1 ∷ 2 ∷ 3 ∷ 0 ∷ 3 ∷ 0 ∷ 17 ∷ 34 ∷ u ∷ []
+
+-- a cycle with two bits that waits, and is taken
+abbrev pub tagsTake : List ℕ
+tagsTake = 0x0B ∷ 1 ∷ 2 ∷ 1 ∷ 0 ∷ 1 ∷ 0 ∷ 7 ∷ 3 ∷ 0x0F ∷ 1 ∷ 2 ∷ 1 ∷ 0 ∷ 1 ∷ 0 ∷ 7 ∷ 3 ∷ []
+
+abbrev pub tagsHarvest : List ℕ
+tagsHarvest = 0x01 ∷ 1 ∷ 2 ∷ 1 ∷ 0 ∷ 1 ∷ 0 ∷ 7 ∷ 3 ∷ []
