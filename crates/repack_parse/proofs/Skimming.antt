@@ -8,7 +8,7 @@ use native.Mathlib.Omega.{arith}
 use native.Mathlib.Nat.{add-zero}
 use lib.Pow.{pow-pos}
 use lib.ListN.{length, getD, take, drop, replicate, length-drop, length-replicate}
-use lib.Seq.{getD-drop, getD-take, drop-drop, length-take-le}
+use lib.Seq.{getD-take, drop-drop, length-take-le}
 use Rattle.refusal.specs.Checks.{first}
 use Rattle.stream_spec.specs.Layout.{size, ofWidth, dataOctets, flags, pairOf, tkeep, tstrb}
 use Rattle.stream_spec.specs.Legal.{Octets}

@@ -1,5 +1,6 @@
-// Reads a take of transfer records, once, into held items and a table of stretches, or refuses it. The usual records are
-// read in usual.rt. Nothing is written to the caller's memory here.
+// Reads a take of transfer records without user bits, once, into held items and a table of stretches, or refuses it. The usual
+// records are read in usual.rt. Nothing is written to the caller's memory here. The steps on table and state, `turn` to
+// `finish`, serve the reader of records with user bits too.
 mod usual;
 
 use refusal::Refusal;
