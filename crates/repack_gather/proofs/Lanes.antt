@@ -16,10 +16,11 @@ use Rattle.words.specs.Splice.{splice}
 use Rattle.words.specs.Words.{padded}
 use Rattle.words.proofs.Words.{length-padded, take-padded}
 use Rattle.repack_scratch.specs.Codes.{dataCode, heldCodes, sifted}
+use Rattle.repack_scratch.specs.Stands.{Gathered}
 use Rattle.repack_scratch.proofs.Held.{length-held, held-more}
 use Rattle.repack_sieve.specs.Kept.{keptOctet, keptOctets, Collected}
 use Rattle.repack_sieve.proofs.Kept.{kept-split, collected-as, stored-kept}
-use Rattle.repack_gather.specs.Gather.{Gathered, Clear}
+use Rattle.repack_gather.specs.Gather.{Clear}
 
 -- ---- one lane
 
@@ -133,7 +134,8 @@ sifted-data (suc w) k ds = go (sifted-data w (k / 2) (drop 1 ds)) (odd k) refl
 
 -- octets collected where no mark stands are codes gathered
 pub collected-codes : (keep : ℕ) (lanes octets after marks : List ℕ) (at r : ℕ) → r ≤ length octets → length marks ≡ length octets → Clear at marks
-    → Collected (length lanes) keep lanes octets at after r → Gathered keep keep lanes (heldCodes octets marks) at (heldCodes after marks) r
+    → Collected (length lanes) keep lanes octets at after r
+    → Gathered (length lanes) (sifted (length lanes) keep keep lanes) (heldCodes octets marks) at (heldCodes after marks) r
 collected-codes keep lanes octets after marks at r h l c g =
     record {
       same = length-held after marks (g .same ∙ sym l) ∙ g .same ∙ sym (length-held octets marks (sym l));

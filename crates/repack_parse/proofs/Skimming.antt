@@ -8,11 +8,11 @@ use native.Mathlib.Omega.{arith}
 use native.Mathlib.Nat.{add-zero}
 use lib.Pow.{pow-pos}
 use lib.ListN.{length, getD, take, drop, replicate, length-drop, length-replicate}
-use lib.Seq.{getD-drop, getD-take, drop-drop, length-take-le}
+use lib.Seq.{getD-take, drop-drop, length-take-le}
 use Rattle.refusal.specs.Checks.{first}
-use Rattle.stream_spec.specs.Layout.{size, ofWidth, dataOctets, flags}
+use Rattle.stream_spec.specs.Layout.{size, ofWidth, dataOctets, flags, pairOf, tkeep, tstrb}
 use Rattle.stream_spec.specs.Legal.{Octets}
-use Rattle.stream_spec.specs.Checks.{Fields, transferFlags, transferFaults}
+use Rattle.stream_spec.specs.Checks.{HeadFits, transferFlags, transferFaults}
 use Rattle.stream_spec.proofs.Legal.{octets-take, octets-drop}
 use Rattle.stream_spec.proofs.Size.{size-holds, data-inside}
 use Rattle.words.specs.Words.{wordAt}
@@ -26,10 +26,12 @@ use Rattle.repack_scratch.proofs.Held.{unmarked-at}
 use Rattle.repack_sieve.specs.Kept.{keptOctet, keptOctets, Collected}
 use Rattle.repack_gather.specs.Gather.{Clear}
 use Rattle.repack_parse.specs.Read.{Ready, Ended, AddedData}
-use Rattle.repack_parse.specs.Reading.{UsualAt, Reading, Skimmed}
+use Rattle.repack_parse.specs.Reading.{recordFrom, UsualAt, Reading, Skimmed}
 use Rattle.repack_parse.proofs.Faults.{data-faultless}
-use Rattle.repack_parse.proofs.Records.{octets-of, lanes-long, paired-same, add-collected}
-use Rattle.repack_parse.proofs.Take.{reading-next, holding-next}
+use Rattle.repack_parse.proofs.Records.{octets-of, lanes-long, paired-same}
+use Rattle.repack_parse.proofs.Lanes.{add-collected}
+use Rattle.repack_parse.proofs.Take.{reading-next}
+use Rattle.repack_parse.proofs.Parsing.{holding-next}
 
 -- ---- the words of a record that starts at octet `a`
 
@@ -75,9 +77,9 @@ collected-taken w k ds octets at after r c =
 -- ---- the usual record
 
 module _ (w : ℕ) (transfers octets table : List ℕ) (st : Open) (at full : ℕ) (b : (i : ℕ) → getD transfers i 0 < 256) (fits : at + size (ofWidth w) ≤ length transfers)
-    (fe : full ≡ 2 ^ w - 1) (ready : Ready w octets table st) (u : UsualAt transfers at (st .pair) full) where
+    (fe : full ≡ 2 ^ w - 1) (ready : Ready (ofWidth w) octets table st) (u : UsualAt transfers at (st .pair) full) where
   abbrev rec : List ℕ
-  rec = take (size (ofWidth w)) (drop at transfers)
+  rec = recordFrom (ofWidth w) transfers at
 
   rec-octets : Octets rec
   rec-octets = octets-take (size (ofWidth w)) (drop at transfers) (octets-drop at transfers (octets-of transfers b))
@@ -88,7 +90,7 @@ module _ (w : ℕ) (transfers octets table : List ℕ) (st : Open) (at full : �
   told : Usual (wordAt 4 transfers at) (wordAt 4 transfers (at + 3)) (st .pair) full (headerOf rec)
   told = rw (header-taken (size (ofWidth w)) (drop at transfers) (omega (arith, size-holds (ofWidth w)))) u
 
-  usual-fields : Fields transferFlags (ofWidth w) rec
+  usual-fields : HeadFits transferFlags (ofWidth w) (flags rec) (pairOf rec .tdest) (tkeep rec) (tstrb rec)
   usual-fields =
       let keep = told .keep in
       let strb = told .strb in
@@ -111,18 +113,18 @@ module _ (w : ℕ) (transfers octets table : List ℕ) (st : Open) (at full : �
       rw (lanes-taken w transfers at fits) at (collected-taken w (hi % 0x10000) (drop (at + 7) transfers) octets (st .items) octets1 n collected) in
       add-collected w rec rec-octets rec-long octets octets1 table table table1 st st r n (hi % 0x10000) (lo % 2) (ready .high) (usual-fields .tdest)
       (rw h (told .keep)) (rw h (told .strb)) (rw l (told .flags)) (ready .holds)
-      (λ items. paired-same w rec items table st (ready .started) (sym (told .paired))) (rw (lanes-long w rec rec-octets rec-long) of-lanes) ended
+      (λ items. paired-same (ofWidth w) rec items table st (ready .started) (sym (told .paired))) (rw (lanes-long (ofWidth w) rec rec-octets rec-long) of-lanes) ended
 
 -- ---- a step of skimming
 
-pub skimmed-none : (w : ℕ) (transfers octets table : List ℕ) (st : Open) (from : ℕ) → Reading w transfers octets table st from
+pub skimmed-none : (w : ℕ) (transfers octets table : List ℕ) (st : Open) (from : ℕ) → Reading (ofWidth w) transfers octets table st from
     → Skimmed w transfers octets table st from octets table st from
 skimmed-none w transfers octets table st from r = record { on = omega arith; reading = r; holding = λ marks h. h }
 
 module _ (w : ℕ) (transfers octets table : List ℕ) (st : Open) (from : ℕ) (octets1 table1 : List ℕ) (st1 : Open) (at : ℕ)
     (k : Skimmed w transfers octets table st from octets1 table1 st1 at) where
-  pub skimmed-next : (octets2 table2 : List ℕ) (st2 : Open) → at < length transfers → first (transferFaults (ofWidth w) (at / size (ofWidth w)) (take (size (ofWidth w)) (drop at transfers))) ≡ none
-      → AddedData w (take (size (ofWidth w)) (drop at transfers)) octets1 table1 st1 octets2 table2 st2
+  pub skimmed-next : (octets2 table2 : List ℕ) (st2 : Open) → at < length transfers → first (transferFaults (ofWidth w) (at / size (ofWidth w)) (recordFrom (ofWidth w) transfers at)) ≡ none
+      → AddedData w (recordFrom (ofWidth w) transfers at) octets1 table1 st1 octets2 table2 st2
       → Skimmed w transfers octets table st from octets2 table2 st2 (at + size (ofWidth w))
   skimmed-next octets2 table2 st2 more sound a =
       let zeros = replicate {A = ℕ} (length octets1) 0 in
@@ -131,11 +133,11 @@ module _ (w : ℕ) (transfers octets table : List ℕ) (st : Open) (from : ℕ) 
       record {
         on = omega (arith, k .on);
         reading =
-            reading-next w transfers octets1 table1 st1 at (k .reading) more (take (size (ofWidth w)) (drop at transfers)) octets2 table2 st2 refl
-            (heldCodes octets1 zeros) (heldCodes octets2 zeros) sound (a .same) plain;
+            reading-next (ofWidth w) transfers octets1 table1 st1 at (k .reading) more (recordFrom (ofWidth w) transfers at) (heldCodes octets1 zeros)
+            (heldCodes octets2 zeros) table2 st2 refl plain octets2 sound (a .same);
         holding =
             λ marks h.
             let g = k .holding marks h in
-            holding-next w transfers octets1 table1 st1 at (k .reading) more (take (size (ofWidth w)) (drop at transfers)) octets2 table2 st2 refl marks marks (a .same) refl
+            holding-next w transfers octets1 table1 st1 at (k .reading) more (recordFrom (ofWidth w) transfers at) octets2 table2 st2 refl marks marks (a .same) refl
             (λ i b. g .clear i (omega (arith, plain .beyond))) (a .added marks (g .long) (g .clear)) g;
       }

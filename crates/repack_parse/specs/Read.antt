@@ -1,4 +1,5 @@
--- What each step of reading a take does to the held items, to the table of stretches and to the state.
+-- What each step of reading a take does to the held items, to the table of stretches and to the state: for records of any shape
+-- and items held as codes, and for the fast reader, which knows records without user bits by their width w and holds octets and marks.
 use mathlib.Core.Path.{_≡_}
 use mathlib.Core.Bool.{Bool, true, cond}
 use mathlib.Core.List.{List, [], _∷_, _++_}
@@ -6,9 +7,10 @@ use mathlib.Core.Option.{none, some}
 use Prim.Native.Nat.{ℕ, _+_, _*_, _/_, _≤_, _<_}
 use lib.ListN.{length, take}
 use Rattle.refusal.specs.Checks.{first}
+use Rattle.stream_spec.specs.declared.Shape.{Shape}
 use Rattle.stream_spec.specs.Items.{Item, end, itemPair, transferItems}
 use Rattle.stream_spec.specs.Packed.{Stretch, cut}
-use Rattle.stream_spec.specs.Layout.{size, ofWidth, bit, Kept, transferOf, records, streamItems}
+use Rattle.stream_spec.specs.Layout.{widthMost, size, ofWidth, bit, Kept, transferOf, records, streamItems}
 use Rattle.stream_spec.specs.Checks.{HeadFits, transferFlags, transferFaults, transferChecks}
 use Rattle.stream_record.specs.declared.Header.{Header}
 use Rattle.stream_record.specs.Header.{headerOf}
@@ -56,52 +58,71 @@ pub record Ended (flags : ℕ) (table : List ℕ) (st : Open) (after : List ℕ)
       → Stands codes (take (st .closed) table) st (cond (bit 0 flags) (end (pairFrom (st .pair)) ∷ []) [] ++ rest) all
       → Stands codes (take (r .closed) after) r rest all
 
+-- a record with its header: it has no bad field in it, and an item
+pub record Carries (s : Shape) (rec : List ℕ) (h : Header) : Type 0 where
+  pub header : h ≡ headerOf rec
+  pub long : length rec ≡ size s
+  pub fits : HeadFits transferFlags s (h .flags) (h .tdest) (h .keep) (h .strb)
+  pub some : h .keep + h .flags ≡ 0 → ⊥
+
+-- a state that another record can be read from: table and array of items (codes, or octets) have room for it
+pub record Ready (s : Shape) (items table : List ℕ) (st : Open) : Type 0 where
+  pub low : 1 ≤ s .width
+  pub high : s .width ≤ widthMost
+  pub started : st .start ≤ st .items
+  pub pair : st .pair < pairLimit
+  pub holds : st .items + 16 ≤ length items
+  pub small : length items < 0x10000
+  pub lists : st .closed + 1 < length table
+
 -- one record more is read
-pub record Added (w : ℕ) (rec items table : List ℕ) (st : Open) (itemsAfter tableAfter : List ℕ) (r : Open) : Type 0 where
+pub record Added (s : Shape) (rec items table : List ℕ) (st : Open) (itemsAfter tableAfter : List ℕ) (r : Open) : Type 0 where
   pub sameTable : length tableAfter ≡ length table
   pub beyond : st .items ≤ r .items
-  pub kept : r .items ≤ st .items + w
+  pub kept : r .items ≤ st .items + s .width
   pub pair : r .pair < pairLimit
   pub started : r .start ≤ r .items
   pub few : (k : ℕ) → Few st k 0 → Few r (k + 1) 0
   pub stands :
       (rest : List (Item Kept)) (all : List (Stretch Kept))
-      → Stands (take (st .items) items) (take (st .closed) table) st (transferItems (transferOf (ofWidth w) rec) ++ rest) all
+      → Stands (take (st .items) items) (take (st .closed) table) st (transferItems (transferOf s rec) ++ rest) all
       → Stands (take (r .items) itemsAfter) (take (r .closed) tableAfter) r rest all
+
+-- n stretches in the table, all that a take has
+pub record Finished (n : ℕ) (items table : List ℕ) (all : List (Stretch Kept)) : Type 0 where
+  pub within : n ≤ length table
+  pub held : total (take n table) ≤ length items
+  pub is : stretchesOf (take n table) items ≡ all
+
+-- what closing the last stretch gives, whatever the items are: so many stretches, with all items that were kept
+abbrev pub FinishIs : List ℕ → Open → List ℕ → ℕ → Type 0
+FinishIs table st after r =
+    (items : List ℕ) (all : List (Stretch Kept)) → Stands (take (st .items) items) (take (st .closed) table) st [] all
+    → Finished r items after all × (total (take r after) ≡ st .items)
+
+-- What a take without fault is read to: its stretches, with items of these codes.
+pub record TakenAs (s : Shape) (transfers codes table : List ℕ) (n : ℕ) : Type 0 where
+  pub faultless : first (transferChecks s 0 (records s transfers)) ≡ none
+  pub finished : Finished n codes table (cut (streamItems s transfers))
+
+-- ---- octets and marks
 
 -- One record more, of which each kept lane is data: it needs no mark, where none stands yet.
 pub record AddedData (w : ℕ) (rec octets table : List ℕ) (st : Open) (octetsAfter tableAfter : List ℕ) (r : Open) : Type 0 where
   pub same : length octetsAfter ≡ length octets
   pub added :
       (marks : List ℕ) → length marks ≡ length octets → Clear (st .items) marks
-      → Added w rec (heldCodes octets marks) table st (heldCodes octetsAfter marks) tableAfter r
+      → Added (ofWidth w) rec (heldCodes octets marks) table st (heldCodes octetsAfter marks) tableAfter r
 
 -- one record more, with position lanes
 pub record AddedMarked (w : ℕ) (rec octets marks table : List ℕ) (st : Open) (octetsAfter marksAfter tableAfter : List ℕ) (r : Open) : Type 0 where
-  pub added : Added w rec (heldCodes octets marks) table st (heldCodes octetsAfter marksAfter) tableAfter r
+  pub added : Added (ofWidth w) rec (heldCodes octets marks) table st (heldCodes octetsAfter marksAfter) tableAfter r
   pub clear : Clear (r .items) marksAfter
 
 -- the same of marks that are held as bits
 abbrev pub AddedBits : ℕ → List ℕ → List ℕ → List ℕ → List ℕ → Open → List ℕ → List ℕ → List ℕ → Open → Type 0
 AddedBits w rec octets marks table st octetsAfter marksAfter tableAfter r =
     AddedMarked w rec octets (markBits marks) table st octetsAfter (markBits marksAfter) tableAfter r
-
--- a record of w lanes with its header: it has no bad field, and an item
-pub record Carries (w : ℕ) (rec : List ℕ) (h : Header) : Type 0 where
-  pub header : h ≡ headerOf rec
-  pub long : length rec ≡ size (ofWidth w)
-  pub fits : HeadFits transferFlags (ofWidth w) (h .flags) (h .tdest) (h .keep) (h .strb)
-  pub some : h .keep + h .flags ≡ 0 → ⊥
-
--- a state that another record can be read from: the arrays have room for it
-pub record Ready (w : ℕ) (octets table : List ℕ) (st : Open) : Type 0 where
-  pub low : 1 ≤ w
-  pub high : w ≤ 16
-  pub started : st .start ≤ st .items
-  pub pair : st .pair < pairLimit
-  pub holds : st .items + 16 ≤ length octets
-  pub small : length octets < 0x10000
-  pub lists : st .closed + 1 < length table
 
 -- a record without fault whose place is k, read
 pub record Sounds (w : ℕ) (rec : List ℕ) (k : ℕ) (octets marks table : List ℕ) (st : Open) (octetsAfter marksAfter tableAfter : List ℕ) (r : Open) : Type 0 where
@@ -118,23 +139,10 @@ NextIs w rec at octets marks table st octetsAfter marksAfter tableAfter (Read r)
 NextIs w rec at octets marks table st octetsAfter marksAfter tableAfter (Marked r) =
     Sounds w rec (at / size (ofWidth w)) octets (markBits marks) table st octetsAfter (markBits marksAfter) tableAfter r
 
--- n stretches in the table, all that a take has
-pub record Finished (n : ℕ) (items table : List ℕ) (all : List (Stretch Kept)) : Type 0 where
-  pub within : n ≤ length table
-  pub held : total (take n table) ≤ length items
-  pub is : stretchesOf (take n table) items ≡ all
-
--- what closing the last stretch gives, whatever the items are: so many stretches, with all items that were kept
-abbrev pub FinishIs : List ℕ → Open → List ℕ → ℕ → Type 0
-FinishIs table st after r =
-    (items : List ℕ) (all : List (Stretch Kept)) → Stands (take (st .items) items) (take (st .closed) table) st [] all
-    → Finished r items after all × (total (take r after) ≡ st .items)
-
--- What a take without fault is read to: its stretches, held in octets and marks. A reader of 32 octets from any item on
--- stays in the octets; and where `plain` is told, no item is a position item.
+-- The same, held in octets and marks. A reader of 32 octets from any item on stays in the octets; and where `plain` is told, no
+-- item is a position item.
 pub record Taken (w : ℕ) (transfers octets marks table : List ℕ) (n : ℕ) (plain : Bool) : Type 0 where
-  pub faultless : first (transferChecks (ofWidth w) 0 (records (ofWidth w) transfers)) ≡ none
-  pub finished : Finished n (codesIn octets marks) table (cut (streamItems (ofWidth w) transfers))
+  pub taken : TakenAs (ofWidth w) transfers (codesIn octets marks) table n
   pub sameOctets : length octets ≡ itemRoom
   pub sameMarks : length (markBits marks) ≡ itemRoom
   pub room : total (take n table) + 32 ≤ length octets

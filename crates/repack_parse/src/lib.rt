@@ -1,5 +1,6 @@
-// Reads a take of transfer records, once, into held items and a table of stretches, or refuses it. The usual records are
-// read in usual.rt. Nothing is written to the caller's memory here.
+// Reads a take of transfer records without user bits, once, into held items and a table of stretches, or refuses it. The usual
+// records are read in usual.rt. Nothing is written to the caller's memory here. The steps on table and state, `turn` to
+// `finish`, serve the reader of records with user bits too.
 mod usual;
 
 use refusal::Refusal;
@@ -61,7 +62,7 @@ fn turned(st: Open, pair: u32) -> Open
 }
 
 // Before a record with an item: an open stretch of another pair is closed.
-fn turn(table: &mut [u32], st: Open, pair: u32) -> Open
+pub fn turn(table: &mut [u32], st: Open, pair: u32) -> Open
     requires { ⌜ Closable st (now table) ⌝ }
     ensures { λ r. ⌜ Turned pair (now (table .entry)) st (now (table .exit)) r ⌝ }
 {
@@ -75,7 +76,7 @@ fn turn(table: &mut [u32], st: Open, pair: u32) -> Open
 }
 
 // After a record's lanes: TLAST closes the open stretch with an end.
-fn end(table: &mut [u32], st: Open, flags: u32) -> Open
+pub fn end(table: &mut [u32], st: Open, flags: u32) -> Open
     requires { ⌜ Closable st (now table) × (flags < 2) ⌝ }
     ensures { λ r. ⌜ Ended flags (now (table .entry)) st (now (table .exit)) r ⌝ }
 {
@@ -86,7 +87,7 @@ fn end(table: &mut [u32], st: Open, flags: u32) -> Open
 }
 
 // The same state with so many items.
-fn with_items(st: Open, n: usize) -> Open
+pub fn with_items(st: Open, n: usize) -> Open
     ensures { λ r. ⌜ r ≡ keptAt st n ⌝ }
 {
     Open {
@@ -98,7 +99,7 @@ fn with_items(st: Open, n: usize) -> Open
 }
 
 // The pair of a header as one number.
-fn pair_code(h: Header) -> u32
+pub fn pair_code(h: Header) -> u32
     ensures { λ r. ⌜ r ≡ pairCode (h .tid) (h .tdest) ⌝ }
 {
     widen4(h.tid) + 0x100 * widen4(h.tdest)
@@ -113,7 +114,7 @@ fn add_data(
     table: &mut [u32],
     st: Open,
 ) -> Open
-    requires { ⌜ Wide lanes × Carries (lanes .width) (now rec) h × (h .keep ≡ h .strb) × Ready (lanes .width) (now octets) (now table) st ⌝ }
+    requires { ⌜ Wide lanes × Carries (ofWidth (lanes .width)) (now rec) h × (h .keep ≡ h .strb) × Ready (ofWidth (lanes .width)) (now octets) (now table) st ⌝ }
     ensures { λ r. ⌜ AddedData (lanes .width) (now (rec .entry)) (now (octets .entry)) (now (table .entry)) st (now (octets .exit)) (now (table .exit)) r ⌝ }
 {
     let o = turn(table, st, pair_code(h));
@@ -132,7 +133,7 @@ fn add_marked(
     table: &mut [u32],
     st: Open,
 ) -> Open
-    requires { ⌜ Carries w (now rec) h × Ready w (now octets) (now table) st ⌝ }
+    requires { ⌜ Carries (ofWidth w) (now rec) h × Ready (ofWidth w) (now octets) (now table) st ⌝ }
     requires { ⌜ (8 * length (now marks) ≡ length (now octets)) × Clear (st .items) (markBits (now marks)) ⌝ }
     ensures { λ r. ⌜ AddedBits w (now (rec .entry)) (now (octets .entry)) (now (marks .entry)) (now (table .entry)) st (now (octets .exit)) (now (marks .exit)) (now (table .exit)) r ⌝ }
 {
@@ -159,12 +160,12 @@ fn unusual(
     table: &mut [u32],
     st: Open,
 ) -> Next
-    requires { ⌜ Wide lanes × (length (now rec) ≡ size (ofWidth (lanes .width))) × Ready (lanes .width) (now octets) (now table) st ⌝ }
+    requires { ⌜ Wide lanes × (length (now rec) ≡ size (ofWidth (lanes .width))) × Ready (ofWidth (lanes .width)) (now octets) (now table) st ⌝ }
     requires { ⌜ (8 * length (now marks) ≡ length (now octets)) × Clear (st .items) (markBits (now marks)) ⌝ }
     ensures { λ r. ⌜ NextIs (lanes .width) (now (rec .entry)) at (now (octets .entry)) (now (marks .entry)) (now (table .entry)) st (now (octets .exit)) (now (marks .exit)) (now (table .exit)) r ⌝ }
 {
     let h = stream_record::read_header(rec);
-    let f = stream_record::fault_of(h, stream_record::shape_of(lanes.width));
+    let f = stream_record::fault_of(h, stream_record::shape_of(lanes.width, 0));
     match f {
         Fault::Field => Next::Refused(Refusal::Field(
             at / repack_scratch::record_size(lanes.width),
@@ -185,7 +186,7 @@ fn unusual(
 }
 
 // After the last record: what is still open is closed without an end. Answers the number of stretches.
-fn finish(table: &mut [u32], st: Open) -> usize
+pub fn finish(table: &mut [u32], st: Open) -> usize
     requires { ⌜ Closable st (now table) ⌝ }
     ensures { λ r. ⌜ FinishIs (now (table .entry)) st (now (table .exit)) r ⌝ }
 {

@@ -43,9 +43,9 @@ fn add_usual(
     table: &mut [u32],
     st: Open,
 ) -> Open
-    requires { ⌜ Wide lanes × (now sieve ≡ sieveRows) × Ready (lanes .width) (now octets) (now table) st ⌝ }
+    requires { ⌜ Wide lanes × (now sieve ≡ sieveRows) × Ready (ofWidth (lanes .width)) (now octets) (now table) st ⌝ }
     requires { ⌜ (at + size (ofWidth (lanes .width)) ≤ length (now transfers)) × UsualAt (now transfers) at (st .pair) (lanes .full) ⌝ }
-    ensures { λ r. ⌜ AddedData (lanes .width) (recordFrom (lanes .width) (now (transfers .entry)) at) (now (octets .entry)) (now (table .entry)) st (now (octets .exit)) (now (table .exit)) r ⌝ }
+    ensures { λ r. ⌜ AddedData (lanes .width) (recordFrom (ofWidth (lanes .width)) (now (transfers .entry)) at) (now (octets .entry)) (now (table .entry)) st (now (octets .exit)) (now (table .exit)) r ⌝ }
 {
     let lo = words::load4(transfers, at);
     let hi = words::load4(transfers, at + TKEEP);
@@ -71,7 +71,7 @@ pub fn skim(
     table: &mut [u32],
     st: Open,
 ) -> Place
-    requires { ⌜ Wide lanes × (now sieve ≡ sieveRows) × Reading (lanes .width) (now transfers) (now octets) (now table) st from ⌝ }
+    requires { ⌜ Wide lanes × (now sieve ≡ sieveRows) × Reading (ofWidth (lanes .width)) (now transfers) (now octets) (now table) st from ⌝ }
     ensures { λ r. ⌜ Skimmed (lanes .width) (now (transfers .entry)) (now (octets .entry)) (now (table .entry)) st from (now (octets .exit)) (now (table .exit)) (r .st) (r .at) ⌝ }
 {
     let z = repack_scratch::record_size(lanes.width);

@@ -1,8 +1,8 @@
 -- What holds while a take is read, stated by what remains of it.
 use mathlib.Core.Path.{_≡_}
 use mathlib.Core.List.{List, _++_, map}
-use Prim.Native.Nat.{ℕ, _+_}
-use lib.ListN.{length, drop}
+use Prim.Native.Nat.{ℕ, _+_, _≤_}
+use lib.ListN.{length, take, drop}
 use Rattle.stream_spec.specs.Items.{Item, byte}
 use Rattle.stream_spec.specs.Packed.{Stretch, cut}
 use Rattle.stream_spec.specs.Layout.{Kept}
@@ -19,6 +19,13 @@ pairedAt st pair = record { items = st .items; start = st .start; closed = st .c
 
 abbrev pub keptAt : Open → ℕ → Open
 keptAt st n = record { items = n; start = st .start; closed = st .closed; pair = st .pair }
+
+-- A record's codes, of so many lanes, stand behind those before them, up to place r.
+pub record Gathered (count : ℕ) (codes items : List ℕ) (at : ℕ) (after : List ℕ) (r : ℕ) : Type 0 where
+  pub same : length after ≡ length items
+  pub beyond : at ≤ r
+  pub within : r ≤ at + count
+  pub is : take r after ≡ take at items ++ codes
 
 -- Of the stretches of the whole take (`all`) the closed ones are in the table; the others are those of the open stretch's
 -- bytes and of the items still to come (`rest`).

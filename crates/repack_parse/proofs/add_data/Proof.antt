@@ -5,7 +5,8 @@ use native.Mathlib.Omega.{arith}
 use lib.ListN.{take, drop}
 use Rattle.stream_spec.specs.Layout.{ofWidth}
 use Rattle.stream_spec.proofs.Size.{size-holds}
-use Rattle.repack_parse.proofs.Records.{lanes-ready, end-ready, added-data}
+use Rattle.repack_parse.proofs.Records.{lanes-ready, end-ready}
+use Rattle.repack_parse.proofs.Lanes.{added-data}
 use borrow.Author.Needs.{needs}
 use Rattle.repack_parse.proofs.add_data.Statement.{statement}
 use Rattle.repack_parse.proofs.add_data.Tie as tie
@@ -44,7 +45,7 @@ gather-lanes-requires c κs =
     let s = known .before in
     let a = s .args in
     let p = s .pre in
-    lanes-ready (a .lanes .width) (a .rec .now) (a .octets .now) (a .table .now) (turn .turn .last .0) (a .h) (a .st) (turn .turn .result)
+    lanes-ready (ofWidth (a .lanes .width)) (a .rec .now) (a .octets .now) (a .table .now) (turn .turn .last .0) (a .h) (a .st) (turn .turn .result)
     (λ i. omega (arith, known .shared-slice-known .given i)) (p .1) (p .3) (turn .before .pair-code .result)
     (turn .before .pair-code .ensures) (turn .turn .ensures) (take (7 + a .lanes .width - 7) (drop 7 (a .rec .now))) (let same : 7 + a .lanes .width - 7 ≡ a .lanes .width = omega arith in rw same refl) (a .lanes .full) (p .0 .full)
 
@@ -59,7 +60,7 @@ end-requires c κs =
     let s = known .before in
     let a = s .args in
     let p = s .pre in
-    rw (c .with-items .ensures) (end-ready (a .lanes .width) (a .rec .now) (a .octets .now) (a .table .now) (turn .turn .last .0) (a .h) (a .st) (turn .turn .result)
+    rw (c .with-items .ensures) (end-ready (ofWidth (a .lanes .width)) (a .rec .now) (a .octets .now) (a .table .now) (turn .turn .last .0) (a .h) (a .st) (turn .turn .result)
     (λ i. omega (arith, known .shared-slice-known .given i)) (p .1) (p .3) (turn .before .pair-code .result)
     (turn .before .pair-code .ensures) (turn .turn .ensures) (take (7 + a .lanes .width - 7) (drop 7 (a .rec .now))) (let same : 7 + a .lanes .width - 7 ≡ a .lanes .width = omega arith in rw same refl) (gather .result) (gather .ensures .beyond) (gather .ensures .within))
 

@@ -7,7 +7,8 @@ use Rattle.stream_spec.specs.Layout.{ofWidth}
 use Rattle.stream_spec.proofs.Size.{size-holds}
 use Rattle.repack_scratch.specs.Codes.{markBits}
 use Rattle.repack_scratch.proofs.Marks.{length-marks}
-use Rattle.repack_parse.proofs.Records.{lanes-ready, end-ready, added-marked}
+use Rattle.repack_parse.proofs.Records.{lanes-ready, end-ready}
+use Rattle.repack_parse.proofs.Lanes.{added-marked}
 use borrow.Author.Needs.{needs}
 use Rattle.repack_parse.proofs.add_marked.Statement.{statement}
 use Rattle.repack_parse.proofs.add_marked.Tie as tie
@@ -46,7 +47,7 @@ sift-marked-requires c κs =
     let s = known .before in
     let a = s .args in
     let p = s .pre in
-    let l = lanes-ready (a .w) (a .rec .now) (a .octets .now) (a .table .now) (turn .turn .last .0) (a .h) (a .st) (turn .turn .result)
+    let l = lanes-ready (ofWidth (a .w)) (a .rec .now) (a .octets .now) (a .table .now) (turn .turn .last .0) (a .h) (a .st) (turn .turn .result)
     (λ i. omega (arith, known .shared-slice-known .given i)) (p .0 .0) (p .0 .1) (turn .before .pair-code .result)
     (turn .before .pair-code .ensures) (turn .turn .ensures) (take (7 + a .w - 7) (drop 7 (a .rec .now))) (let same : 7 + a .w - 7 ≡ a .w = omega arith in rw same refl) (2 ^ a .w - 1) refl in
     (p .1 .0, l .2, λ i b. p .1 .1 i (omega (arith, turn .turn .ensures .items)))
@@ -62,7 +63,7 @@ end-requires c κs =
     let s = known .before in
     let a = s .args in
     let p = s .pre in
-    rw (c .with-items .ensures) (end-ready (a .w) (a .rec .now) (a .octets .now) (a .table .now) (turn .turn .last .0) (a .h) (a .st) (turn .turn .result)
+    rw (c .with-items .ensures) (end-ready (ofWidth (a .w)) (a .rec .now) (a .octets .now) (a .table .now) (turn .turn .last .0) (a .h) (a .st) (turn .turn .result)
     (λ i. omega (arith, known .shared-slice-known .given i)) (p .0 .0) (p .0 .1) (turn .before .pair-code .result)
     (turn .before .pair-code .ensures) (turn .turn .ensures) (take (7 + a .w - 7) (drop 7 (a .rec .now))) (let same : 7 + a .w - 7 ≡ a .w = omega arith in rw same refl) (sift .result) (sift .ensures .gathered .beyond) (sift .ensures .gathered .within))
 

@@ -9,7 +9,7 @@ use lib.ListN.{length}
 use Rattle.stream_spec.specs.Layout.{size, ofWidth}
 use Rattle.repack_scratch.specs.declared.Open.{Open}
 use Rattle.stream_spec.proofs.Size.{size-pos}
-use Rattle.repack_parse.proofs.Take.{Parsing, parsing-starts, parsing-skimmed, marks-room, parsing-closes, parsing-done, parsing-fits, parsing-long, parsing-ready, parsing-marks, parsing-refused, parsing-read, parsing-marked}
+use Rattle.repack_parse.proofs.Parsing.{Parsing, parsing-starts, parsing-skimmed, marks-room, parsing-closes, parsing-done, parsing-fits, parsing-long, parsing-ready, parsing-marks, parsing-refused, parsing-read, parsing-marked}
 use Rattle.repack_parse.proofs.parse.Statement.{statement}
 use Rattle.repack_parse.proofs.parse.Tie as tie
 use Rattle.repack_parse.proofs.parse.Reads as reads
@@ -128,7 +128,7 @@ finish-requires c κs =
 same-length : tie.Need-same-length Inv-loop μ-loop
 same-length c =
     let skim = c .before .before .before .before .before .before .before .before .before in
-    parsed skim .reading .sameOctets ∙ sym (start skim .pre .1 .0)
+    parsed skim .reading .sameItems ∙ sym (start skim .pre .1 .0)
 
 same-length-2 : tie.Need-same-length-2 Inv-loop μ-loop
 same-length-2 c =
@@ -177,7 +177,7 @@ same-length-4 : tie.Need-same-length-4 Inv-loop μ-loop
 same-length-4 c =
     let unusual = c .before .before .before .before .before .before .before .before .before in
     let skim = skim-of unusual in
-    unusual .unusual .kept .1 .1 .1 .0 ∙ parsed skim .reading .sameOctets ∙ sym (start skim .pre .1 .0)
+    unusual .unusual .kept .1 .1 .1 .0 ∙ parsed skim .reading .sameItems ∙ sym (start skim .pre .1 .0)
 
 same-length-5 : tie.Need-same-length-5 Inv-loop μ-loop
 same-length-5 c =

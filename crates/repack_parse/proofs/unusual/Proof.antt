@@ -5,10 +5,12 @@ use native.Mathlib.Omega.{arith}
 use lib.Pow.{pow-mono}
 use Rattle.stream_spec.specs.Layout.{size, ofWidth}
 use Rattle.stream_spec.proofs.Size.{size-pos, size-holds}
-use Rattle.stream_record.proofs.RecordFaults.{told-field, told-reserved, told-sound, told-fits}
+use Rattle.stream_record.proofs.RecordFaults.{told-field, told-reserved, told-sound}
 use Rattle.repack_scratch.specs.Codes.{codesIn, markBits}
 use Rattle.repack_scratch.proofs.Marks.{length-marks}
-use Rattle.repack_parse.proofs.Records.{added-none, data-marked}
+use Rattle.repack_parse.proofs.Faults.{bare-told, told-fits}
+use Rattle.repack_parse.proofs.Records.{added-none}
+use Rattle.repack_parse.proofs.Lanes.{data-marked}
 use borrow.Author.Needs.{needs}
 use Rattle.repack_parse.proofs.unusual.Statement.{statement}
 use Rattle.repack_parse.proofs.unusual.Tie as tie
@@ -60,7 +62,7 @@ add-if1 c =
     let s = fault .before .before .before .before .before .before .before in
     let a = s .args in
     let p = s .pre in
-    let f = told-fits (ofWidth (a .lanes .width)) (a .rec .now) (a .at / size (ofWidth (a .lanes .width))) (read .result) (read .ensures) (sym (c .before .enum-told3 .given .1) ∙ (rw (fault .before .shape-of .ensures) at (fault .fault-of .ensures))) in
+    let f = told-fits (a .rec .now) (read .result) (read .ensures) (ofWidth (a .lanes .width)) (bare-told (a .rec .now) (read .result) (read .ensures) (a .lanes .width) (sym (c .before .enum-told3 .given .1) ∙ (rw (fault .before .shape-of .ensures) at (fault .fault-of .ensures)))) in
     omega (arith, f .flags, f .keep, pow-mono (p .0 .0 .high))
 
 returns : tie.Need-returns
@@ -72,10 +74,10 @@ returns c =
     let p = s .pre in
     let known = fault .before .before .before .before .before .before in (
       record {
-        faultless = told-sound (ofWidth (a .lanes .width)) (a .rec .now) (a .at / size (ofWidth (a .lanes .width))) (read .result) (read .ensures) (sym (c .before .before .enum-told3 .given .1) ∙ (rw (fault .before .shape-of .ensures) at (fault .fault-of .ensures)));
+        faultless = told-sound (ofWidth (a .lanes .width)) (a .rec .now) (a .at / size (ofWidth (a .lanes .width))) (bare-told (a .rec .now) (read .result) (read .ensures) (a .lanes .width) (sym (c .before .before .enum-told3 .given .1) ∙ (rw (fault .before .shape-of .ensures) at (fault .fault-of .ensures))));
         added = record {
           added =
-              added-none (a .lanes .width) (a .rec .now) (a .octets .now) (a .table .now) (read .result) (a .st) (λ i. omega (arith, known .shared-slice-known .given i)) (p .0 .1) (read .ensures) (p .0 .2)
+              added-none (ofWidth (a .lanes .width)) (a .rec .now) (a .octets .now) (a .table .now) (read .result) (a .st) (λ i. omega (arith, known .shared-slice-known .given i)) (p .0 .1) (read .ensures) (p .0 .2)
               (codesIn (a .octets .now) (a .marks .now)) (c .if1 .taken);
           clear = p .1 .1;
         };
@@ -90,7 +92,7 @@ add-data-requires c κs =
     let s = fault .before .before .before .before .before .before .before in
     let a = s .args in
     let p = s .pre in
-    (p .0 .0, record { header = read .ensures; long = p .0 .1; fits = told-fits (ofWidth (a .lanes .width)) (a .rec .now) (a .at / size (ofWidth (a .lanes .width))) (read .result) (read .ensures) (sym (c .before .before .before .before .before .before .enum-told3 .given .1) ∙ (rw (fault .before .shape-of .ensures) at (fault .fault-of .ensures))); some = c .before .before .before .before .if1 .left }, c .before .before .if2 .taken, p .0 .2)
+    (p .0 .0, record { header = read .ensures; long = p .0 .1; fits = told-fits (a .rec .now) (read .result) (read .ensures) (ofWidth (a .lanes .width)) (bare-told (a .rec .now) (read .result) (read .ensures) (a .lanes .width) (sym (c .before .before .before .before .before .before .enum-told3 .given .1) ∙ (rw (fault .before .shape-of .ensures) at (fault .fault-of .ensures)))); some = c .before .before .before .before .if1 .left }, c .before .before .if2 .taken, p .0 .2)
 
 same-length : tie.Need-same-length
 same-length c = search needs
@@ -107,7 +109,7 @@ returns-2 c =
     let p = s .pre in
     let add = c .before .before .before .before .add-data in (
       record {
-        faultless = told-sound (ofWidth (a .lanes .width)) (a .rec .now) (a .at / size (ofWidth (a .lanes .width))) (read .result) (read .ensures) (sym (c .before .before .before .before .before .before .before .before .before .before .before .enum-told3 .given .1) ∙ (rw (fault .before .shape-of .ensures) at (fault .fault-of .ensures)));
+        faultless = told-sound (ofWidth (a .lanes .width)) (a .rec .now) (a .at / size (ofWidth (a .lanes .width))) (bare-told (a .rec .now) (read .result) (read .ensures) (a .lanes .width) (sym (c .before .before .before .before .before .before .before .before .before .before .before .enum-told3 .given .1) ∙ (rw (fault .before .shape-of .ensures) at (fault .fault-of .ensures))));
         added =
             data-marked (a .lanes .width) (a .rec .now) (a .octets .now) (markBits (a .marks .now)) (a .table .now) (a .st) (add .last .1 .1 .1 .0) (add .last .1 .1 .1 .1 .0) (add .result)
             (length-marks (a .marks .now) ∙ p .1 .0) (p .1 .1) (add .ensures);
@@ -122,7 +124,7 @@ add-marked-requires c κs =
     let s = fault .before .before .before .before .before .before .before in
     let a = s .args in
     let p = s .pre in
-    ((record { header = read .ensures; long = p .0 .1; fits = told-fits (ofWidth (a .lanes .width)) (a .rec .now) (a .at / size (ofWidth (a .lanes .width))) (read .result) (read .ensures) (sym (c .before .before .before .before .before .before .before .enum-told3 .given .1) ∙ (rw (fault .before .shape-of .ensures) at (fault .fault-of .ensures))); some = c .before .before .before .before .before .if1 .left }, p .0 .2), p .1)
+    ((record { header = read .ensures; long = p .0 .1; fits = told-fits (a .rec .now) (read .result) (read .ensures) (ofWidth (a .lanes .width)) (bare-told (a .rec .now) (read .result) (read .ensures) (a .lanes .width) (sym (c .before .before .before .before .before .before .before .enum-told3 .given .1) ∙ (rw (fault .before .shape-of .ensures) at (fault .fault-of .ensures)))); some = c .before .before .before .before .before .if1 .left }, p .0 .2), p .1)
 
 returns-3 : tie.Need-returns-3
 returns-3 c =
@@ -131,7 +133,7 @@ returns-3 c =
     let s = fault .before .before .before .before .before .before .before in
     let a = s .args in
     let p = s .pre in
-    rw (c .record-size .ensures) (told-field (ofWidth (a .lanes .width)) (a .rec .now) (a .at / size (ofWidth (a .lanes .width))) (read .result) (read .ensures) (sym (c .before .enum-told .given .1) ∙ (rw (fault .before .shape-of .ensures) at (fault .fault-of .ensures))))
+    rw (c .record-size .ensures) (told-field (ofWidth (a .lanes .width)) (a .rec .now) (a .at / size (ofWidth (a .lanes .width))) (bare-told (a .rec .now) (read .result) (read .ensures) (a .lanes .width) (sym (c .before .enum-told .given .1) ∙ (rw (fault .before .shape-of .ensures) at (fault .fault-of .ensures)))))
 
 returns-4 : tie.Need-returns-4
 returns-4 c =
@@ -140,7 +142,7 @@ returns-4 c =
     let s = fault .before .before .before .before .before .before .before in
     let a = s .args in
     let p = s .pre in
-    rw (c .record-size2 .ensures) (told-reserved (ofWidth (a .lanes .width)) (a .rec .now) (a .at / size (ofWidth (a .lanes .width))) (read .result) (read .ensures) (sym (c .before .enum-told2 .given .1) ∙ (rw (fault .before .shape-of .ensures) at (fault .fault-of .ensures))))
+    rw (c .record-size2 .ensures) (told-reserved (ofWidth (a .lanes .width)) (a .rec .now) (a .at / size (ofWidth (a .lanes .width))) (bare-told (a .rec .now) (read .result) (read .ensures) (a .lanes .width) (sym (c .before .enum-told2 .given .1) ∙ (rw (fault .before .shape-of .ensures) at (fault .fault-of .ensures)))))
 
 same-length-3 : tie.Need-same-length-3
 same-length-3 c = search needs
@@ -158,7 +160,7 @@ returns-5 c =
     let s = fault .before .before .before .before .before .before .before in
     let a = s .args in
     let p = s .pre in
-    record { faultless = told-sound (ofWidth (a .lanes .width)) (a .rec .now) (a .at / size (ofWidth (a .lanes .width))) (read .result) (read .ensures) (sym (c .before .before .before .before .before .before .before .before .before .before .before .before .before .before .enum-told3 .given .1) ∙ (rw (fault .before .shape-of .ensures) at (fault .fault-of .ensures))); added = c .before .before .before .before .before .before .add-marked .ensures }
+    record { faultless = told-sound (ofWidth (a .lanes .width)) (a .rec .now) (a .at / size (ofWidth (a .lanes .width))) (bare-told (a .rec .now) (read .result) (read .ensures) (a .lanes .width) (sym (c .before .before .before .before .before .before .before .before .before .before .before .before .before .before .enum-told3 .given .1) ∙ (rw (fault .before .shape-of .ensures) at (fault .fault-of .ensures)))); added = c .before .before .before .before .before .before .add-marked .ensures }
 
 pub unusual-spec : {M : Type 1} → statement M
 unusual-spec =

@@ -36,12 +36,12 @@ usual-at-requires : tie.Need-usual-at-requires Inv-loop μ-loop
 usual-at-requires c κs =
     let l = c .before .loop in
     let a = c .before .before .before .before .before .before .before .args in
-    (omega (arith, reading-fits (a .lanes .width) (a .transfers .now) (l .octets) (l .table) (l .o) (l .at) (l .inv .reading) (c .loop-test .taken), size-holds (ofWidth (a .lanes .width))), l .inv .reading .pair)
+    (omega (arith, reading-fits (ofWidth (a .lanes .width)) (a .transfers .now) (l .octets) (l .table) (l .o) (l .at) (l .inv .reading) (c .loop-test .taken), size-holds (ofWidth (a .lanes .width))), l .inv .reading .pair)
 
 same-length : tie.Need-same-length Inv-loop μ-loop
 same-length c =
     let l = c .before .before .before .loop in
-    l .inv .reading .sameOctets ∙ sym (c .before .before .before .before .before .before .before .before .before .pre .2 .sameOctets)
+    l .inv .reading .sameItems ∙ sym (c .before .before .before .before .before .before .before .before .before .pre .2 .sameItems)
 
 same-length-2 : tie.Need-same-length-2 Inv-loop μ-loop
 same-length-2 c =
@@ -59,8 +59,8 @@ add-usual-requires c κs =
     let s = test .before .before .before .before .before .before .before in
     let a = s .args in
     let more = test .loop-test .taken in (
-      (s .pre .0, s .pre .1, reading-ready (a .lanes .width) (a .transfers .now) (l .octets) (l .table) (l .o) (l .at) (l .inv .reading) more),
-      (reading-fits (a .lanes .width) (a .transfers .now) (l .octets) (l .table) (l .o) (l .at) (l .inv .reading) more, told .ensures (not-false (told .result) (c .before .before .if1 .left))),
+      (s .pre .0, s .pre .1, reading-ready (ofWidth (a .lanes .width)) (a .transfers .now) (l .octets) (l .table) (l .o) (l .at) (l .inv .reading) more),
+      (reading-fits (ofWidth (a .lanes .width)) (a .transfers .now) (l .octets) (l .table) (l .o) (l .at) (l .inv .reading) more, told .ensures (not-false (told .result) (c .before .before .if1 .left))),
     )
 
 add-at : tie.Need-add-at Inv-loop μ-loop
@@ -68,14 +68,14 @@ add-at c =
     let test = c .before .before .before .before .before .before .before .before .before in
     let l = test .before .loop in
     let a = test .before .before .before .before .before .before .before .args in
-    omega (arith, test .before .before .record-size .ensures, reading-fits (a .lanes .width) (a .transfers .now) (l .octets) (l .table) (l .o) (l .at) (l .inv .reading) (test .loop-test .taken))
+    omega (arith, test .before .before .record-size .ensures, reading-fits (ofWidth (a .lanes .width)) (a .transfers .now) (l .octets) (l .table) (l .o) (l .at) (l .inv .reading) (test .loop-test .taken))
 
 loop-less : tie.Need-loop-less Inv-loop μ-loop
 loop-less c =
     let test = c .before .before .before .before .before .before .before .before .before in
     let l = test .before .loop in
     let a = test .before .before .before .before .before .before .before .args in
-    omega (arith, test .before .before .record-size .ensures, size-pos (ofWidth (a .lanes .width)), reading-fits (a .lanes .width) (a .transfers .now) (l .octets) (l .table) (l .o) (l .at) (l .inv .reading) (test .loop-test .taken))
+    omega (arith, test .before .before .record-size .ensures, size-pos (ofWidth (a .lanes .width)), reading-fits (ofWidth (a .lanes .width)) (a .transfers .now) (l .octets) (l .table) (l .o) (l .at) (l .inv .reading) (test .loop-test .taken))
 
 loop-again : tie.Need-loop-again Inv-loop μ-loop
 loop-again c =
@@ -92,13 +92,13 @@ loop-again c =
     (skimmed-next (a .lanes .width) (a .transfers .now) (a .octets .now) (a .table .now) (a .st) (a .from) (l .octets) (l .table) (l .o) (l .at) (l .inv)
     (add .last .1 .1 .1 .1 .0) (add .last .1 .1 .1 .1 .1 .0) (add .result) more
     (usual-faultless (a .lanes .width) (a .transfers .now) (l .octets) (l .table) (l .o) (l .at) (a .lanes .full) (λ i. omega (arith, known .shared-slice-known2 .given i))
-    (reading-fits (a .lanes .width) (a .transfers .now) (l .octets) (l .table) (l .o) (l .at) (l .inv .reading) more) (s .pre .0 .full) (reading-ready (a .lanes .width) (a .transfers .now) (l .octets) (l .table) (l .o) (l .at) (l .inv .reading) more) usual _)
+    (reading-fits (ofWidth (a .lanes .width)) (a .transfers .now) (l .octets) (l .table) (l .o) (l .at) (l .inv .reading) more) (s .pre .0 .full) (reading-ready (ofWidth (a .lanes .width)) (a .transfers .now) (l .octets) (l .table) (l .o) (l .at) (l .inv .reading) more) usual _)
     (add .ensures))
 
 same-length-3 : tie.Need-same-length-3 Inv-loop μ-loop
 same-length-3 c =
     let l = c .before .loop in
-    l .inv .reading .sameOctets ∙ sym (c .before .before .before .before .before .before .before .pre .2 .sameOctets)
+    l .inv .reading .sameItems ∙ sym (c .before .before .before .before .before .before .before .pre .2 .sameItems)
 
 same-length-4 : tie.Need-same-length-4 Inv-loop μ-loop
 same-length-4 c =
