@@ -1,4 +1,5 @@
--- A table, stretch by stretch: the octets of its packed form, and how many records they are. Assumes nothing.
+-- A table, stretch by stretch: the octets of its packed form, with any number m of user bits to a byte, and how many records they
+-- are. Assumes nothing.
 use lib.Dec.{eqb}
 use borrow.Author.Tests.{eqb-true, eqb-false}
 use mathlib.Core.Path.{_≡_, refl, sym, ap, _∙_}
@@ -24,16 +25,16 @@ use Rattle.repack_emit.specs.Emit.{headOf, packedFrom, Counts, countOf}
 
 -- ---- the loop over a table's stretches
 
-pub packed-more : (v : ℕ) (e : ℕ) (es codes : List ℕ) (rest : List ℕ)
-    → octets (packStretches v (stretchesOf (e ∷ es) codes)) ++ rest
-    ≡ stretchOctets v (pairFrom (entryPair e)) (take (entryCount e) codes) (odd (entryLast e))
-    ++ (octets (packStretches v (stretchesOf es (drop (entryCount e) codes))) ++ rest)
-packed-more v e es codes rest =
+pub packed-more : (m v : ℕ) (e : ℕ) (es codes : List ℕ) (rest : List ℕ)
+    → octets m (packStretches v (stretchesOf (e ∷ es) codes)) ++ rest
+    ≡ stretchOctets m v (pairFrom (entryPair e)) (take (entryCount e) codes) (odd (entryLast e))
+    ++ (octets m (packStretches v (stretchesOf es (drop (entryCount e) codes))) ++ rest)
+packed-more m v e es codes rest =
     ap (λ (l : List ℕ). l ++ rest)
-    (octets-append (packStretch v (stretchOf e (take (entryCount e) codes))) (packStretches v (stretchesOf es (drop (entryCount e) codes))))
+    (octets-append m (packStretch v (stretchOf e (take (entryCount e) codes))) (packStretches v (stretchesOf es (drop (entryCount e) codes))))
     ∙ rw (length-map (take (entryCount e) codes) keptOf)
-    (append-assoc (stretchOctets v (pairFrom (entryPair e)) (take (entryCount e) codes) (odd (entryLast e)))
-    (octets (packStretches v (stretchesOf es (drop (entryCount e) codes)))) rest)
+    (append-assoc (stretchOctets m v (pairFrom (entryPair e)) (take (entryCount e) codes) (odd (entryLast e)))
+    (octets m (packStretches v (stretchesOf es (drop (entryCount e) codes)))) rest)
 
 -- ---- counts
 
@@ -84,16 +85,16 @@ head-fits e h = record { pair = omega arith; last = omega arith }
 -- ---- the invariant over a table
 
 -- of the packed form the octets of the stretches from entry k on are to be written
-pub record Packing (v : ℕ) (items table out₀ out : List ℕ) (to from k : ℕ) : Type 0 where
+pub record Packing (m v : ℕ) (items table out₀ out : List ℕ) (to from k : ℕ) : Type 0 where
   pub within : k ≤ length table
   pub sum : from + total (drop k table) ≡ total table
-  pub writing : Writing out₀ out to (packedFrom v table items) (packedFrom v (drop k table) (drop from items))
+  pub writing : Writing out₀ out to (packedFrom m v table items) (packedFrom m v (drop k table) (drop from items))
 
-pub packing-starts : (v : ℕ) (items table out : List ℕ) → length (packedFrom v table items) ≤ length out → Packing v items table out out 0 0 0
-packing-starts v items table out r =
-    record { within = omega arith; sum = omega arith; writing = writing-start out (packedFrom v table items) r }
+pub packing-starts : (m v : ℕ) (items table out : List ℕ) → length (packedFrom m v table items) ≤ length out → Packing m v items table out out 0 0 0
+packing-starts m v items table out r =
+    record { within = omega arith; sum = omega arith; writing = writing-start out (packedFrom m v table items) r }
 
-module _ (v : ℕ) (items table out₀ out : List ℕ) (to from k : ℕ) (p : Packing v items table out₀ out to from k) where
+module _ (m v : ℕ) (items table out₀ out : List ℕ) (to from k : ℕ) (p : Packing m v items table out₀ out to from k) where
   module _ (h : k < length table) where
     abbrev entry : ℕ
     entry = getD table k 0
@@ -103,40 +104,40 @@ module _ (v : ℕ) (items table out₀ out : List ℕ) (to from k : ℕ) (p : Pa
     here = record { to = to; from = from; left = entryCount entry }
 
     abbrev later : List ℕ
-    later = packedFrom v (drop (k + 1) table) (drop (from + entryCount entry) items)
+    later = packedFrom m v (drop (k + 1) table) (drop (from + entryCount entry) items)
 
     pub total-step : total (drop k table) ≡ entryCount (getD table k 0) + total (drop (k + 1) table)
     total-step = rw (add-one k, drop-cons table k 0 h) refl
 
-    this-stretch : packedFrom v (drop k table) (drop from items) ≡ leftOctets v (headOf entry) items here ++ later
+    this-stretch : packedFrom m v (drop k table) (drop from items) ≡ leftOctets m v (headOf entry) items here ++ later
     this-stretch =
         rw (drop-cons table k 0 h, add-one k)
-        (sym (append-nil (packedFrom v (getD table k 0 ∷ drop (suc k) table) (drop from items)))
-        ∙ packed-more v (getD table k 0) (drop (suc k) table) (drop from items) []
+        (sym (append-nil (packedFrom m v (getD table k 0 ∷ drop (suc k) table) (drop from items)))
+        ∙ packed-more m v (getD table k 0) (drop (suc k) table) (drop from items) []
         ∙ rw (drop-drop (entryCount (getD table k 0)) from items)
-        (ap (λ (l : List ℕ). leftOctets v (headOf entry) items here ++ l)
-        (append-nil (packedFrom v (drop (suc k) table) (drop (from + entryCount (getD table k 0)) items)))))
+        (ap (λ (l : List ℕ). leftOctets m v (headOf entry) items here ++ l)
+        (append-nil (packedFrom m v (drop (suc k) table) (drop (from + entryCount (getD table k 0)) items)))))
 
     pub packing-fits : (octets : List ℕ) → 1 ≤ v → v ≤ 16 → total table + 32 ≤ length octets
-        → StretchFits v (headOf (getD table k 0)) octets items out (record { to = to; from = from; left = entryCount (getD table k 0) })
+        → StretchFits m v (headOf (getD table k 0)) octets items out (record { to = to; from = from; left = entryCount (getD table k 0) })
     packing-fits octets low high long =
         record {
           low = low;
           high = high;
           held = omega (arith, p .sum, total-step, long);
-          room = omega (arith, p .writing .room, ap length this-stretch, length-append (leftOctets v (headOf entry) items here) later);
+          room = omega (arith, p .writing .room, ap length this-stretch, length-append (leftOctets m v (headOf entry) items here) later);
         }
 
     pub packing-next : (after : List ℕ) (next : ℕ)
-        → StretchPut v (headOf (getD table k 0)) items out (record { to = to; from = from; left = entryCount (getD table k 0) }) after next
-        → Packing v items table out₀ after next (from + entryCount (getD table k 0)) (k + 1)
+        → StretchPut m v (headOf (getD table k 0)) items out (record { to = to; from = from; left = entryCount (getD table k 0) }) after next
+        → Packing m v items table out₀ after next (from + entryCount (getD table k 0)) (k + 1)
     packing-next after next put =
         record {
           within = omega arith;
           sum = omega (arith, p .sum, total-step);
-          writing = put .writes out₀ (packedFrom v table items) later (writing-as out₀ out (packedFrom v table items) (packedFrom v (drop k table) (drop from items)) (leftOctets v (headOf entry) items here ++ later) to this-stretch (p .writing));
+          writing = put .writes out₀ (packedFrom m v table items) later (writing-as out₀ out (packedFrom m v table items) (packedFrom m v (drop k table) (drop from items)) (leftOctets m v (headOf entry) items here ++ later) to this-stretch (p .writing));
         }
 
   -- nothing is left: the packed form, and behind it the memory as it was
-  pub packing-done : length table ≤ k → out ≡ inFront (packedFrom v table items) out₀
-  packing-done h = writing-end out₀ out (packedFrom v table items) to (rw (drop-of-length-le table h) at (p .writing))
+  pub packing-done : length table ≤ k → out ≡ inFront (packedFrom m v table items) out₀
+  packing-done h = writing-end out₀ out (packedFrom m v table items) to (rw (drop-of-length-le table h) at (p .writing))

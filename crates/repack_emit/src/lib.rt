@@ -1,5 +1,6 @@
-// Writes the packed form of a table's stretches, stretch by stretch, where the output has room for it: ROOM is refused here,
-// before anything is written. One stretch is repack_plain's where no item of the take is marked, and else repack_marked's.
+// Writes the packed form of a table's stretches without user bits, stretch by stretch, where the output has room for it: ROOM is
+// refused here, before anything is written. One stretch is repack_plain's where no item of the take is marked, and else
+// repack_marked's.
 use refusal::Refusal;
 use repack_plain::Cursor;
 use repack_plain::Head;
@@ -47,8 +48,8 @@ fn counted(n: u32, v: u32, few: &[u32]) -> u32
     records_of(n, v)
 }
 
-// How many records all stretches of a table give.
-fn count(table: &[u32], v: u32) -> usize
+// How many records all stretches of a table give, with user bits or without.
+pub fn count(table: &[u32], v: u32) -> usize
     requires { ⌜ (0 < v) × (length (now table) ≤ stretchRoom) ⌝ }
     ensures { λ r. ⌜ (r ≡ countOf v (now (table .entry))) × (r ≤ 0x10000 * stretchRoom) ⌝ }
 {
@@ -64,7 +65,7 @@ fn count(table: &[u32], v: u32) -> usize
 }
 
 // The pair and the end of an entry's stretch.
-fn head_of(e: u32) -> Head
+pub fn head_of(e: u32) -> Head
     ensures { λ r. ⌜ r ≡ headOf e ⌝ }
 {
     Head {
@@ -84,8 +85,8 @@ fn put_stretch(
     e: u32,
     v: usize,
 ) -> usize
-    requires { ⌜ Held plain (now octets) (now marks) × StretchFits v (headOf e) (now octets) (codesIn (now octets) (now marks)) (now out) c ⌝ }
-    ensures { λ r. ⌜ StretchPut v (headOf e) (codesIn (now (octets .entry)) (now (marks .entry))) (now (out .entry)) c (now (out .exit)) r ⌝ }
+    requires { ⌜ Held plain (now octets) (now marks) × StretchFits 0 v (headOf e) (now octets) (codesIn (now octets) (now marks)) (now out) c ⌝ }
+    ensures { λ r. ⌜ StretchPut 0 v (headOf e) (codesIn (now (octets .entry)) (now (marks .entry))) (now (out .entry)) c (now (out .exit)) r ⌝ }
 {
     let head = head_of(e);
     if plain {
@@ -96,8 +97,8 @@ fn put_stretch(
 
 // Writes the records of all stretches of a table.
 fn put_all(out: &mut [u8], octets: &[u8], marks: &[u8], plain: bool, table: &[u32], v: usize)
-    requires { ⌜ TableFits v plain (now octets) (now marks) (now table) × (length (packedFrom v (now table) (codesIn (now octets) (now marks))) ≤ length (now out)) ⌝ }
-    ensures { λ _. ⌜ now (out .exit) ≡ inFront (packedFrom v (now (table .entry)) (codesIn (now (octets .entry)) (now (marks .entry)))) (now (out .entry)) ⌝ }
+    requires { ⌜ TableFits v plain (now octets) (now marks) (now table) × (length (packedFrom 0 v (now table) (codesIn (now octets) (now marks))) ≤ length (now out)) ⌝ }
+    ensures { λ _. ⌜ now (out .exit) ≡ inFront (packedFrom 0 v (now (table .entry)) (codesIn (now (octets .entry)) (now (marks .entry)))) (now (out .entry)) ⌝ }
 {
     let mut to = 0;
     let mut from = 0;
@@ -127,7 +128,7 @@ pub fn emit(
     v: usize,
 ) -> Written
     requires { ⌜ TableFits v plain (now octets) (now marks) (now table) × (length (now table) ≤ stretchRoom) ⌝ }
-    ensures { λ r. ⌜ Emitted v (codesIn (now (octets .entry)) (now (marks .entry))) (now (table .entry)) (now (out .entry)) (now (out .exit)) r ⌝ }
+    ensures { λ r. ⌜ Emitted 0 v (codesIn (now (octets .entry)) (now (marks .entry))) (now (table .entry)) (now (out .entry)) (now (out .exit)) r ⌝ }
 {
     let n = count(table, v as u32);
     if out.len() < n * repack_scratch::record_size(v) {

@@ -21,10 +21,10 @@ inside head = record { pair = head .pair; last = 0 }
 -- of the stretch from a cursor on, `left` items from item `from` on are to be written, at octet `to`
 pub record Going (v : ℕ) (head : Head) (codes out₀ : List ℕ) (c : Cursor) (out : List ℕ) (to from left : ℕ) : Type 0 where
   pub end : from + left ≡ c .from + c .left
-  pub stretching : Stretching v (pairFrom (head .pair)) (odd (head .last)) codes out₀ (c .to) (leftOctets v head codes c) out to from left
+  pub stretching : Stretching 0 v (pairFrom (head .pair)) (odd (head .last)) codes out₀ (c .to) (leftOctets 0 v head codes c) out to from left
 
 module _ (v : ℕ) (head : Head) (octets marks out₀ : List ℕ) (c : Cursor) (h : HeadFits head)
-    (fits : StretchFits v head octets (codesIn octets marks) out₀ c) (m : length octets ≡ 8 * length marks) where
+    (fits : StretchFits 0 v head octets (codesIn octets marks) out₀ c) (m : length octets ≡ 8 * length marks) where
   abbrev codes : List ℕ
   codes = codesIn octets marks
 
@@ -37,7 +37,7 @@ module _ (v : ℕ) (head : Head) (octets marks out₀ : List ℕ) (c : Cursor) (
       record {
         end = refl;
         stretching =
-            stretching-starts v (pairFrom (head .pair)) (odd (head .last)) codes out₀ (c .to) (c .from) (c .left)
+            stretching-starts 0 v (pairFrom (head .pair)) (odd (head .last)) codes out₀ (c .to) (c .from) (c .left)
             (omega (arith, fits .held, codes-long)) (fits .room);
       }
 
@@ -61,7 +61,7 @@ module _ (v : ℕ) (head : Head) (octets marks out₀ : List ℕ) (c : Cursor) (
 
       pub full-room : to + size (ofWidth v) ≤ length out
       full-room =
-          stretching-room v (pairFrom (head .pair)) (odd (head .last)) codes out₀ (c .to) (leftOctets v head codes c) out to from left (fits .low)
+          stretching-room 0 v (pairFrom (head .pair)) (odd (head .last)) codes out₀ (c .to) (leftOctets 0 v head codes c) out to from left (fits .low)
           (g .stretching) more
 
       pub full-next : (after : List ℕ) (r : ℕ) → RecordPut v (inside head) codes out (record { to = to; from = from; left = v }) after r
@@ -70,7 +70,7 @@ module _ (v : ℕ) (head : Head) (octets marks out₀ : List ℕ) (c : Cursor) (
           record {
             end = omega (arith, g .end);
             stretching =
-                stretching-next v (pairFrom (head .pair)) (odd (head .last)) codes out₀ (c .to) (leftOctets v head codes c) out to from left (fits .low)
+                stretching-next 0 v (pairFrom (head .pair)) (odd (head .last)) codes out₀ (c .to) (leftOctets 0 v head codes c) out to from left (fits .low)
                 (g .stretching) more after r (p .next) (p .same) (p .writes);
           }
 
@@ -82,15 +82,15 @@ module _ (v : ℕ) (head : Head) (octets marks out₀ : List ℕ) (c : Cursor) (
 
       pub last-room : to + size (ofWidth v) ≤ length out
       last-room =
-          stretching-last-room v (pairFrom (head .pair)) (odd (head .last)) codes out₀ (c .to) (leftOctets v head codes c) out to from left (fits .low)
+          stretching-last-room 0 v (pairFrom (head .pair)) (odd (head .last)) codes out₀ (c .to) (leftOctets 0 v head codes c) out to from left (fits .low)
           (g .stretching) few
 
       pub last-done : (after : List ℕ) (r : ℕ) → RecordPut v head codes out (record { to = to; from = from; left = left }) after r
-          → StretchPut v head codes out₀ c after r
+          → StretchPut 0 v head codes out₀ c after r
       last-done after r p =
           record {
             same = p .same ∙ g .stretching .same;
             writes =
-                stretching-done v (pairFrom (head .pair)) (odd (head .last)) codes out₀ (c .to) (leftOctets v head codes c) out to from left (fits .low)
+                stretching-done 0 v (pairFrom (head .pair)) (odd (head .last)) codes out₀ (c .to) (leftOctets 0 v head codes c) out to from left (fits .low)
                 (g .stretching) few after r (p .writes);
           }

@@ -1,4 +1,4 @@
--- What is written of one record whose items may be marked.
+-- What is written of one record without user bits whose items may be marked.
 use mathlib.Core.Path.{_≡_}
 use mathlib.Core.List.{List, _++_}
 use Prim.Native.Nat.{ℕ, _+_, _*_, _≤_}
@@ -31,4 +31,4 @@ pub record RecordFits (v : ℕ) (head : Head) (octets marks : List ℕ) (from n 
 pub record RecordPut (v : ℕ) (head : Head) (codes out : List ℕ) (c : Cursor) (after : List ℕ) (r : ℕ) : Type 0 where
   pub next : r ≡ c .to + size (ofWidth v)
   pub same : length after ≡ length out
-  pub writes : Writes (recordAt v (head .pair) (head .last) codes (c .from) (c .left)) out (c .to) after r
+  pub writes : Writes (recordAt 0 v (head .pair) (head .last) codes (c .from) (c .left)) out (c .to) after r

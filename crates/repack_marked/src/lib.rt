@@ -1,5 +1,6 @@
-// Writes a stretch of a take with position items: a record near which no mark stands is written as one of data, any other
-// lane by lane. Stretches of takes without a mark are repack_plain's, and which stretches there are repack_emit's.
+// Writes a stretch of a take with position items but without user bits: a record near which no mark stands is written as one
+// of data, any other lane by lane. Stretches of takes without a mark are repack_plain's, and which stretches there are
+// repack_emit's.
 use repack_plain::Cursor;
 use repack_plain::Head;
 use stream_record::layout::HEAD_OCTETS;
@@ -67,7 +68,7 @@ fn put_lanes(
     head: Head,
 )
     requires { ⌜ RecordFits v head (now octets) (now marks) from n × (size (ofWidth v) ≤ length (now out)) ⌝ }
-    ensures { λ _. ⌜ now (out .exit) ≡ recordAt v (head .pair) (head .last) (codesIn (now (octets .entry)) (now (marks .entry))) from n ++ drop (size (ofWidth v)) (now (out .entry)) ⌝ }
+    ensures { λ _. ⌜ now (out .exit) ≡ recordAt 0 v (head .pair) (head .last) (codesIn (now (octets .entry)) (now (marks .entry))) from n ++ drop (size (ofWidth v)) (now (out .entry)) ⌝ }
 {
     let strb = put_items(out, octets, marks, from, n);
     stream_write::write_nulls(out, n, v);
@@ -92,7 +93,7 @@ fn put_record(
     head: Head,
 )
     requires { ⌜ RecordFits v head (now octets) (now marks) from n × (size (ofWidth v) ≤ length (now out)) ⌝ }
-    ensures { λ _. ⌜ now (out .exit) ≡ recordAt v (head .pair) (head .last) (codesIn (now (octets .entry)) (now (marks .entry))) from n ++ drop (size (ofWidth v)) (now (out .entry)) ⌝ }
+    ensures { λ _. ⌜ now (out .exit) ≡ recordAt 0 v (head .pair) (head .last) (codesIn (now (octets .entry)) (now (marks .entry))) from n ++ drop (size (ofWidth v)) (now (out .entry)) ⌝ }
 {
     if unmarked_near(marks, from) {
         stream_write::write_data_header(out, head.last, head.pair, n);
@@ -122,8 +123,8 @@ pub fn put_stretch(
     v: usize,
     head: Head,
 ) -> usize
-    requires { ⌜ HeadFits head × StretchFits v head (now octets) (codesIn (now octets) (now marks)) (now out) c × (length (now octets) ≡ 8 * length (now marks)) ⌝ }
-    ensures { λ r. ⌜ StretchPut v head (codesIn (now (octets .entry)) (now (marks .entry))) (now (out .entry)) c (now (out .exit)) r ⌝ }
+    requires { ⌜ HeadFits head × StretchFits 0 v head (now octets) (codesIn (now octets) (now marks)) (now out) c × (length (now octets) ≡ 8 * length (now marks)) ⌝ }
+    ensures { λ r. ⌜ StretchPut 0 v head (codesIn (now (octets .entry)) (now (marks .entry))) (now (out .entry)) c (now (out .exit)) r ⌝ }
 {
     let mut to = c.to;
     let mut from = c.from;

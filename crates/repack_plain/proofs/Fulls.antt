@@ -1,4 +1,4 @@
--- The full records of a stretch of data, each written at its place: the laws of the loops that write them. Assumes nothing.
+-- The full records of a stretch of data without user bits, each written at its place: the laws of the loops that write them. Assumes nothing.
 use mathlib.Core.Path.{_≡_, refl, sym, ap, _∙_}
 use mathlib.Core.Bool.{Bool, false}
 use mathlib.Core.List.{List, _∷_, _++_, map}
@@ -41,10 +41,10 @@ lent-codes octets from = ap (map dataCode) (lent-rest octets from) ∙ sym (map-
 
 -- the octets of a stretch are as many with TLAST as without
 any-last : (v : ℕ) (pair : ℕ) (codes : List ℕ) (last last′ : Bool)
-    → length (stretchOctets v (pairFrom pair) codes last) ≡ length (stretchOctets v (pairFrom pair) codes last′)
+    → length (stretchOctets 0 v (pairFrom pair) codes last) ≡ length (stretchOctets 0 v (pairFrom pair) codes last′)
 any-last v pair codes last last′ = long last ∙ sym (long last′)
   where
-    long : (b : Bool) → length (stretchOctets v (pairFrom pair) codes b) ≡ suc ((length codes - 1) / v) * size (ofWidth v)
+    long : (b : Bool) → length (stretchOctets 0 v (pairFrom pair) codes b) ≡ suc ((length codes - 1) / v) * size (ofWidth v)
     long b =
         length-octets (ofWidth v) (spread ((length codes - 1) / v) v (pairFrom pair) (map some (map keptOf codes)) b)
         (wide-spread ((length codes - 1) / v) v (pairFrom pair) (map some (map keptOf codes)) b)
@@ -52,7 +52,7 @@ any-last v pair codes last last′ = long last ∙ sym (long last′)
 
 -- a stretch that has room, whether or not TLAST is at its end
 pub fitting : (v : ℕ) (pair : ℕ) (octets out : List ℕ) (c : Cursor) (last : Bool) → c .from + c .left + 32 ≤ length octets
-    → c .to + length (stretchOctets v (pairFrom pair) (take (c .left) (drop (c .from) (map dataCode octets))) last) ≤ length out
+    → c .to + length (stretchOctets 0 v (pairFrom pair) (take (c .left) (drop (c .from) (map dataCode octets))) last) ≤ length out
     → Fitting v pair octets out c
 fitting v pair octets out c last h r =
     record {
@@ -71,21 +71,21 @@ module _ (v : ℕ) (pair : ℕ) (octets out : List ℕ) (c : Cursor) (now : List
 
   -- the octets of the stretch from its first cursor on
   abbrev all : Bool → List ℕ
-  all last = stretchOctets v (pairFrom pair) (take (c .left) (drop (c .from) codes)) last
+  all last = stretchOctets 0 v (pairFrom pair) (take (c .left) (drop (c .from) codes)) last
 
   stretching : (last : Bool)
-      → Stretching v (pairFrom pair) last codes out (c .to) (all last) now (r .to) (r .from) (r .left)
+      → Stretching 0 v (pairFrom pair) last codes out (c .to) (all last) now (r .to) (r .from) (r .left)
   stretching last =
       record { within = omega (arith, a .fits .held, length-map octets dataCode); same = a .same; room = a .fits .room last; writes = a .writes last }
 
   -- one record more, that is full: there is room for it, and then as many items are left less
   module _ (h : v < r .left) where
     abbrev full : List ℕ
-    full = octetsOf (recordOf v (pairFrom pair) (take v (drop (r .from) codes)) false)
+    full = octetsOf 0 (recordOf v (pairFrom pair) (take v (drop (r .from) codes)) false)
 
     pub full-room : r .to + size (ofWidth v) ≤ length now
     full-room =
-        stretching-room v (pairFrom pair) false codes out (c .to) (all false) now (r .to) (r .from) (r .left) pos (stretching false) h
+        stretching-room 0 v (pairFrom pair) false codes out (c .to) (all false) now (r .to) (r .from) (r .left) pos (stretching false) h
 
     -- it is written in what is lent from its place on
     pub full-written : (z : ℕ) → z ≡ size (ofWidth v) → (part : List ℕ) → part ≡ full ++ drop z (lent now (r .to))
@@ -100,7 +100,7 @@ module _ (v : ℕ) (pair : ℕ) (octets out : List ℕ) (c : Cursor) (now : List
         })
       where
         sized : length full ≡ z
-        sized = record-long v (pairFrom pair) (take v (drop (r .from) codes)) false ∙ sym e
+        sized = record-long 0 v (pairFrom pair) (take v (drop (r .from) codes)) false ∙ sym e
 
         there : r .to + z ≤ length now
         there = omega (arith, e, full-room)
@@ -109,31 +109,31 @@ module _ (v : ℕ) (pair : ℕ) (octets out : List ℕ) (c : Cursor) (now : List
         long = lent-long now full (r .to) z sized there (length now - r .to) refl
 
         next : (last : Bool)
-            → Stretching v (pairFrom pair) last codes out (c .to) (all last)
+            → Stretching 0 v (pairFrom pair) last codes out (c .to) (all last)
             (lentBack now (r .to) (full ++ drop z (lent now (r .to)))) (r .to + z) (r .from + v) (r .left - v)
         next last =
-            stretching-next v (pairFrom pair) last codes out (c .to) (all last) now (r .to) (r .from) (r .left) pos (stretching last) h
+            stretching-next 0 v (pairFrom pair) last codes out (c .to) (all last) now (r .to) (r .from) (r .left) pos (stretching last) h
             (lentBack now (r .to) (full ++ drop z (lent now (r .to)))) (r .to + z) (omega (arith, e)) long
             (lent-writes now full (r .to) z sized there (length now - r .to) refl)
 
   -- the last record
   module _ (h : r .left ≤ v) (last : Bool) where
     abbrev ending : List ℕ
-    ending = octetsOf (recordOf v (pairFrom pair) (take (r .left) (drop (r .from) codes)) last)
+    ending = octetsOf 0 (recordOf v (pairFrom pair) (take (r .left) (drop (r .from) codes)) last)
 
     pub last-room : r .to + size (ofWidth v) ≤ length now
     last-room =
-        stretching-last-room v (pairFrom pair) last codes out (c .to) (all last) now (r .to) (r .from) (r .left) pos (stretching last) h
+        stretching-last-room 0 v (pairFrom pair) last codes out (c .to) (all last) now (r .to) (r .from) (r .left) pos (stretching last) h
 
     pub last-written : (z : ℕ) → z ≡ size (ofWidth v) → (part : List ℕ) → part ≡ ending ++ drop z (lent now (r .to))
         → (length (lentBack now (r .to) part) ≡ length out)
         × Writes (all last) out (c .to) (lentBack now (r .to) part) (r .to + z)
     last-written z e part f =
-        let sized : length ending ≡ z = record-long v (pairFrom pair) (take (r .left) (drop (r .from) codes)) last ∙ sym e in
+        let sized : length ending ≡ z = record-long 0 v (pairFrom pair) (take (r .left) (drop (r .from) codes)) last ∙ sym e in
         let there : r .to + z ≤ length now = omega (arith, e, last-room) in
         rw f (
           lent-long now ending (r .to) z sized there (length now - r .to) refl ∙ a .same,
-          stretching-done v (pairFrom pair) last codes out (c .to) (all last) now (r .to) (r .from) (r .left) pos (stretching last) h
+          stretching-done 0 v (pairFrom pair) last codes out (c .to) (all last) now (r .to) (r .from) (r .left) pos (stretching last) h
               (lentBack now (r .to) (ending ++ drop z (lent now (r .to)))) (r .to + z) (lent-writes now ending (r .to) z sized there (length now - r .to) refl),
         )
 
@@ -141,6 +141,6 @@ module _ (v : ℕ) (pair : ℕ) (octets out : List ℕ) (c : Cursor) (now : List
 
 pub one-written : (pair d : ℕ) (octets tail : List ℕ) (from : ℕ) → pair < 0x10000 → from < length octets → d ≡ getD octets from 0 → d < 256
     → headerOctets 0 (pair % 256) (pair / 256) 1 1 ++ (d ∷ tail)
-    ≡ octetsOf (recordOf 1 (pairFrom pair) (take 1 (drop from (map dataCode octets))) false) ++ tail
+    ≡ octetsOf 0 (recordOf 1 (pairFrom pair) (take 1 (drop from (map dataCode octets))) false) ++ tail
 one-written pair d octets tail from p h e b =
     rw (map-drop dataCode from octets, drop-cons octets from 0 h, ← e) (rw (data-octet d b, data-strobe d b) refl)

@@ -25,7 +25,7 @@ pub octet-is : (x : ℕ) → x % 256 * (x / 256 % 2) ≡ itemOctet x
 unfolding keptOf
 octet-is x = go (eqb (x / 256 % 2) 1) refl
   where
-    go : (b : Bool) → eqb (x / 256 % 2) 1 ≡ b → x % 256 * (x / 256 % 2) ≡ laneOctet (some (cond (eqb (x / 256 % 2) 1) (octet (x % 256)) position))
+    go : (b : Bool) → eqb (x / 256 % 2) 1 ≡ b → x % 256 * (x / 256 % 2) ≡ laneOctet (some (cond (eqb (x / 256 % 2) 1) (octet (x % 256) (x / 512)) (position (x / 512))))
     go true e = rw e (let one : x / 256 % 2 ≡ 1 = eqb-true (x / 256 % 2) 1 e in rw one (omega arith))
     go false e =
         rw e
@@ -37,7 +37,7 @@ pub strobe-is : (x : ℕ) → x / 256 % 2 ≡ bitOf (itemStrobe x)
 unfolding keptOf
 strobe-is x = go (eqb (x / 256 % 2) 1) refl
   where
-    go : (b : Bool) → eqb (x / 256 % 2) 1 ≡ b → x / 256 % 2 ≡ bitOf (strbBit (some (cond (eqb (x / 256 % 2) 1) (octet (x % 256)) position)))
+    go : (b : Bool) → eqb (x / 256 % 2) 1 ≡ b → x / 256 % 2 ≡ bitOf (strbBit (some (cond (eqb (x / 256 % 2) 1) (octet (x % 256) (x / 512)) (position (x / 512)))))
     go true e = rw e (eqb-true (x / 256 % 2) 1 e)
     go false e = rw e (let low : x / 256 % 2 ≡ 1 → ⊥ = eqb-false (x / 256 % 2) 1 e in omega arith)
 

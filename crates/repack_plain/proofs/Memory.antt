@@ -1,6 +1,7 @@
--- The octets of one record, as its parts are written one after the other. Assumes nothing.
+-- The octets of one record without user bits, as its parts are written one after the other. Assumes nothing.
 use mathlib.Core.Path.{_≡_, refl, sym, ap, _∙_, subst}
 use mathlib.Core.List.{List, _∷_, _++_, map, append-assoc}
+use mathlib.Core.Option.{some}
 use Prim.Native.Nat.{ℕ, zero, suc, _+_, _-_, _/_, _%_, _^_, _≤_, _<_}
 use native.Mathlib.Omega.{arith}
 use lib.ListN.{length, getD, take, drop, replicate, length-append, length-map}
@@ -8,10 +9,12 @@ use lib.Seq.{take-at, drop-at, drop-drop, drop-append-add, length-take-le}
 use Rattle.words.specs.Splice.{splice}
 use Rattle.words.specs.Words.{padded}
 use Rattle.words.proofs.Words.{length-padded}
+use Rattle.stream_spec.specs.Packed.{fitted}
 use Rattle.stream_spec.specs.Layout.{size, odd, bitOf, maskOf, octetsOf, ofWidth}
-use Rattle.stream_spec.proofs.Size.{size-is}
+use Rattle.stream_spec.proofs.Bare.{bare-octets}
+use Rattle.stream_spec.proofs.Size.{size-bare}
 use Rattle.stream_write.specs.Write.{headerOctets}
-use Rattle.repack_scratch.specs.Codes.{dataCode, pairFrom}
+use Rattle.repack_scratch.specs.Codes.{dataCode, keptOf, pairFrom}
 use Rattle.repack_plain.specs.Write.{itemOctet, itemStrobe, recordOf}
 use Rattle.repack_plain.proofs.Lanes.{lanes-octets, lanes-strb, lanes-keep, data-octets, data-strb}
 
@@ -61,10 +64,10 @@ last-bit (suc (suc n)) h = absurd (omega arith)
 pub record-octets : (v : ℕ) (pair last : ℕ) (codes tail : List ℕ) → length codes ≤ v → pair < 0x10000 → last ≤ 1
     → headerOctets (last % 256) (pair % 256) (pair / 256 % 256) (2 ^ length codes - 1) (maskOf (map itemStrobe codes))
     ++ (map itemOctet codes ++ (replicate {A = ℕ} (v - length codes) 0 ++ tail))
-    ≡ octetsOf (recordOf v (pairFrom pair) codes (odd last)) ++ tail
+    ≡ octetsOf 0 (recordOf v (pairFrom pair) codes (odd last)) ++ tail
 record-octets v pair last codes tail h p l =
     let high : pair / 256 % 256 ≡ pair / 256 = omega arith in
-    rw (lanes-keep v codes h, lanes-strb v codes h, lanes-octets v codes h, last-bit last l, high)
+    rw (bare-octets (fitted v (map some (map keptOf codes))), lanes-keep v codes h, lanes-strb v codes h, lanes-octets v codes h, last-bit last l, high)
     (rw (append-assoc (map itemOctet codes) (replicate {A = ℕ} (v - length codes) 0) tail) refl)
 
 -- what the three writes of a record come to
@@ -74,11 +77,11 @@ pub record-written : (v : ℕ) (out out1 out2 out3 items : List ℕ) (n pair las
     → out1 ≡ take 7 out ++ (map itemOctet (take n items) ++ drop (7 + n) out)
     → out2 ≡ take (7 + n) out1 ++ (replicate {A = ℕ} (v - n) 0 ++ drop (7 + v) out1)
     → out3 ≡ headerOctets (last % 256) (pair % 256) (pair / 256 % 256) keep strb ++ drop 7 out2
-    → out3 ≡ octetsOf (recordOf v (pairFrom pair) (take n items) (odd last)) ++ drop (size (ofWidth v)) out
+    → out3 ≡ octetsOf 0 (recordOf v (pairFrom pair) (take n items) (odd last)) ++ drop (size (ofWidth v)) out
 record-written v out out1 out2 out3 items n pair last keep strb k i h p l ke se e f g =
     let long : length (take n items) ≡ n = length-take-le n items i in
-    let room : 7 + v ≤ length out = omega (arith, size-is (ofWidth v)) in
-    rw (size-is (ofWidth v))
+    let room : 7 + v ≤ length out = omega (arith, size-bare v) in
+    rw (size-bare v)
     (three-writes out (map itemOctet (take n items)) (replicate {A = ℕ} (v - n) 0) (headerOctets (last % 256) (pair % 256) (pair / 256 % 256) keep strb)
     n v k (length-map (take n items) itemOctet ∙ long) room out1 out2 out3 e f g
     ∙ rw (ke, se)
@@ -86,7 +89,7 @@ record-written v out out1 out2 out3 items n pair last keep strb k i h p l ke se 
     (λ (m : ℕ).
     headerOctets (last % 256) (pair % 256) (pair / 256 % 256) (2 ^ m - 1) (maskOf (map itemStrobe (take n items)))
     ++ (map itemOctet (take n items) ++ (replicate {A = ℕ} (v - m) 0 ++ drop (7 + v) out))
-    ≡ octetsOf (recordOf v (pairFrom pair) (take n items) (odd last)) ++ drop (7 + v) out)
+    ≡ octetsOf 0 (recordOf v (pairFrom pair) (take n items) (odd last)) ++ drop (7 + v) out)
     long (record-octets v pair last (take n items) (drop (7 + v) out) (omega arith) p l)))
 
 -- what the two writes of a record with data alone come to
@@ -94,7 +97,7 @@ pub plain-written : (v : ℕ) (out out1 out2 ds : List ℕ) (n pair last : ℕ) 
     → pair < 0x10000 → last ≤ 1 → ((i : ℕ) → getD ds i 0 < 256)
     → out1 ≡ headerOctets last (pair % 256) (pair / 256) (2 ^ n - 1) (2 ^ n - 1) ++ (0 ∷ drop 8 out)
     → out2 ≡ splice 7 (padded v n ds) out1
-    → out2 ≡ octetsOf (recordOf v (pairFrom pair) (take n (map dataCode ds)) (odd last)) ++ drop (size (ofWidth v)) out
+    → out2 ≡ octetsOf 0 (recordOf v (pairFrom pair) (take n (map dataCode ds)) (odd last)) ++ drop (size (ofWidth v)) out
 plain-written v out out1 out2 ds n pair last k w d p l b e f =
     let long : length (take n (map dataCode ds)) ≡ n = length-take-le n (map dataCode ds) (omega (arith, length-map ds dataCode)) in
     let low : last % 256 ≡ last = omega arith in
@@ -106,7 +109,7 @@ plain-written v out out1 out2 ds n pair last k w d p l b e f =
     let rest : drop v (0 ∷ drop 8 out) ≡ drop (7 + v) out =
     ap (λ (m : ℕ). drop m (0 ∷ drop 8 out)) one ∙ drop-drop (v - 1) 8 out ∙ rw there refl in
     let back : drop (7 + v) (hdr ++ (0 ∷ drop 8 out)) ≡ drop (7 + v) out = drop-append-add hdr (0 ∷ drop 8 out) v ∙ rest in
-    f ∙ rw (size-is (ofWidth v), e, length-padded v n ds, back, data-octets v n ds b k (omega arith))
+    f ∙ rw (size-bare v, e, length-padded v n ds, back, data-octets v n ds b k (omega arith))
     (ap (λ (xs : List ℕ). hdr ++ xs) (append-assoc octs (replicate {A = ℕ} (v - n) 0) (drop (7 + v) out))
     ∙ (rw (low, high, data-strb n ds b (omega arith), long) at
     (record-octets v pair last (take n (map dataCode ds)) (drop (7 + v) out) (omega (arith, long)) p l)))

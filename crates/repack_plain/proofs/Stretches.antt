@@ -1,4 +1,4 @@
--- A stretch, record by record. Assumes nothing.
+-- A stretch, record by record, with any number m of user bits to a byte. Assumes nothing.
 use mathlib.Core.Path.{_≡_, refl, sym, ap, _∙_, subst}
 use mathlib.Core.Bool.{Bool, false}
 use mathlib.Core.List.{List, [], _∷_, _++_, map, append-assoc, append-nil}
@@ -11,7 +11,7 @@ use lib.ListN.{length, take, drop, length-append, length-drop}
 use lib.Seq.{take-take, take-nil, drop-drop, length-take-le}
 use Rattle.stream_spec.specs.Items.{Pair}
 use Rattle.stream_spec.specs.Packed.{fitted}
-use Rattle.stream_spec.specs.Layout.{size, octetsOf, ofWidth}
+use Rattle.stream_spec.specs.Layout.{size, shaped, octetsOf}
 use Rattle.stream_spec.proofs.Pack.{length-fitted}
 use Rattle.stream_spec.proofs.Records.{octets-sized}
 use Rattle.repack_scratch.specs.Codes.{keptOf}
@@ -38,10 +38,10 @@ fitted-take (suc v) (x ∷ xs) = ap (λ l. some (keptOf x) ∷ l) (fitted-take v
 
 -- ---- the records of a stretch
 
-module _ (v : ℕ) (pair : Pair) (codes : List ℕ) (last : Bool) (pos : 0 < v) where
+module _ (m v : ℕ) (pair : Pair) (codes : List ℕ) (last : Bool) (pos : 0 < v) where
   -- a full record, and the stretch without its items
   pub full-record : v < length codes
-      → stretchOctets v pair codes last ≡ octetsOf (recordOf v pair (take v codes) false) ++ stretchOctets v pair (drop v codes) last
+      → stretchOctets m v pair codes last ≡ octetsOf m (recordOf v pair (take v codes) false) ++ stretchOctets m v pair (drop v codes) last
   full-record h =
       let less : length codes - 1 ≡ length (drop v codes) - 1 + v = rw (length-drop v codes) (omega arith) in
       let count : (length codes - 1) / v ≡ suc ((length (drop v codes) - 1) / v) =
@@ -50,58 +50,58 @@ module _ (v : ℕ) (pair : Pair) (codes : List ℕ) (last : Bool) (pos : 0 < v) 
       (rw (fitted-take v codes, map-drop some v (map keptOf codes), map-drop keptOf v codes) refl)
 
   -- the last record
-  pub last-record : length codes ≤ v → stretchOctets v pair codes last ≡ octetsOf (recordOf v pair codes last) ++ []
+  pub last-record : length codes ≤ v → stretchOctets m v pair codes last ≡ octetsOf m (recordOf v pair codes last) ++ []
   last-record h =
       let none : (length codes - 1) / v ≡ 0 = div-eq-of-lt (omega arith) in
       rw none refl
 
-pub record-long : (v : ℕ) (pair : Pair) (codes : List ℕ) (last : Bool) → length (octetsOf (recordOf v pair codes last)) ≡ size (ofWidth v)
-record-long v pair codes last =
-    octets-sized (ofWidth v) (recordOf v pair codes last ∷ []) (length-fitted v (map some (map keptOf codes)), tt) .0
+pub record-long : (m v : ℕ) (pair : Pair) (codes : List ℕ) (last : Bool) → length (octetsOf m (recordOf v pair codes last)) ≡ size (shaped v m)
+record-long m v pair codes last =
+    octets-sized (shaped v m) (recordOf v pair codes last ∷ []) (length-fitted v (map some (map keptOf codes)), tt) .0
 
 -- ---- the loop over a stretch's records
 
 -- of the stretch's octets those of its last `left` items are to be written
-pub record Stretching (v : ℕ) (pair : Pair) (last : Bool) (items out₀ : List ℕ) (at : ℕ) (all out : List ℕ) (to from left : ℕ) : Type 0 where
+pub record Stretching (m v : ℕ) (pair : Pair) (last : Bool) (items out₀ : List ℕ) (at : ℕ) (all out : List ℕ) (to from left : ℕ) : Type 0 where
   pub within : from + left ≤ length items
   pub same : length out ≡ length out₀
-  pub room : to + length (stretchOctets v pair (take left (drop from items)) last) ≤ length out
+  pub room : to + length (stretchOctets m v pair (take left (drop from items)) last) ≤ length out
   pub writes :
       (before whole rest : List ℕ) → Writing before out₀ at whole (all ++ rest)
-      → Writing before out to whole (stretchOctets v pair (take left (drop from items)) last ++ rest)
+      → Writing before out to whole (stretchOctets m v pair (take left (drop from items)) last ++ rest)
 
-module _ (v : ℕ) (pair : Pair) (last : Bool) (items out₀ : List ℕ) (at : ℕ) (all out : List ℕ) (to from left : ℕ) (pos : 0 < v)
-    (s : Stretching v pair last items out₀ at all out to from left) where
+module _ (m v : ℕ) (pair : Pair) (last : Bool) (items out₀ : List ℕ) (at : ℕ) (all out : List ℕ) (to from left : ℕ) (pos : 0 < v)
+    (s : Stretching m v pair last items out₀ at all out to from left) where
   codes-long : length (take left (drop from items)) ≡ left
   codes-long = length-take-le left (drop from items) (rw (length-drop from items) (omega (arith, s .within)))
 
   module _ (h : v < left) where
-    this-record : stretchOctets v pair (take left (drop from items)) last
-        ≡ octetsOf (recordOf v pair (take v (drop from items)) false)
-        ++ stretchOctets v pair (take (left - v) (drop (from + v) items)) last
+    this-record : stretchOctets m v pair (take left (drop from items)) last
+        ≡ octetsOf m (recordOf v pair (take v (drop from items)) false)
+        ++ stretchOctets m v pair (take (left - v) (drop (from + v) items)) last
     this-record =
-        full-record v pair (take left (drop from items)) last pos (omega (arith, codes-long))
+        full-record m v pair (take left (drop from items)) last pos (omega (arith, codes-long))
         ∙ rw (
           take-take v left (drop from items) (omega arith),
           drop-take v left (drop from items) (omega arith),
           drop-drop v from items,
         ) refl
 
-    this-long : length (stretchOctets v pair (take left (drop from items)) last)
-        ≡ size (ofWidth v) + length (stretchOctets v pair (take (left - v) (drop (from + v) items)) last)
+    this-long : length (stretchOctets m v pair (take left (drop from items)) last)
+        ≡ size (shaped v m) + length (stretchOctets m v pair (take (left - v) (drop (from + v) items)) last)
     this-long =
         ap length this-record
-        ∙ length-append (octetsOf (recordOf v pair (take v (drop from items)) false))
-        (stretchOctets v pair (take (left - v) (drop (from + v) items)) last)
-        ∙ ap (λ (n : ℕ). n + length (stretchOctets v pair (take (left - v) (drop (from + v) items)) last))
-        (record-long v pair (take v (drop from items)) false)
+        ∙ length-append (octetsOf m (recordOf v pair (take v (drop from items)) false))
+        (stretchOctets m v pair (take (left - v) (drop (from + v) items)) last)
+        ∙ ap (λ (n : ℕ). n + length (stretchOctets m v pair (take (left - v) (drop (from + v) items)) last))
+        (record-long m v pair (take v (drop from items)) false)
 
-    pub stretching-room : to + size (ofWidth v) ≤ length out
+    pub stretching-room : to + size (shaped v m) ≤ length out
     stretching-room = omega (arith, s .room, this-long)
 
-    pub stretching-next : (after : List ℕ) (next : ℕ) → next ≡ to + size (ofWidth v) → length after ≡ length out
-        → Writes (octetsOf (recordOf v pair (take v (drop from items)) false)) out to after next
-        → Stretching v pair last items out₀ at all after next (from + v) (left - v)
+    pub stretching-next : (after : List ℕ) (next : ℕ) → next ≡ to + size (shaped v m) → length after ≡ length out
+        → Writes (octetsOf m (recordOf v pair (take v (drop from items)) false)) out to after next
+        → Stretching m v pair last items out₀ at all after next (from + v) (left - v)
     stretching-next after next n l w =
         record {
           within = omega (arith, s .within);
@@ -109,35 +109,35 @@ module _ (v : ℕ) (pair : Pair) (last : Bool) (items out₀ : List ℕ) (at : �
           room = omega (arith, s .room, this-long);
           writes =
               λ before whole rest f.
-              w before whole (stretchOctets v pair (take (left - v) (drop (from + v) items)) last ++ rest)
+              w before whole (stretchOctets m v pair (take (left - v) (drop (from + v) items)) last ++ rest)
               (subst (λ (xs : List ℕ). Writing before out to whole xs)
               (ap (λ (xs : List ℕ). xs ++ rest) this-record
-              ∙ append-assoc (octetsOf (recordOf v pair (take v (drop from items)) false))
-              (stretchOctets v pair (take (left - v) (drop (from + v) items)) last) rest)
+              ∙ append-assoc (octetsOf m (recordOf v pair (take v (drop from items)) false))
+              (stretchOctets m v pair (take (left - v) (drop (from + v) items)) last) rest)
               (s .writes before whole rest f));
         }
 
   module _ (h : left ≤ v) where
-    last-one : stretchOctets v pair (take left (drop from items)) last
-        ≡ octetsOf (recordOf v pair (take left (drop from items)) last)
+    last-one : stretchOctets m v pair (take left (drop from items)) last
+        ≡ octetsOf m (recordOf v pair (take left (drop from items)) last)
     last-one =
-        last-record v pair (take left (drop from items)) last pos (omega (arith, codes-long))
-        ∙ append-nil (octetsOf (recordOf v pair (take left (drop from items)) last))
+        last-record m v pair (take left (drop from items)) last pos (omega (arith, codes-long))
+        ∙ append-nil (octetsOf m (recordOf v pair (take left (drop from items)) last))
 
-    pub stretching-last-room : to + size (ofWidth v) ≤ length out
+    pub stretching-last-room : to + size (shaped v m) ≤ length out
     stretching-last-room =
-        omega (arith, s .room, ap length last-one, record-long v pair (take left (drop from items)) last)
+        omega (arith, s .room, ap length last-one, record-long m v pair (take left (drop from items)) last)
 
     pub stretching-done : (after : List ℕ) (next : ℕ)
-        → Writes (octetsOf (recordOf v pair (take left (drop from items)) last)) out to after next
+        → Writes (octetsOf m (recordOf v pair (take left (drop from items)) last)) out to after next
         → Writes all out₀ at after next
     stretching-done after next w =
         λ before whole rest f.
         w before whole rest
         (subst (λ (xs : List ℕ). Writing before out to whole (xs ++ rest)) last-one (s .writes before whole rest f))
 
-pub stretching-starts : (v : ℕ) (pair : Pair) (last : Bool) (items out : List ℕ) (at start count : ℕ) → start + count ≤ length items
-    → at + length (stretchOctets v pair (take count (drop start items)) last) ≤ length out
-    → Stretching v pair last items out at (stretchOctets v pair (take count (drop start items)) last) out at start count
-stretching-starts v pair last items out at start count h r =
+pub stretching-starts : (m v : ℕ) (pair : Pair) (last : Bool) (items out : List ℕ) (at start count : ℕ) → start + count ≤ length items
+    → at + length (stretchOctets m v pair (take count (drop start items)) last) ≤ length out
+    → Stretching m v pair last items out at (stretchOctets m v pair (take count (drop start items)) last) out at start count
+stretching-starts m v pair last items out at start count h r =
     record { within = h; same = refl; room = r; writes = λ before whole rest f. f }

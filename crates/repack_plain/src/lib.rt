@@ -1,6 +1,6 @@
-// Writes a stretch of a take in which every item is data: all records but the last are full and go in a tight loop, that of
-// one lane in a loop of its own; then comes the last one. Stretches with position items are repack_marked's, and which
-// stretches there are repack_emit's.
+// Writes a stretch of a take without user bits in which every item is data: all records but the last are full and go in a tight
+// loop, that of one lane in a loop of its own; then comes the last one. Stretches with position items are repack_marked's,
+// and which stretches there are repack_emit's.
 use stream_record::layout::HEAD_OCTETS;
 ghost use mathlib.Core.Path.{_≡_};
 ghost use mathlib.Core.List.{_++_, map};
@@ -27,7 +27,7 @@ pub struct Head {
 // in groups. Up to sixteen octets are read.
 fn put_plain(out: &mut [u8], octets: &[u8], n: usize, v: usize, pair: u32, last: u32)
     requires { ⌜ (n ≤ v) × (1 ≤ v) × (v ≤ 16) × (v ≤ length (now octets)) × (size (ofWidth v) ≤ length (now out)) × (pair < 0x10000) × (last ≤ 1) ⌝ }
-    ensures { λ _. ⌜ now (out .exit) ≡ recordAt v pair last (map dataCode (now (octets .entry))) 0 n ++ drop (size (ofWidth v)) (now (out .entry)) ⌝ }
+    ensures { λ _. ⌜ now (out .exit) ≡ recordAt 0 v pair last (map dataCode (now (octets .entry))) 0 n ++ drop (size (ofWidth v)) (now (out .entry)) ⌝ }
 {
     stream_write::write_data_header(out, last, pair, n);
     words::place(out, HEAD_OCTETS, octets, n, v);
@@ -88,8 +88,8 @@ fn put_all_but_last(out: &mut [u8], octets: &[u8], c: Cursor, v: usize, pair: u3
 
 // The records of what is left of a stretch at a cursor. Answers the place after them.
 pub fn put_stretch(out: &mut [u8], octets: &[u8], c: Cursor, v: usize, head: Head) -> usize
-    requires { ⌜ HeadFits head × StretchFits v head (now octets) (map dataCode (now octets)) (now out) c ⌝ }
-    ensures { λ r. ⌜ StretchPut v head (map dataCode (now (octets .entry))) (now (out .entry)) c (now (out .exit)) r ⌝ }
+    requires { ⌜ HeadFits head × StretchFits 0 v head (now octets) (map dataCode (now octets)) (now out) c ⌝ }
+    ensures { λ r. ⌜ StretchPut 0 v head (map dataCode (now (octets .entry))) (now (out .entry)) c (now (out .exit)) r ⌝ }
 {
     let d = put_all_but_last(out, octets, c, v, head.pair);
     let to = d.to;

@@ -24,7 +24,7 @@ record-size-requires c κs = search needs
 mul-if1 : tie.Need-mul-if1
 mul-if1 c =
     let s = c .before .before .before .before .before .before in
-    record { fits = product-fits (s .args .v) (c .before .count .result) (c .record-size .result) (s .pre .0 .high) (c .record-size .ensures) (c .before .count .ensures .1) }
+    record { fits = product-fits 0 (s .args .v) (c .before .count .result) (c .record-size .result) (omega arith) (s .pre .0 .high) (c .record-size .ensures) (c .before .count .ensures .1) }
 
 returns : tie.Need-returns
 returns c =
@@ -32,7 +32,7 @@ returns c =
     let s = c .before .before .before .before .before .before .before in
     let a = s .args in
     let p = s .pre .0 in
-    emit-refused (a .v) (codesIn (a .octets .now) (a .marks .now)) (a .table .now) (a .out .now) (count .result) (c .before .record-size .result) (omega (arith, p .room, length-held (a .octets .now) (markBits (a .marks .now)) (p .held .same))) (count .ensures .0) (c .before .record-size .ensures) (c .if1 .taken)
+    emit-refused 0 (a .v) (codesIn (a .octets .now) (a .marks .now)) (a .table .now) (a .out .now) (count .result) (c .before .record-size .result) (omega (arith, p .room, length-held (a .octets .now) (markBits (a .marks .now)) (p .held .same))) (count .ensures .0) (c .before .record-size .ensures) (c .if1 .taken)
 
 put-all-requires : tie.Need-put-all-requires
 put-all-requires c κs =
@@ -41,7 +41,7 @@ put-all-requires c κs =
     let s = c .before .before .before .before .before .before .before .before in
     let a = s .args in
     let p = s .pre .0 in
-    let long = packed-long (a .v) (codesIn (a .octets .now) (a .marks .now)) (a .table .now) (a .out .now) (count .result) (size .result) (omega (arith, p .room, length-held (a .octets .now) (markBits (a .marks .now)) (p .held .same))) (count .ensures .0) (size .ensures) in
+    let long = packed-long 0 (a .v) (codesIn (a .octets .now) (a .marks .now)) (a .table .now) (a .out .now) (count .result) (size .result) (omega (arith, p .room, length-held (a .octets .now) (markBits (a .marks .now)) (p .held .same))) (count .ensures .0) (size .ensures) in
     (p, rw long (c .before .if1 .left))
 
 same-length : tie.Need-same-length
@@ -55,7 +55,7 @@ returns-2 c =
     let s = test .before .before .before .before .before .before .before in
     let a = s .args in
     let p = s .pre .0 in
-    emit-written (a .v) (codesIn (a .octets .now) (a .marks .now)) (a .table .now) (a .out .now) (count .result) (size .result) (omega (arith, p .room, length-held (a .octets .now) (markBits (a .marks .now)) (p .held .same))) (count .ensures .0) (size .ensures)
+    emit-written 0 (a .v) (codesIn (a .octets .now) (a .marks .now)) (a .table .now) (a .out .now) (count .result) (size .result) (omega (arith, p .room, length-held (a .octets .now) (markBits (a .marks .now)) (p .held .same))) (count .ensures .0) (size .ensures)
     (c .before .before .put-all .last .0) (test .if1 .left) (c .before .before .put-all .ensures)
 
 pub emit-spec : {M : Type 1} → statement M

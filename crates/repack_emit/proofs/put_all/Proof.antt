@@ -13,7 +13,7 @@ use Rattle.repack_emit.proofs.put_stretch.Reads as put-stretch-reads
 use Rattle.repack_scratch.proofs.entry_count.Reads as entry-count-reads
 
 abbrev Inv-loop : tie.InvT-loop
-Inv-loop out₀ octets marks plain table v to₀ from₀ entry₀ out to from entry = Packing v (codesIn octets marks) table out₀ out to from entry
+Inv-loop out₀ octets marks plain table v to₀ from₀ entry₀ out to from entry = Packing 0 v (codesIn octets marks) table out₀ out to from entry
 
 abbrev μ-loop : tie.MeasureT-loop
 μ-loop out₀ octets marks plain table v to₀ from₀ entry₀ out to from entry = length table - entry
@@ -22,7 +22,7 @@ loop-holds : tie.Need-loop-holds Inv-loop μ-loop
 loop-holds c =
     let s = c .before .before .before .before in
     let a = s .args in
-    packing-starts (a .v) (codesIn (a .octets .now) (a .marks .now)) (a .table .now) (a .out .now) (s .pre .1)
+    packing-starts 0 (a .v) (codesIn (a .octets .now) (a .marks .now)) (a .table .now) (a .out .now) (s .pre .1)
 
 mul-e : tie.Need-mul-e Inv-loop μ-loop
 mul-e c = search needs
@@ -42,7 +42,7 @@ put-stretch-requires c κs =
     let s = c .before .before .before .before .before .before .before .before .before in
     let a = s .args in
     let p = s .pre .0 in
-    (p .held, rw (c .before .entry-count .ensures) (packing-fits (a .v) (codesIn (a .octets .now) (a .marks .now)) (a .table .now) (a .out .now) (l .out) (l .to) (l .from) (l .entry) (l .inv) (c .before .before .before .loop-test .taken) (a .octets .now) (p .low) (p .high) (p .room)))
+    (p .held, rw (c .before .entry-count .ensures) (packing-fits 0 (a .v) (codesIn (a .octets .now) (a .marks .now)) (a .table .now) (a .out .now) (l .out) (l .to) (l .from) (l .entry) (l .inv) (c .before .before .before .loop-test .taken) (a .octets .now) (p .low) (p .high) (p .room)))
 
 add-from : tie.Need-add-from Inv-loop μ-loop
 add-from c =
@@ -50,7 +50,7 @@ add-from c =
     let l = test .before .loop in
     let s = test .before .before .before .before .before .before in
     let a = s .args in
-    omega (arith, c .before .before .before .before .entry-count .ensures, l .inv .sum, total-step (a .v) (codesIn (a .octets .now) (a .marks .now)) (a .table .now) (a .out .now) (l .out) (l .to) (l .from) (l .entry) (l .inv) (test .loop-test .taken), s .pre .0 .room, s .good)
+    omega (arith, c .before .before .before .before .entry-count .ensures, l .inv .sum, total-step 0 (a .v) (codesIn (a .octets .now) (a .marks .now)) (a .table .now) (a .out .now) (l .out) (l .to) (l .from) (l .entry) (l .inv) (test .loop-test .taken), s .pre .0 .room, s .good)
 
 add-entry : tie.Need-add-entry Inv-loop μ-loop
 add-entry c = search needs
@@ -65,7 +65,7 @@ loop-again c =
     let l = test .before .loop in
     let a = test .before .before .before .before .before .before .args in
     let put = c .before .before .put-stretch in
-    rw count (packing-next (a .v) (codesIn (a .octets .now) (a .marks .now)) (a .table .now) (a .out .now) (l .out) (l .to) (l .from) (l .entry) (l .inv) (test .loop-test .taken) (put .last .0) (put .result) (rw count at (put .ensures)))
+    rw count (packing-next 0 (a .v) (codesIn (a .octets .now) (a .marks .now)) (a .table .now) (a .out .now) (l .out) (l .to) (l .from) (l .entry) (l .inv) (test .loop-test .taken) (put .last .0) (put .result) (rw count at (put .ensures)))
 
 same-length : tie.Need-same-length Inv-loop μ-loop
 same-length c = c .before .loop .inv .writing .same
@@ -74,7 +74,7 @@ returns : tie.Need-returns Inv-loop μ-loop
 returns c =
     let l = c .before .loop in
     let a = c .before .before .before .before .before .before .args in
-    packing-done (a .v) (codesIn (a .octets .now) (a .marks .now)) (a .table .now) (a .out .now) (l .out) (l .to) (l .from) (l .entry) (l .inv) (c .loop-test .left)
+    packing-done 0 (a .v) (codesIn (a .octets .now) (a .marks .now)) (a .table .now) (a .out .now) (l .out) (l .to) (l .from) (l .entry) (l .inv) (c .loop-test .left)
 
 pub put-all-spec : {M : Type 1} → statement M
 put-all-spec =

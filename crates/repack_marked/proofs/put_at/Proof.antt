@@ -42,8 +42,8 @@ returns c =
     let s = put .before .before .before .before .before in
     let a = s .args in
     let codes = codesIn (a .octets .now) (a .marks .now) in
-    let rec = recordAt (a .v) (a .head .pair) (a .head .last) codes (a .c .from) (a .c .left) in
-    let long = record-long (a .v) (pairFrom (a .head .pair)) (take (a .c .left) (drop (a .c .from) codes)) (odd (a .head .last)) in
+    let rec = recordAt 0 (a .v) (a .head .pair) (a .head .last) codes (a .c .from) (a .c .left) in
+    let long = record-long 0 (a .v) (pairFrom (a .head .pair)) (take (a .c .left) (drop (a .c .from) codes)) (odd (a .head .last)) in
     rw (put .put-record .ensures, c .record-size .ensures)
     (record {
       next = refl;

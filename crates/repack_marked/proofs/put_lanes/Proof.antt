@@ -5,8 +5,7 @@ use native.Mathlib.Omega.{arith}
 use lib.Pow.{pow-pos, pow-mono}
 use lib.ListN.{length, drop}
 use lib.Seq.{length-take-le}
-use Rattle.stream_spec.specs.Layout.{ofWidth}
-use Rattle.stream_spec.proofs.Size.{size-is}
+use Rattle.stream_spec.proofs.Size.{size-bare}
 use Rattle.stream_record.proofs.Field.{shifted}
 use Rattle.repack_scratch.specs.Codes.{codesIn}
 use Rattle.repack_plain.proofs.Lanes.{strb-fits}
@@ -27,12 +26,12 @@ put-items-requires c κs =
     let s = c .before .before .before .before in
     let a = s .args in
     let p = s .pre .0 in
-    (omega (arith, p .few, p .high), omega (arith, p .few, p .high, p .held), p .marked, omega (arith, size-is (ofWidth (a .v)), p .few, s .pre .1))
+    (omega (arith, p .few, p .high), omega (arith, p .few, p .high, p .held), p .marked, omega (arith, size-bare (a .v), p .few, s .pre .1))
 
 write-nulls-requires : tie.Need-write-nulls-requires
 write-nulls-requires c κs =
     let s = c .before .before .before .before .before .before .before .before in
-    (s .pre .0 .few, omega (arith, size-is (ofWidth (s .args .v)), s .pre .1, c .before .before .before .put-items .kept .0))
+    (s .pre .0 .few, omega (arith, size-bare (s .args .v), s .pre .1, c .before .before .before .put-items .kept .0))
 
 cast-write-header : tie.Need-cast-write-header
 cast-write-header c = search needs
@@ -65,7 +64,7 @@ write-header-requires c κs =
     let few : a .n ≤ 16 = omega (arith, p .few, p .high) in
     let long : length (itemsFrom (a .octets .now) (a .marks .now) (a .from) (a .n)) ≡ a .n =
     length-take-le (a .n) (drop (a .from) (codesIn (a .octets .now) (a .marks .now))) (omega (arith, few, p .held, length-from (a .octets .now) (a .marks .now) (a .from) (p .marked))) in (
-      omega (arith, size-is (ofWidth (a .v)), s .pre .1, items .put-items .kept .0, nulls .write-nulls .kept .0),
+      omega (arith, size-bare (a .v), s .pre .1, items .put-items .kept .0, nulls .write-nulls .kept .0),
       omega (arith, shifted (a .n) few, pow-mono few),
       omega (arith, items .put-items .ensures .0, rw long at (strb-fits (itemsFrom (a .octets .now) (a .marks .now) (a .from) (a .n))), pow-mono few),
     )

@@ -4,8 +4,7 @@ use Prim.Native.Nat.{ℕ, _+_, _<_}
 use native.Mathlib.Omega.{arith}
 use lib.ListN.{length, getD, drop, length-drop}
 use lib.Seq.{getD-drop}
-use Rattle.stream_spec.specs.Layout.{ofWidth}
-use Rattle.stream_spec.proofs.Size.{size-is}
+use Rattle.stream_spec.proofs.Size.{size-bare}
 use Rattle.repack_scratch.specs.Codes.{markBits}
 use Rattle.repack_plain.proofs.Memory.{plain-written}
 use Rattle.stream_spec.proofs.Memory.{lent-rest}
@@ -27,7 +26,7 @@ write-data-header-requires : tie.Need-write-data-header-requires
 write-data-header-requires c κs =
     let s = c .before .before .before .before .before .before in
     let p = s .pre .0 in
-    (omega (arith, size-is (ofWidth (s .args .v)), s .pre .1, p .low), p .headed .last, p .headed .pair, omega (arith, p .few, p .high))
+    (omega (arith, size-bare (s .args .v), s .pre .1, p .low), p .headed .last, p .headed .pair, omega (arith, p .few, p .high))
 
 sub-place : tie.Need-sub-place
 sub-place c = search needs
@@ -45,7 +44,7 @@ place-requires c κs =
     let a = s .args in
     let p = s .pre .0 in
     let long = ap length (lent-rest (a .octets .now) (a .from)) ∙ length-drop (a .from) (a .octets .now) in
-    (p .low, p .high, p .few, omega (arith, long, p .high, p .held), omega (arith, size-is (ofWidth (a .v)), s .pre .1, header .write-data-header .kept .0))
+    (p .low, p .high, p .few, omega (arith, long, p .high, p .held), omega (arith, size-bare (a .v), s .pre .1, header .write-data-header .kept .0))
 
 same-length : tie.Need-same-length
 same-length c = search needs

@@ -5,10 +5,9 @@ use Prim.Native.Nat.{_-_}
 use native.Mathlib.Omega.{arith}
 use borrow.Author.Needs.{needs}
 use lib.ListN.{length, getD, take, drop}
-use Rattle.stream_spec.specs.Layout.{ofWidth}
 use Rattle.repack_plain.specs.Write.{Advanced}
 use Rattle.repack_plain.proofs.Fulls.{advanced-none, full-room, full-written, one-written, lent-room}
-use Rattle.stream_spec.proofs.Size.{size-is}
+use Rattle.stream_spec.proofs.Size.{size-bare}
 use Rattle.repack_plain.proofs.put_ones.Statement.{statement}
 use Rattle.repack_plain.proofs.put_ones.Tie as tie
 use Rattle.repack_plain.proofs.put_ones.Reads as reads
@@ -41,14 +40,14 @@ write-one-requires : tie.Need-write-one-requires Inv-loop μ-loop
 write-one-requires c κs =
     let at-loop = c .before .before .before in
     let at-start = at-loop .before .before .before in
-    (lent-room (at-loop .loop .out) (at-loop .loop .to) 8 (omega (arith, full-room 1 _ _ _ _ _ _ (omega arith) (at-loop .loop .inv) (c .before .before .loop-test .taken), size-is (ofWidth 1))), at-start .pre .0)
+    (lent-room (at-loop .loop .out) (at-loop .loop .to) 8 (omega (arith, full-room 1 _ _ _ _ _ _ (omega arith) (at-loop .loop .inv) (c .before .before .loop-test .taken), size-bare 1)), at-start .pre .0)
 
 add-to : tie.Need-add-to Inv-loop μ-loop
 add-to c =
     let at-test = c .before .before .before .before .before in
     let at-loop = at-test .before in
     let at-start = at-loop .before .before .before in
-    omega (arith, full-room 1 _ _ _ _ _ _ (omega arith) (at-loop .loop .inv) (at-test .loop-test .taken), size-is (ofWidth 1), at-loop .loop .inv .same, at-start .good)
+    omega (arith, full-room 1 _ _ _ _ _ _ (omega arith) (at-loop .loop .inv) (at-test .loop-test .taken), size-bare 1, at-loop .loop .inv .same, at-start .good)
 
 add-from : tie.Need-add-from Inv-loop μ-loop
 add-from c =
@@ -72,7 +71,7 @@ loop-again c =
     let at-start = at-loop .before .before .before in
     let a = at-start .args in
     let l = at-loop .loop in
-    full-written 1 _ _ _ _ _ _ (omega arith) (at-loop .loop .inv) (at-test .loop-test .taken) 8 (sym (size-is (ofWidth 1))) (c .before .before .write-one .last .0)
+    full-written 1 _ _ _ _ _ _ (omega arith) (at-loop .loop .inv) (at-test .loop-test .taken) 8 (sym (size-bare 1)) (c .before .before .write-one .last .0)
     (c .before .before .write-one .ensures ∙ one-written (a .pair) (getD (a .octets .now) (l .from) 0) (a .octets .now) (drop 8 (take (length (l .out) - l .to) (drop (l .to) (l .out)))) (l .from) (at-start .pre .0) (omega (arith, l .inv .fits .held)) refl (omega (arith, at-known .shared-slice-known2 .given (l .from))))
 
 same-length : tie.Need-same-length Inv-loop μ-loop

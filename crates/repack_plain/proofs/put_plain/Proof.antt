@@ -1,7 +1,6 @@
 -- `repack_plain::put_plain` meets its contract: the header's word and the lanes' groups make the record. Assumes nothing.
 use native.Mathlib.Omega.{arith}
-use Rattle.stream_spec.specs.Layout.{ofWidth}
-use Rattle.stream_spec.proofs.Size.{size-is}
+use Rattle.stream_spec.proofs.Size.{size-bare}
 use Rattle.repack_plain.proofs.Memory.{plain-written}
 use borrow.Author.Needs.{needs}
 use Rattle.repack_plain.proofs.put_plain.Statement.{statement}
@@ -12,7 +11,7 @@ use Rattle.stream_write.proofs.write_data_header.Reads as write-data-header-rea
 use Rattle.words.proofs.place.Reads as place-reads
 
 write-data-header-requires : tie.Need-write-data-header-requires
-write-data-header-requires c κs = (omega (arith, size-is (ofWidth (c .before .before .before .args .v)), c .before .before .before .pre .4, c .before .before .before .pre .1), c .before .before .before .pre .6, c .before .before .before .pre .5, omega (arith, c .before .before .before .pre .0, c .before .before .before .pre .2))
+write-data-header-requires c κs = (omega (arith, size-bare (c .before .before .before .args .v), c .before .before .before .pre .4, c .before .before .before .pre .1), c .before .before .before .pre .6, c .before .before .before .pre .5, omega (arith, c .before .before .before .pre .0, c .before .before .before .pre .2))
 
 place-requires : tie.Need-place-requires
 place-requires c κs =
@@ -20,7 +19,7 @@ place-requires c κs =
     let at-start = at-write-data-header .before .before .before .before in
     let a = at-start .args in
     let p = at-start .pre in
-    (p .1, p .2, p .0, p .3, omega (arith, size-is (ofWidth (a .v)), p .4, at-write-data-header .write-data-header .kept .0))
+    (p .1, p .2, p .0, p .3, omega (arith, size-bare (a .v), p .4, at-write-data-header .write-data-header .kept .0))
 
 same-length : tie.Need-same-length
 same-length c = search needs
