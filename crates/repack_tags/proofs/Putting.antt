@@ -1,0 +1,250 @@
+-- A record's octets as its parts are written: the items from the last one down, the user bits from the lowest octet up, and all
+-- parts one after the other. Assumes nothing.
+use mathlib.Core.Path.{_≡_, refl, sym, ap, _∙_}
+use mathlib.Core.Bool.{Bool, true, false}
+use mathlib.Core.List.{List, [], _∷_, _++_, map}
+use mathlib.Core.Option.{Option, some}
+use Prim.Native.Nat.{ℕ, zero, suc, _+_, _-_, _*_, _/_, _%_, _^_, _≤_, _<_}
+use native.Mathlib.Nat.{add-zero, mul-comm, mul-le-mul, mod-eq-of-lt}
+use native.Mathlib.Numerals.{add-one}
+use native.Mathlib.Omega.{arith}
+use borrow.Author.Tests.{eqb-true, eqb-false}
+use lib.Dec.{eqb}
+use lib.Pow.{pow-mono}
+use lib.ListN.{length, getD, take, drop, set, replicate, length-map, length-drop, length-append, length-set, length-replicate, take-append-drop}
+use lib.Seq.{drop-cons, drop-length, drop-at, length-take-le, getD-take, getD-drop, set-split}
+use Rattle.words.specs.Splice.{splice}
+use Rattle.words.specs.Words.{octetsOfWord}
+use Rattle.words.proofs.Splice.{splice-splice}
+use Rattle.words.proofs.Words.{length-octets}
+use Rattle.stream_spec.specs.Packed.{fitted}
+use Rattle.stream_spec.specs.Layout.{headOctets, userOctets, size, shaped, odd, bitOf, maskOf, Kept, keepBit, strbBit, laneOctet, usersOf, octetsOf}
+use Rattle.stream_spec.proofs.Bits.{mask-fits, number-back}
+use Rattle.stream_spec.proofs.Pack.{length-fitted}
+use Rattle.stream_spec.proofs.Size.{size-is}
+use Rattle.stream_spec.proofs.Users.{users-fit}
+use Rattle.stream_write.specs.Write.{headerOctets, nullLanes}
+use Rattle.stream_write.proofs.Fill.{fill-down}
+use Rattle.repack_scratch.specs.Codes.{keptOf, pairFrom}
+use Rattle.repack_tags.specs.declared.Tags.{Tags}
+use Rattle.repack_tags.specs.Tags.{TagsFit, tagsOf, lanesPut}
+use Rattle.repack_tags.proofs.Lanes.{octet-is, strobe-is, user-is, lanes-fit, fit-drop, fitted-octets, fitted-strb, fitted-users, fitted-keep}
+
+-- ---- item by item, from the last one down
+
+-- what lanes with the items of these codes carry
+abbrev lanesWith : List ℕ → List (Option Kept)
+lanesWith codes = map some (map keptOf codes)
+
+length-lanes : (codes : List ℕ) → length (lanesWith codes) ≡ length codes
+length-lanes codes = length-map (map keptOf codes) some ∙ length-map codes keptOf
+
+-- an octet or nothing is an octet
+pub octet-small : (x : ℕ) → x % 256 * (x / 256 % 2) < 256
+octet-small x = go (eqb (x / 256 % 2) 1) refl
+  where
+    go : (b : Bool) → eqb (x / 256 % 2) 1 ≡ b → x % 256 * (x / 256 % 2) < 256
+    go true e = let one : x / 256 % 2 ≡ 1 = eqb-true (x / 256 % 2) 1 e in rw one (omega arith)
+    go false e =
+        let low : x / 256 % 2 ≡ 1 → ⊥ = eqb-false (x / 256 % 2) 1 e in
+        let zero : x / 256 % 2 ≡ 0 = omega arith in
+        rw zero (omega arith)
+
+-- Of the n items of these codes those from item j on are written; t and u are their TSTRB and user bits.
+pub record Putting (m n : ℕ) (codes before out : List ℕ) (t u j : ℕ) : Type 0 where
+  pub low : j ≤ n
+  pub same : length out ≡ length before
+  pub strb : t ≡ maskOf (map strbBit (lanesWith (drop j codes)))
+  pub user : u ≡ usersOf m (lanesWith (drop j codes))
+  pub is : out ≡ take (headOctets + j) before ++ (map laneOctet (lanesWith (drop j codes)) ++ drop (headOctets + n) before)
+
+module _ (m : ℕ) (items : List ℕ) (from n : ℕ) (before : List ℕ) (held : from + n ≤ length items) where
+  abbrev codes : List ℕ
+  codes = take n (drop from items)
+
+  long : length codes ≡ n
+  long = length-take-le n (drop from items) (omega (arith, length-drop from items))
+
+  pub putting-starts : Putting m n codes before before 0 0 n
+  putting-starts =
+      let none : drop n codes ≡ [] = ap (λ (k : ℕ). drop k codes) (sym long) ∙ drop-length codes in
+      record {
+        low = omega arith;
+        same = refl;
+        strb = rw none refl;
+        user = rw none refl;
+        is = rw none (sym (take-append-drop (headOctets + n) before));
+      }
+
+  module _ (out : List ℕ) (t u j : ℕ) (p : Putting m n codes before out t u j) where
+    pub strb-small : n ≤ 16 → t < 0x10000
+    strb-small few =
+        let many : length (map strbBit (lanesWith (drop j codes))) ≡ length codes - j =
+        length-map (lanesWith (drop j codes)) strbBit ∙ length-lanes (drop j codes) ∙ length-drop j codes in
+        let most : length (map strbBit (lanesWith (drop j codes))) ≤ 16 = omega (arith, many, long) in
+        omega (arith, p .strb, mask-fits (map strbBit (lanesWith (drop j codes))), pow-mono most)
+
+    -- the next item down, x
+    module _ (some : 0 < j) where
+      abbrev i : ℕ
+      i = j - 1
+
+      abbrev x : ℕ
+      x = getD items (from + i) 0
+
+      down : drop i codes ≡ x ∷ drop j codes
+      down =
+          let next : suc i ≡ j = omega arith in
+          drop-cons codes i 0 (omega (arith, long, p .low))
+          ∙ rw (next, getD-take n (drop from items) i 0 (omega (arith, p .low)), getD-drop from items i 0) refl
+
+      user-down : u * 2 ^ m + x / 512 ≡ usersOf m (lanesWith (drop i codes))
+      user-down = rw down (omega (arith, user-is x, mul-comm u (2 ^ m), ap (λ (y : ℕ). 2 ^ m * y) (p .user)))
+
+      -- the bits of at most sixteen lanes fit
+      pub user-small : n ≤ 16 → m ≤ 4 → TagsFit m codes → u * 2 ^ m + x / 512 < 0x10000000000000000
+      user-small few narrow fits =
+          let many : length (lanesWith (drop i codes)) ≡ length codes - i = length-lanes (drop i codes) ∙ length-drop i codes in
+          let lanes : length (lanesWith (drop i codes)) ≤ 16 = omega (arith, many, long) in
+          let most : length (lanesWith (drop i codes)) * m ≤ 16 * 4 = mul-le-mul lanes narrow in
+          omega (arith, user-down, users-fit m (lanesWith (drop i codes)) (lanes-fit m (drop i codes) (fit-drop m i codes fits)), pow-mono most)
+
+      -- so those that are there can be moved up by a lane
+      pub user-moved : n ≤ 16 → m ≤ 4 → TagsFit m codes → u * 2 ^ m % 0x10000000000000000 ≡ u * 2 ^ m
+      user-moved few narrow fits = mod-eq-of-lt (omega (arith, user-small few narrow fits))
+
+      pub putting-item : headOctets + n ≤ length before → (u' : ℕ) → u' ≡ u * 2 ^ m
+          → Putting m n codes before (set out (headOctets + i) (x % 256 * (x / 256 % 2))) (2 * t + x / 256 % 2) (u' + x / 512) i
+      putting-item room u' moved =
+          record {
+            low = omega (arith, p .low);
+            same = length-set out (headOctets + i) (x % 256 * (x / 256 % 2)) ∙ p .same;
+            strb = rw down (omega (arith, p .strb, strobe-is x));
+            user = ap (λ (y : ℕ). y + x / 512) moved ∙ user-down;
+            is =
+                fill-down before (map laneOctet (lanesWith (drop j codes)) ++ drop (headOctets + n) before) out (headOctets + i) (headOctets + j) (x % 256 * (x / 256 % 2)) (omega arith) (omega (arith, p .low)) (p .is)
+                ∙ rw (down, octet-is x) refl;
+          }
+
+    -- all are written
+    pub putting-done : j ≡ 0
+        → (record { strb = t; user = u } ≡ tagsOf m (lanesWith codes)) × (out ≡ lanesPut n (map laneOctet (lanesWith codes)) before)
+    putting-done e =
+        let strb : t ≡ maskOf (map strbBit (lanesWith codes)) = p .strb ∙ rw e refl in
+        let user : u ≡ usersOf m (lanesWith codes) = p .user ∙ rw e refl in
+        (λ i. record { strb = strb i; user = user i }, p .is ∙ rw e refl)
+
+-- ---- user bits, from the lowest octet up
+
+-- j octets are done, and u has those that are left
+pub record Storing (at user k : ℕ) (before out : List ℕ) (u j : ℕ) : Type 0 where
+  pub done : j ≤ k
+  pub same : length out ≡ length before
+  pub rest : splice (at + j) (octetsOfWord (k - j) u) out ≡ splice at (octetsOfWord k user) before
+
+-- one octet, and others behind it
+octet-on : (a x : ℕ) (ys out : List ℕ) → a + suc (length ys) ≤ length out → splice (a + 1) ys (set out a x) ≡ splice a (x ∷ ys) out
+octet-on a x ys out h =
+    let past : suc a ≡ a + 1 = omega arith in
+    ap (splice (a + 1) ys) (set-split out a x (omega arith) ∙ rw past refl) ∙ splice-splice a (x ∷ []) ys out (omega arith)
+
+octets-first : (k u : ℕ) → 0 < k → octetsOfWord k u ≡ u % 256 ∷ octetsOfWord (k - 1) (u / 256)
+octets-first zero u h = absurd (omega arith)
+octets-first (suc k) u h = let one : suc k - 1 ≡ k = omega arith in rw one refl
+
+module _ (at user k : ℕ) (before : List ℕ) where
+  pub storing-starts : Storing at user k before before user 0
+  storing-starts =
+      let all : k - 0 ≡ k = omega arith in
+      record { done = omega arith; same = refl; rest = rw (add-zero at, all) refl }
+
+  module _ (out : List ℕ) (u j : ℕ) (s : Storing at user k before out u j) where
+    pub storing-octet : j < k → at + k ≤ length before → Storing at user k before (set out (at + j) (u % 256)) (u / 256) (j + 1)
+    storing-octet h room =
+        let left : k - j - 1 ≡ k - (j + 1) = omega arith in
+        let there : at + (j + 1) ≡ at + j + 1 = omega arith in
+        let first : octetsOfWord (k - j) u ≡ u % 256 ∷ octetsOfWord (k - (j + 1)) (u / 256) =
+        octets-first (k - j) u (omega arith) ∙ rw left refl in
+        record {
+          done = omega arith;
+          same = length-set out (at + j) (u % 256) ∙ s .same;
+          rest =
+              rw there
+              (octet-on (at + j) (u % 256) (octetsOfWord (k - (j + 1)) (u / 256)) out (omega (arith, length-octets (k - (j + 1)) (u / 256), s .same))
+              ∙ ap (λ (l : List ℕ). splice (at + j) l out) (sym first) ∙ s .rest);
+        }
+
+    pub storing-done : k ≤ j → out ≡ splice at (octetsOfWord k user) before
+    storing-done h =
+        let none : k - j ≡ 0 = omega arith in
+        sym (take-append-drop (at + j) out)
+        ∙ ap (λ (n : ℕ). take (at + j) out ++ drop n out) (sym (add-zero (at + j)))
+        ∙ ap (λ (n : ℕ). splice (at + j) (octetsOfWord n u) out) (sym none)
+        ∙ s .rest
+
+-- ---- all parts of a record
+
+-- items, nulls, user bits and header, one after the other
+four-writes : (out out1 out2 out3 out4 octs zeros us hdr : List ℕ) (n v : ℕ) → length octs ≡ n → length zeros ≡ v - n → n ≤ v
+    → 7 + v + length us ≤ length out
+    → out1 ≡ take 7 out ++ (octs ++ drop (7 + n) out) → out2 ≡ take (7 + n) out1 ++ (zeros ++ drop (7 + v) out1)
+    → out3 ≡ splice (7 + v) us out2 → out4 ≡ hdr ++ drop 7 out3
+    → out4 ≡ hdr ++ (((octs ++ zeros) ++ us) ++ drop (7 + v + length us) out)
+four-writes out out1 out2 out3 out4 octs zeros us hdr n v lo lz h room e f g k =
+    let nulls : 7 + length octs + length zeros ≡ 7 + v = omega arith in
+    let lanes : 7 + length (octs ++ zeros) ≡ 7 + v = omega (arith, length-append octs zeros) in
+    let all : 7 + length ((octs ++ zeros) ++ us) ≡ 7 + v + length us = omega (arith, lanes, length-append (octs ++ zeros) us) in
+    let one : out1 ≡ splice 7 octs out = e ∙ ap (λ (x : ℕ). take 7 out ++ (octs ++ drop (7 + x) out)) (sym lo) in
+    let two : out2 ≡ splice 7 (octs ++ zeros) out =
+    f
+    ∙ ap (λ (x : ℕ). take (7 + x) out1 ++ (zeros ++ drop (7 + v) out1)) (sym lo)
+    ∙ ap (λ (x : ℕ). take (7 + length octs) out1 ++ (zeros ++ drop x out1)) (sym nulls)
+    ∙ ap (splice (7 + length octs) zeros) one
+    ∙ splice-splice 7 octs zeros out (omega arith) in
+    let three : out3 ≡ splice 7 ((octs ++ zeros) ++ us) out =
+    g
+    ∙ ap (λ (x : ℕ). splice x us out2) (sym lanes)
+    ∙ ap (splice (7 + length (octs ++ zeros)) us) two
+    ∙ splice-splice 7 (octs ++ zeros) us out (omega (arith, lanes)) in
+    k
+    ∙ ap (λ (xs : List ℕ). hdr ++ drop 7 xs) three
+    ∙ ap (λ (xs : List ℕ). hdr ++ xs)
+    (drop-at (take 7 out) (((octs ++ zeros) ++ us) ++ drop (7 + length ((octs ++ zeros) ++ us)) out) 7 (length-take-le 7 out (omega arith))
+    ∙ ap (λ (x : ℕ). ((octs ++ zeros) ++ us) ++ drop x out) all)
+
+-- header, items, nulls and user bits are the record
+record-octets : (m v pair last : ℕ) (codes tail : List ℕ) → length codes ≤ v → pair < 0x10000 → last ≤ 1
+    → headerOctets (last % 256) (pair % 256) (pair / 256 % 256) (2 ^ length codes - 1) (maskOf (map strbBit (lanesWith codes)))
+    ++ (((map laneOctet (lanesWith codes) ++ replicate {A = ℕ} (v - length codes) 0) ++ octetsOfWord (userOctets v m) (usersOf m (lanesWith codes))) ++ tail)
+    ≡ octetsOf m (record { pair = pairFrom pair; lanes = fitted v (lanesWith codes); last = odd last }) ++ tail
+record-octets m v pair last codes tail h p l =
+    let long = length-lanes codes in
+    let kepts : length (map keptOf codes) ≡ length codes = length-map codes keptOf in
+    let keep : maskOf (map keepBit (fitted v (lanesWith codes))) ≡ 2 ^ length codes - 1 =
+    fitted-keep v (map keptOf codes) (omega (arith, kepts)) ∙ ap (λ (n : ℕ). 2 ^ n - 1) kepts in
+    let octs : map laneOctet (fitted v (lanesWith codes)) ≡ map laneOctet (lanesWith codes) ++ replicate {A = ℕ} (v - length codes) 0 =
+    fitted-octets v (lanesWith codes) (omega (arith, long))
+    ∙ ap (λ (n : ℕ). map laneOctet (lanesWith codes) ++ replicate {A = ℕ} (v - n) 0) long in
+    let high : pair / 256 % 256 ≡ pair / 256 = omega arith in
+    let bit : bitOf (odd last) ≡ last % 256 = omega (arith, number-back last l) in
+    rw (keep, octs, fitted-strb v (lanesWith codes) (omega (arith, long)), fitted-users m v (lanesWith codes) (omega (arith, long)), length-fitted v (lanesWith codes), high, bit)
+    refl
+
+-- what the four writes of a record come to
+pub record-written : (m v : ℕ) (out out1 out2 out3 out4 codes : List ℕ) (n pair last keep k : ℕ) (tags : Tags)
+    → length codes ≡ n → n ≤ v → size (shaped v m) ≤ length out → pair < 0x10000 → last ≤ 1 → keep ≡ 2 ^ n - 1 → k ≡ userOctets v m
+    → tags ≡ tagsOf m (lanesWith codes)
+    → out1 ≡ lanesPut n (map laneOctet (lanesWith codes)) out
+    → out2 ≡ nullLanes n v out1
+    → out3 ≡ splice (7 + v) (octetsOfWord k (tags .user)) out2
+    → out4 ≡ headerOctets (last % 256) (pair % 256) (pair / 256 % 256) keep (tags .strb) ++ drop 7 out3
+    → out4 ≡ octetsOf m (record { pair = pairFrom pair; lanes = fitted v (lanesWith codes); last = odd last }) ++ drop (size (shaped v m)) out
+record-written m v out out1 out2 out3 out4 codes n pair last keep k tags long few room p l ke kk te e f g h =
+    let us-long : length (octetsOfWord (userOctets v m) (usersOf m (lanesWith codes))) ≡ userOctets v m =
+    length-octets (userOctets v m) (usersOf m (lanesWith codes)) in
+    let octs-long : length (map laneOctet (lanesWith codes)) ≡ n = length-map (lanesWith codes) laneOctet ∙ length-lanes codes ∙ long in
+    let end : 7 + v + length (octetsOfWord (userOctets v m) (usersOf m (lanesWith codes))) ≡ size (shaped v m) = omega (arith, us-long, size-is (shaped v m)) in
+    four-writes out out1 out2 out3 out4 (map laneOctet (lanesWith codes)) (replicate {A = ℕ} (v - n) 0) (octetsOfWord (userOctets v m) (usersOf m (lanesWith codes)))
+    (headerOctets (last % 256) (pair % 256) (pair / 256 % 256) (2 ^ n - 1) (maskOf (map strbBit (lanesWith codes)))) n v octs-long (length-replicate {A = ℕ} (v - n) 0) few (omega (arith, end)) e f
+    (g ∙ rw (kk, te) refl) (h ∙ rw (ke, te) refl)
+    ∙ rw (end, ← long) (record-octets m v pair last codes (drop (size (shaped v m)) out) (omega arith) p l)

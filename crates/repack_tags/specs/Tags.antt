@@ -1,0 +1,53 @@
+-- Items with user bits: what is gathered of one record's lanes, and what is written of one record.
+use mathlib.Core.Path.{_≡_}
+use mathlib.Core.List.{List, [], _∷_, _++_, map}
+use mathlib.Core.Option.{Option, some}
+use Prim.Native.Nat.{ℕ, _+_, _/_, _^_, _≤_, _<_}
+use lib.ListN.{length, take, drop}
+use Rattle.stream_spec.specs.Packed.{fitted}
+use Rattle.stream_spec.specs.Layout.{headOctets, odd, maskOf, Kept, strbBit, usersOf, octetsOf}
+use Rattle.repack_scratch.specs.Codes.{keptOf, tagged, pairFrom}
+use Rattle.repack_tags.specs.declared.Tags.{Tags}
+
+-- ---- reading
+
+-- the codes of a record's kept lanes stand behind those before them, up to place r
+pub record Gathered (m keep strb user : ℕ) (lanes items : List ℕ) (at : ℕ) (after : List ℕ) (r : ℕ) : Type 0 where
+  pub same : length after ≡ length items
+  pub beyond : at ≤ r
+  pub within : r ≤ at + length lanes
+  pub is : take r after ≡ take at items ++ tagged m (length lanes) keep strb user lanes
+
+-- ---- writing
+
+-- no item has more than m user bits
+abbrev pub TagsFit : ℕ → List ℕ → Type 0
+TagsFit m [] = Unit {0}
+TagsFit m (x ∷ xs) = (x / 0x200 < 2 ^ m) × TagsFit m xs
+
+-- what n lanes carry: the items of these codes, from item `from` on
+abbrev pub itemLanes : List ℕ → ℕ → ℕ → List (Option Kept)
+itemLanes codes from n = map some (map keptOf (take n (drop from codes)))
+
+-- TSTRB and the user bits of lanes
+abbrev pub tagsOf : ℕ → List (Option Kept) → Tags
+tagsOf m ls = record { strb = maskOf (map strbBit ls); user = usersOf m ls }
+
+-- the octets of n lanes behind the head of the record at the front of memory
+abbrev pub lanesPut : ℕ → List ℕ → List ℕ → List ℕ
+lanesPut n lanes out = take headOctets out ++ (lanes ++ drop (headOctets + n) out)
+
+-- the octets of a record of v lanes with n items, from item `from` on
+abbrev pub recordAt : ℕ → ℕ → ℕ → ℕ → List ℕ → ℕ → ℕ → List ℕ
+recordAt m v pair last codes from n =
+    octetsOf m (record { pair = pairFrom pair; lanes = fitted v (itemLanes codes from n); last = odd last })
+
+-- Such a record can be made: the items are held and their bits fit, and so do the pair and the bit in its head.
+pub record RecordFits (m v pair last : ℕ) (codes : List ℕ) (from n : ℕ) : Type 0 where
+  pub few : n ≤ v
+  pub low : 1 ≤ v
+  pub high : v ≤ 16
+  pub user : m ≤ 4
+  pub held : from + n ≤ length codes
+  pub fits : TagsFit m (take n (drop from codes))
+  pub headed : (pair < 0x10000) × (last ≤ 1)
