@@ -6,8 +6,8 @@ use crate::{ROUNDS, StreamAnswer, below, put_record};
 use std::{hint::black_box, time::Instant};
 
 unsafe extern "C" {
-    fn urd_judge(width: usize, take: *const u8, take_len: usize) -> StreamAnswer;
-    fn urd_harvest(width: usize, take: *const u8, take_len: usize, out: *mut u8, out_len: usize) -> StreamAnswer;
+    fn urd_judge(width: usize, user: usize, take: *const u8, take_len: usize) -> StreamAnswer;
+    fn urd_harvest(width: usize, user: usize, take: *const u8, take_len: usize, out: *mut u8, out_len: usize) -> StreamAnswer;
 }
 
 // The flags of a cycle's first octet.
@@ -85,12 +85,12 @@ fn plain_harvest(w: usize, take: &[u8], out: &mut [u8]) -> StreamAnswer {
 
 fn our_judge(w: usize, take: &[u8], _out: &mut [u8]) -> StreamAnswer {
     // the slice is live for the whole call
-    unsafe { urd_judge(w, take.as_ptr(), take.len()) }
+    unsafe { urd_judge(w, 0, take.as_ptr(), take.len()) }
 }
 
 fn our_harvest(w: usize, take: &[u8], out: &mut [u8]) -> StreamAnswer {
     // both slices are live for the whole call, and they do not overlap
-    unsafe { urd_harvest(w, take.as_ptr(), take.len(), out.as_mut_ptr(), out.len()) }
+    unsafe { urd_harvest(w, 0, take.as_ptr(), take.len(), out.as_mut_ptr(), out.len()) }
 }
 
 type Call = fn(usize, &[u8], &mut [u8]) -> StreamAnswer;

@@ -1,7 +1,8 @@
 //! The library's repack against the yardstick, in one process. First all must agree, in the answer and in the whole of
 //! the lent output: on edge cases, on random takes and on every take that is measured. Then the times, a line a case;
 //! `rust_us` is the fastest yardstick shape in that case. With the word `shapes`, each shape's time stands below.
-//! cycles.rs does the same for judge and harvest, before repack's lines; writes.rs, a program of its own, for write beats.
+//! cycles.rs does the same for judge and harvest, before repack's lines; writes.rs and users.rs, programs of their own, for
+//! write beats and for repack with user bits: here there are none.
 #[macro_use]
 mod yardstick;
 mod cycles;
@@ -13,13 +14,13 @@ use yardstick::{Answer, Converter, SHAPES};
 pub struct StreamAnswer { refusal: u32, rule: u32, place: u64, count: u64 }
 
 unsafe extern "C" {
-    fn urd_repack(width: usize, v: usize, input: *const u8, input_len: usize, out: *mut u8, out_len: usize) -> StreamAnswer;
+    fn urd_repack(width: usize, user: usize, v: usize, input: *const u8, input_len: usize, out: *mut u8, out_len: usize) -> StreamAnswer;
 }
 
 /// The library's call, as a converter.
 fn ours(width: usize, v: usize, input: &[u8], out: &mut [u8]) -> Answer {
     // both slices are live for the whole call, and they do not overlap
-    let a = unsafe { urd_repack(width, v, input.as_ptr(), input.len(), out.as_mut_ptr(), out.len()) };
+    let a = unsafe { urd_repack(width, 0, v, input.as_ptr(), input.len(), out.as_mut_ptr(), out.len()) };
     assert!(a.rule == 0, "a repack never names a rule");
     Answer { refusal: a.refusal, place: a.place, count: a.count }
 }

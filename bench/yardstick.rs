@@ -23,18 +23,18 @@ pub const SHAPES: [(&str, Converter); 4] = [
 ];
 
 /// The number of records, or the refusal and its place.
-type Counted = Result<usize, (u32, usize)>;
+pub type Counted = Result<usize, (u32, usize)>;
 
-fn answer(counted: Counted) -> Answer {
+pub fn answer(counted: Counted) -> Answer {
     let (count, (refusal, place)) = counted.map_or_else(|refused| (0, refused), |count| (count, (0, 0)));
     Answer { refusal, place: place as u64, count: count as u64 }
 }
 
 // A record's seven header octets as one little-endian number: TLAST, TID, TDEST, TKEEP, TSTRB. A record has at least
 // eight octets, so one load of eight reads it, with lane 0 on top.
-const LAST: u64 = 1;
-const PAIR: u64 = 0xFFFF << 8;
-const KEEP: u64 = 0xFFFF << 24;
+pub const LAST: u64 = 1;
+pub const PAIR: u64 = 0xFFFF << 8;
+pub const KEEP: u64 = 0xFFFF << 24;
 pub const HEAD: u64 = !0 >> 8;
 
 pub fn eight(octets: &[u8]) -> u64 { u64::from_le_bytes(octets[..8].try_into().unwrap()) }
@@ -42,13 +42,13 @@ pub fn keep_of(head: u64) -> usize { (head >> 24 & 0xFFFF) as usize }
 pub fn strb_of(head: u64) -> usize { (head >> 40 & 0xFFFF) as usize }
 
 /// TKEEP and TSTRB of a record with n data lanes from lane 0 on.
-const fn filled(n: usize) -> u64 { ((1 << n) - 1) * (1 << 24 | 1 << 40) }
+pub const fn filled(n: usize) -> u64 { ((1 << n) - 1) * (1 << 24 | 1 << 40) }
 
 /// TKEEP and TSTRB of the lanes that a width does not have.
 pub const fn unused_lanes(w: usize) -> u64 { filled(16) ^ filled(w) }
 
 /// The bits of a transfer's header that must be zero at width w.
-const fn zeros(w: usize) -> u64 { 0xFE | 0xF0 << 16 | unused_lanes(w) }
+pub const fn zeros(w: usize) -> u64 { 0xFE | 0xF0 << 16 | unused_lanes(w) }
 
 pub fn refuse_if(bad: bool, refusal: u32, place: usize) -> Result<(), (u32, usize)> {
     if bad { Err((refusal, place)) } else { Ok(()) }
@@ -61,13 +61,13 @@ fn check_take(w: usize, v: usize, input: &[u8]) -> Result<(), (u32, usize)> {
 }
 
 /// The fault of record k: FIELD before RESERVED.
-fn check_record(head: u64, w: usize, k: usize) -> Result<(), (u32, usize)> {
+pub fn check_record(head: u64, w: usize, k: usize) -> Result<(), (u32, usize)> {
     refuse_if(head & zeros(w) != 0, 3, k)?;
     refuse_if(strb_of(head) & !keep_of(head) != 0, 4, k)
 }
 
 /// The records of a stretch of n items, or of an end alone.
-fn records_of(n: usize, v: usize) -> usize { n.saturating_sub(1) / v + 1 }
+pub fn records_of(n: usize, v: usize) -> usize { n.saturating_sub(1) / v + 1 }
 
 /// The first pass of shapes (a) and (b): every refusal, and the number of records.
 fn judge(w: usize, v: usize, input: &[u8], out: &[u8]) -> Counted {
@@ -89,7 +89,7 @@ fn judge(w: usize, v: usize, input: &[u8], out: &[u8]) -> Counted {
 }
 
 /// The header of a record with n lanes and its null lanes; `head` has all but TKEEP.
-fn finish(rec: &mut [u8], v: usize, n: usize, head: u64) {
+pub fn finish(rec: &mut [u8], v: usize, n: usize, head: u64) {
     rec[..7].copy_from_slice(&(head | ((1 << n) - 1) << 24).to_le_bytes()[..7]);
     rec[7 + n..7 + v].fill(0);
 }
@@ -138,22 +138,22 @@ fn lane_by_lane<const HELD: bool>(w: usize, v: usize, input: &[u8], out: &mut [u
 
 /// The table of stretches of shapes (c) and (d), m of them, each its length, its TLAST and its pair in one number. The
 /// open stretch has the items from `start` on.
-struct Stretches<'a> { table: &'a mut [u32], m: usize, start: usize, pair: u64 }
+pub struct Stretches<'a> { pub table: &'a mut [u32], pub m: usize, pub start: usize, pub pair: u64 }
 
 impl Stretches<'_> {
-    fn close(&mut self, n: usize, last: u64) {
+    pub fn close(&mut self, n: usize, last: u64) {
         self.table[self.m] = (n - self.start) as u32 | (last << 16 | self.pair << 9) as u32;
         (self.m, self.start) = (self.m + 1, n);
     }
 
     /// The open stretch closed, if it has items: so many stretches.
-    fn cut(&mut self, n: usize) -> usize {
+    pub fn cut(&mut self, n: usize) -> usize {
         if self.start < n { self.close(n, 0); }
         self.m
     }
 
     /// Before a record's items, which begin at n: a stretch of another pair is closed.
-    fn turn(&mut self, n: usize, head: u64) {
+    pub fn turn(&mut self, n: usize, head: u64) {
         if head & PAIR != self.pair && head & (KEEP | LAST) != 0 {
             self.cut(n);
             self.pair = head & PAIR;
