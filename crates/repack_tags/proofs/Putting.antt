@@ -39,6 +39,13 @@ lanesWith codes = map some (map keptOf codes)
 length-lanes : (codes : List ℕ) → length (lanesWith codes) ≡ length codes
 length-lanes codes = length-map (map keptOf codes) some ∙ length-map codes keptOf
 
+-- sixteen lanes have sixteen bits of TSTRB
+pub strobes-small : (codes : List ℕ) → length codes ≤ 16 → maskOf (map strbBit (lanesWith codes)) < 0x10000
+strobes-small codes few =
+    let many : length (map strbBit (lanesWith codes)) ≡ length codes = length-map (lanesWith codes) strbBit ∙ length-lanes codes in
+    let most : length (map strbBit (lanesWith codes)) ≤ 16 = omega (arith, many) in
+    omega (arith, mask-fits (map strbBit (lanesWith codes)), pow-mono most)
+
 -- an octet or nothing is an octet
 pub octet-small : (x : ℕ) → x % 256 * (x / 256 % 2) < 256
 octet-small x = go (eqb (x / 256 % 2) 1) refl
@@ -62,7 +69,7 @@ module _ (m : ℕ) (items : List ℕ) (from n : ℕ) (before : List ℕ) (held :
   abbrev codes : List ℕ
   codes = take n (drop from items)
 
-  long : length codes ≡ n
+  pub long : length codes ≡ n
   long = length-take-le n (drop from items) (omega (arith, length-drop from items))
 
   pub putting-starts : Putting m n codes before before 0 0 n
@@ -78,11 +85,7 @@ module _ (m : ℕ) (items : List ℕ) (from n : ℕ) (before : List ℕ) (held :
 
   module _ (out : List ℕ) (t u j : ℕ) (p : Putting m n codes before out t u j) where
     pub strb-small : n ≤ 16 → t < 0x10000
-    strb-small few =
-        let many : length (map strbBit (lanesWith (drop j codes))) ≡ length codes - j =
-        length-map (lanesWith (drop j codes)) strbBit ∙ length-lanes (drop j codes) ∙ length-drop j codes in
-        let most : length (map strbBit (lanesWith (drop j codes))) ≤ 16 = omega (arith, many, long) in
-        omega (arith, p .strb, mask-fits (map strbBit (lanesWith (drop j codes))), pow-mono most)
+    strb-small few = omega (arith, p .strb, strobes-small (drop j codes) (omega (arith, long, length-drop j codes)))
 
     -- the next item down, x
     module _ (some : 0 < j) where
