@@ -2,7 +2,7 @@
 use mathlib.Core.Path.{_≡_, refl, ap, _∙_}
 use mathlib.Core.Bool.{Bool, true, false, cond}
 use mathlib.Core.List.{List, [], _∷_, _++_, map}
-use mathlib.Core.Option.{Option, none, some}
+use mathlib.Core.Option.{Option, some}
 use Prim.Native.Nat.{ℕ, zero, suc, _+_, _-_, _*_, _/_, _%_, _^_, _≤_, _<_}
 use native.Mathlib.Nat.{pow-suc, mul-zero, mod-lt}
 use native.Mathlib.Omega.{arith}
@@ -10,12 +10,13 @@ use borrow.Author.Tests.{eqb-true, eqb-false}
 use lib.Dec.{eqb}
 use lib.Pow.{pow-pos}
 use lib.ListN.{length, getD, take, drop, replicate}
+use lib.Seq.{take-take, take-nil}
 use Rattle.stream_spec.specs.Legal.{Octets}
 use Rattle.stream_spec.specs.Packed.{fitted}
 use Rattle.stream_spec.specs.Layout.{odd, bitOf, maskOf, Kept, octet, position, keepBit, strbBit, laneOctet, laneUser, usersOf}
 use Rattle.stream_spec.proofs.Users.{BitsFit, LanesTagged}
 use Rattle.repack_scratch.specs.Codes.{keptOf, taggedCode, tagged}
-use Rattle.repack_tags.specs.Tags.{TagsFit}
+use Rattle.repack_tags.specs.Tags.{Gathered, TagsFit}
 
 -- ---- an item
 
@@ -69,17 +70,24 @@ fit-drop m zero xs h = h
 fit-drop m (suc n) [] h = tt
 fit-drop m (suc n) (x ∷ xs) h = fit-drop m n xs (h .1)
 
-pub fit-take : (m n : ℕ) (xs : List ℕ) → TagsFit m xs → TagsFit m (take n xs)
+fit-take : (m n : ℕ) (xs : List ℕ) → TagsFit m xs → TagsFit m (take n xs)
 fit-take m zero xs h = tt
 fit-take m (suc n) [] h = tt
 fit-take m (suc n) (x ∷ xs) h = (h .0, fit-take m n xs (h .1))
 
-pub fit-append : (m : ℕ) (xs ys : List ℕ) → TagsFit m xs → TagsFit m ys → TagsFit m (xs ++ ys)
+-- a part of those that are held
+pub fit-part : (m a from n : ℕ) (xs : List ℕ) → from + n ≤ a → TagsFit m (take a xs) → TagsFit m (take n (drop from xs))
+fit-part m a zero n xs h f = rw (take-take n a xs (omega arith)) at (fit-take m n (take a xs) f)
+fit-part m a (suc from) n [] h f = rw (take-nil {A = ℕ} n) tt
+fit-part m zero (suc from) n (x ∷ xs) h f = absurd (omega arith)
+fit-part m (suc a) (suc from) n (x ∷ xs) h f = fit-part m a from n xs (omega arith) (f .1)
+
+fit-append : (m : ℕ) (xs ys : List ℕ) → TagsFit m xs → TagsFit m ys → TagsFit m (xs ++ ys)
 fit-append m [] ys h k = k
 fit-append m (x ∷ xs) ys h k = (h .0, fit-append m xs ys (h .1) k)
 
--- what is gathered of a record fits
-pub fit-tagged : (m w k t u : ℕ) (ds : List ℕ) → Octets ds → TagsFit m (tagged m w k t u ds)
+-- what is gathered of a record
+fit-tagged : (m w k t u : ℕ) (ds : List ℕ) → Octets ds → TagsFit m (tagged m w k t u ds)
 fit-tagged m zero k t u ds h = tt
 fit-tagged m (suc w) k t u ds h = go (fit-tagged m w (k / 2) (t / 2) (u / 2 ^ m) (drop 1 ds) (rest ds h)) (odd k) refl
   where
@@ -97,6 +105,11 @@ fit-tagged m (suc w) k t u ds h = go (fit-tagged m w (k / 2) (t / 2) (u / 2 ^ m)
     go : TagsFit m (tagged m w (k / 2) (t / 2) (u / 2 ^ m) (drop 1 ds)) → (b : Bool) → odd k ≡ b → TagsFit m (tagged m (suc w) k t u ds)
     go ih true e = rw e (bits, ih)
     go ih false e = rw e ih
+
+pub fit-gathered : (m keep strb user : ℕ) (lanes items : List ℕ) (at : ℕ) (after : List ℕ) (r : ℕ) → Octets lanes → TagsFit m (take at items)
+    → Gathered m keep strb user lanes items at after r → TagsFit m (take r after)
+fit-gathered m keep strb user lanes items at after r o f g =
+    rw (g .is) (fit-append m (take at items) (tagged m (length lanes) keep strb user lanes) f (fit-tagged m (length lanes) keep strb user lanes o))
 
 -- ---- the lanes of a record: its items, then nulls
 

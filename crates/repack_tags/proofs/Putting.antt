@@ -6,7 +6,6 @@ use mathlib.Core.List.{List, [], _∷_, _++_, map}
 use mathlib.Core.Option.{Option, some}
 use Prim.Native.Nat.{ℕ, zero, suc, _+_, _-_, _*_, _/_, _%_, _^_, _≤_, _<_}
 use native.Mathlib.Nat.{add-zero, mul-comm, mul-le-mul, mod-eq-of-lt}
-use native.Mathlib.Numerals.{add-one}
 use native.Mathlib.Omega.{arith}
 use borrow.Author.Tests.{eqb-true, eqb-false}
 use lib.Dec.{eqb}
@@ -27,7 +26,7 @@ use Rattle.stream_write.specs.Write.{headerOctets, nullLanes}
 use Rattle.stream_write.proofs.Fill.{fill-down}
 use Rattle.repack_scratch.specs.Codes.{keptOf, pairFrom}
 use Rattle.repack_tags.specs.declared.Tags.{Tags}
-use Rattle.repack_tags.specs.Tags.{TagsFit, tagsOf, lanesPut}
+use Rattle.repack_tags.specs.Tags.{TagsFit, tagsOf}
 use Rattle.repack_tags.proofs.Lanes.{octet-is, strobe-is, user-is, lanes-fit, fit-drop, fitted-octets, fitted-strb, fitted-users, fitted-keep}
 
 -- ---- item by item, from the last one down
@@ -38,6 +37,16 @@ lanesWith codes = map some (map keptOf codes)
 
 length-lanes : (codes : List ℕ) → length (lanesWith codes) ≡ length codes
 length-lanes codes = length-map (map keptOf codes) some ∙ length-map codes keptOf
+
+length-octs : (codes : List ℕ) → length (map laneOctet (lanesWith codes)) ≡ length codes
+length-octs codes = length-map (lanesWith codes) laneOctet ∙ length-lanes codes
+
+-- sixteen lanes have sixteen bits of TSTRB
+pub strobes-small : (codes : List ℕ) → length codes ≤ 16 → maskOf (map strbBit (lanesWith codes)) < 0x10000
+strobes-small codes few =
+    let many : length (map strbBit (lanesWith codes)) ≡ length codes = length-map (lanesWith codes) strbBit ∙ length-lanes codes in
+    let most : length (map strbBit (lanesWith codes)) ≤ 16 = omega (arith, many) in
+    omega (arith, mask-fits (map strbBit (lanesWith codes)), pow-mono most)
 
 -- an octet or nothing is an octet
 pub octet-small : (x : ℕ) → x % 256 * (x / 256 % 2) < 256
@@ -62,7 +71,7 @@ module _ (m : ℕ) (items : List ℕ) (from n : ℕ) (before : List ℕ) (held :
   abbrev codes : List ℕ
   codes = take n (drop from items)
 
-  long : length codes ≡ n
+  pub long : length codes ≡ n
   long = length-take-le n (drop from items) (omega (arith, length-drop from items))
 
   pub putting-starts : Putting m n codes before before 0 0 n
@@ -78,11 +87,7 @@ module _ (m : ℕ) (items : List ℕ) (from n : ℕ) (before : List ℕ) (held :
 
   module _ (out : List ℕ) (t u j : ℕ) (p : Putting m n codes before out t u j) where
     pub strb-small : n ≤ 16 → t < 0x10000
-    strb-small few =
-        let many : length (map strbBit (lanesWith (drop j codes))) ≡ length codes - j =
-        length-map (lanesWith (drop j codes)) strbBit ∙ length-lanes (drop j codes) ∙ length-drop j codes in
-        let most : length (map strbBit (lanesWith (drop j codes))) ≤ 16 = omega (arith, many, long) in
-        omega (arith, p .strb, mask-fits (map strbBit (lanesWith (drop j codes))), pow-mono most)
+    strb-small few = omega (arith, p .strb, strobes-small (drop j codes) (omega (arith, long, length-drop j codes)))
 
     -- the next item down, x
     module _ (some : 0 < j) where
@@ -128,11 +133,11 @@ module _ (m : ℕ) (items : List ℕ) (from n : ℕ) (before : List ℕ) (held :
 
     -- all are written
     pub putting-done : j ≡ 0
-        → (record { strb = t; user = u } ≡ tagsOf m (lanesWith codes)) × (out ≡ lanesPut n (map laneOctet (lanesWith codes)) before)
+        → (record { strb = t; user = u } ≡ tagsOf m (lanesWith codes)) × (out ≡ splice headOctets (map laneOctet (lanesWith codes)) before)
     putting-done e =
         let strb : t ≡ maskOf (map strbBit (lanesWith codes)) = p .strb ∙ rw e refl in
         let user : u ≡ usersOf m (lanesWith codes) = p .user ∙ rw e refl in
-        (λ i. record { strb = strb i; user = user i }, p .is ∙ rw e refl)
+        (λ i. record { strb = strb i; user = user i }, p .is ∙ rw (e, length-octs codes, long) refl)
 
 -- ---- user bits, from the lowest octet up
 
@@ -187,19 +192,18 @@ module _ (at user k : ℕ) (before : List ℕ) where
 -- items, nulls, user bits and header, one after the other
 four-writes : (out out1 out2 out3 out4 octs zeros us hdr : List ℕ) (n v : ℕ) → length octs ≡ n → length zeros ≡ v - n → n ≤ v
     → 7 + v + length us ≤ length out
-    → out1 ≡ take 7 out ++ (octs ++ drop (7 + n) out) → out2 ≡ take (7 + n) out1 ++ (zeros ++ drop (7 + v) out1)
+    → out1 ≡ splice 7 octs out → out2 ≡ take (7 + n) out1 ++ (zeros ++ drop (7 + v) out1)
     → out3 ≡ splice (7 + v) us out2 → out4 ≡ hdr ++ drop 7 out3
     → out4 ≡ hdr ++ (((octs ++ zeros) ++ us) ++ drop (7 + v + length us) out)
 four-writes out out1 out2 out3 out4 octs zeros us hdr n v lo lz h room e f g k =
     let nulls : 7 + length octs + length zeros ≡ 7 + v = omega arith in
     let lanes : 7 + length (octs ++ zeros) ≡ 7 + v = omega (arith, length-append octs zeros) in
     let all : 7 + length ((octs ++ zeros) ++ us) ≡ 7 + v + length us = omega (arith, lanes, length-append (octs ++ zeros) us) in
-    let one : out1 ≡ splice 7 octs out = e ∙ ap (λ (x : ℕ). take 7 out ++ (octs ++ drop (7 + x) out)) (sym lo) in
     let two : out2 ≡ splice 7 (octs ++ zeros) out =
     f
     ∙ ap (λ (x : ℕ). take (7 + x) out1 ++ (zeros ++ drop (7 + v) out1)) (sym lo)
     ∙ ap (λ (x : ℕ). take (7 + length octs) out1 ++ (zeros ++ drop x out1)) (sym nulls)
-    ∙ ap (splice (7 + length octs) zeros) one
+    ∙ ap (splice (7 + length octs) zeros) e
     ∙ splice-splice 7 octs zeros out (omega arith) in
     let three : out3 ≡ splice 7 ((octs ++ zeros) ++ us) out =
     g
@@ -234,7 +238,7 @@ record-octets m v pair last codes tail h p l =
 pub record-written : (m v : ℕ) (out out1 out2 out3 out4 codes : List ℕ) (n pair last keep k : ℕ) (tags : Tags)
     → length codes ≡ n → n ≤ v → size (shaped v m) ≤ length out → pair < 0x10000 → last ≤ 1 → keep ≡ 2 ^ n - 1 → k ≡ userOctets v m
     → tags ≡ tagsOf m (lanesWith codes)
-    → out1 ≡ lanesPut n (map laneOctet (lanesWith codes)) out
+    → out1 ≡ splice 7 (map laneOctet (lanesWith codes)) out
     → out2 ≡ nullLanes n v out1
     → out3 ≡ splice (7 + v) (octetsOfWord k (tags .user)) out2
     → out4 ≡ headerOctets (last % 256) (pair % 256) (pair / 256 % 256) keep (tags .strb) ++ drop 7 out3
@@ -242,9 +246,8 @@ pub record-written : (m v : ℕ) (out out1 out2 out3 out4 codes : List ℕ) (n p
 record-written m v out out1 out2 out3 out4 codes n pair last keep k tags long few room p l ke kk te e f g h =
     let us-long : length (octetsOfWord (userOctets v m) (usersOf m (lanesWith codes))) ≡ userOctets v m =
     length-octets (userOctets v m) (usersOf m (lanesWith codes)) in
-    let octs-long : length (map laneOctet (lanesWith codes)) ≡ n = length-map (lanesWith codes) laneOctet ∙ length-lanes codes ∙ long in
     let end : 7 + v + length (octetsOfWord (userOctets v m) (usersOf m (lanesWith codes))) ≡ size (shaped v m) = omega (arith, us-long, size-is (shaped v m)) in
     four-writes out out1 out2 out3 out4 (map laneOctet (lanesWith codes)) (replicate {A = ℕ} (v - n) 0) (octetsOfWord (userOctets v m) (usersOf m (lanesWith codes)))
-    (headerOctets (last % 256) (pair % 256) (pair / 256 % 256) (2 ^ n - 1) (maskOf (map strbBit (lanesWith codes)))) n v octs-long (length-replicate {A = ℕ} (v - n) 0) few (omega (arith, end)) e f
+    (headerOctets (last % 256) (pair % 256) (pair / 256 % 256) (2 ^ n - 1) (maskOf (map strbBit (lanesWith codes)))) n v (length-octs codes ∙ long) (length-replicate {A = ℕ} (v - n) 0) few (omega (arith, end)) e f
     (g ∙ rw (kk, te) refl) (h ∙ rw (ke, te) refl)
     ∙ rw (end, ← long) (record-octets m v pair last codes (drop (size (shaped v m)) out) (omega arith) p l)

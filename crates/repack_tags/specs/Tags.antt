@@ -4,9 +4,8 @@ use mathlib.Core.List.{List, [], _∷_, _++_, map}
 use mathlib.Core.Option.{Option, some}
 use Prim.Native.Nat.{ℕ, _+_, _/_, _^_, _≤_, _<_}
 use lib.ListN.{length, take, drop}
-use Rattle.stream_spec.specs.Packed.{fitted}
-use Rattle.stream_spec.specs.Layout.{headOctets, odd, maskOf, Kept, strbBit, usersOf, octetsOf}
-use Rattle.repack_scratch.specs.Codes.{keptOf, tagged, pairFrom}
+use Rattle.stream_spec.specs.Layout.{maskOf, Kept, strbBit, usersOf}
+use Rattle.repack_scratch.specs.Codes.{keptOf, tagged}
 use Rattle.repack_tags.specs.declared.Tags.{Tags}
 
 -- ---- reading
@@ -33,16 +32,8 @@ itemLanes codes from n = map some (map keptOf (take n (drop from codes)))
 abbrev pub tagsOf : ℕ → List (Option Kept) → Tags
 tagsOf m ls = record { strb = maskOf (map strbBit ls); user = usersOf m ls }
 
--- the octets of n lanes behind the head of the record at the front of memory
-abbrev pub lanesPut : ℕ → List ℕ → List ℕ → List ℕ
-lanesPut n lanes out = take headOctets out ++ (lanes ++ drop (headOctets + n) out)
-
--- the octets of a record of v lanes with n items, from item `from` on
-abbrev pub recordAt : ℕ → ℕ → ℕ → ℕ → List ℕ → ℕ → ℕ → List ℕ
-recordAt m v pair last codes from n =
-    octetsOf m (record { pair = pairFrom pair; lanes = fitted v (itemLanes codes from n); last = odd last })
-
--- Such a record can be made: the items are held and their bits fit, and so do the pair and the bit in its head.
+-- A record of v lanes with n items, from item `from` on, can be made: they are held, their bits fit, and so do the pair and the bit
+-- of its head.
 pub record RecordFits (m v pair last : ℕ) (codes : List ℕ) (from n : ℕ) : Type 0 where
   pub few : n ≤ v
   pub low : 1 ≤ v

@@ -8,10 +8,11 @@ ghost use Prim.Native.Nat.{_+_, _%_, _≤_, _<_};
 ghost use lib.ListN.{length, take, drop, set};
 ghost use Rattle.words.specs.Splice.{splice};
 ghost use Rattle.words.specs.Words.{octetsOfWord};
-ghost use Rattle.stream_spec.specs.Layout.{headOctets, userNumber, size, shaped, laneOctet, octetsOf};
+ghost use Rattle.stream_spec.specs.Layout.{headOctets, userNumber, size, shaped, odd, laneOctet, octetsOf};
+ghost use Rattle.stream_spec.specs.Packed.{fitted};
 ghost use Rattle.stream_spec.specs.Walk.{Narrow};
-ghost use Rattle.repack_scratch.specs.Codes.{taggedCode};
-ghost use Rattle.repack_tags.specs.Tags.{Gathered, TagsFit, itemLanes, lanesPut, tagsOf, RecordFits, recordAt};
+ghost use Rattle.repack_scratch.specs.Codes.{taggedCode, pairFrom};
+ghost use Rattle.repack_tags.specs.Tags.{Gathered, TagsFit, itemLanes, tagsOf, RecordFits};
 
 // TSTRB and the user bits of a record's lanes, lane 0's bits the lowest.
 pub struct Tags {
@@ -76,7 +77,7 @@ pub fn sift_tagged(
 fn put_items(out: &mut [u8], items: &[u16], from: usize, n: usize, m: usize) -> Tags
     requires { ⌜ (n ≤ 16) × (m ≤ 4) × (from + n ≤ length (now items)) × (headOctets + n ≤ length (now out)) × TagsFit m (take n (drop from (now items))) ⌝ }
     ensures { λ r. ⌜ r ≡ tagsOf m (itemLanes (now (items .entry)) from n) ⌝ }
-    ensures { λ _. ⌜ now (out .exit) ≡ lanesPut n (map laneOctet (itemLanes (now (items .entry)) from n)) (now (out .entry)) ⌝ }
+    ensures { λ _. ⌜ now (out .exit) ≡ splice headOctets (map laneOctet (itemLanes (now (items .entry)) from n)) (now (out .entry)) ⌝ }
 {
     let mut strb = 0;
     let mut user = 0;
@@ -118,7 +119,7 @@ pub fn put_record(
     last: u32,
 )
     requires { ⌜ RecordFits m v pair last (now items) from n × (size (shaped v m) ≤ length (now out)) ⌝ }
-    ensures { λ _. ⌜ now (out .exit) ≡ recordAt m v pair last (now (items .entry)) from n ++ drop (size (shaped v m)) (now (out .entry)) ⌝ }
+    ensures { λ _. ⌜ now (out .exit) ≡ octetsOf m (record { pair = pairFrom pair; lanes = fitted v (itemLanes (now (items .entry)) from n); last = odd last }) ++ drop (size (shaped v m)) (now (out .entry)) ⌝ }
 {
     let tags = put_items(out, items, from, n, m);
     stream_write::write_nulls(out, n, v);

@@ -1,7 +1,5 @@
 -- `repack_tags::load_user` meets its contract: a word is loaded, and the octets before the user bits are shifted out. Assumes nothing.
 use native.Mathlib.Omega.{arith}
-use lib.ListN.{length}
-use Prim.Native.Nat.{_≤_}
 use Rattle.repack_tags.proofs.Sifting.{none-loaded, eight-before, user-loaded}
 use borrow.Author.Needs.{needs}
 use Rattle.repack_tags.proofs.load_user.Statement.{statement}
