@@ -13,15 +13,15 @@ use Rattle.refusal.proofs.First.{append-found, append-passed}
 use Rattle.stream_spec.specs.declared.Shape.{Shape}
 use Rattle.stream_spec.specs.declared.Written.{Written}
 use Rattle.stream_spec.specs.declared.Written.the-variants.{Refused}
-use Rattle.stream_spec.specs.Layout.{records, packedTransfers, packed}
+use Rattle.stream_spec.specs.Layout.{ofWidth, records, packedTransfers, packed}
 use Rattle.stream_spec.specs.Checks.{transferChecks, roomCheck}
 use Rattle.stream_spec.specs.Answers.{Repacked, written, lentAfter, repackRefusal, repackAnswer, repackAfter}
 use Rattle.stream_spec.specs.Walk.{Passed}
 use Rattle.stream_spec.proofs.Passed.{WidthFits}
 use Rattle.stream_record.specs.declared.Checked.the-variants.{Passed as PassedTests}
 use Rattle.stream_record.proofs.Tests.{input-passed}
-use Rattle.repack_scratch.specs.Codes.{stretchRoom, codesIn}
-use Rattle.repack_parse.specs.Read.{Taken}
+use Rattle.repack_scratch.specs.Codes.{stretchRoom}
+use Rattle.repack_parse.specs.Read.{TakenAs, Taken}
 use Rattle.repack_emit.specs.Emit.{TableFits, Emitted}
 use Rattle.stream_repack.specs.Tests.{inputChecks}
 
@@ -57,29 +57,35 @@ module _ (s : Shape) (v : ℕ) (transfers out : List ℕ) where
     bad-record f h =
         refused f (ladder ∙ append-found (transferChecks s 0 (records s transfers)) (roomCheck (packed s v transfers) (length out) ∷ []) f h)
 
-    -- no fault: the take's stretches are in the table
-    module _ (octets marks table : List ℕ) (n : ℕ) (plain : Bool) (t : Taken (s .width) transfers octets marks table n plain) where
+    -- no fault: the take's stretches are in the table, their items held as codes
+    module _ (codes table : List ℕ) (n : ℕ) (t : TakenAs s transfers codes table n) where
       pub table-fits : n ≤ length table
       table-fits = t .finished .within
 
       pub prefix-long : n ≡ length (take n table)
       prefix-long = sym (length-take-le n table (t .finished .within))
 
-      -- they can be written
-      pub emit-ready : length table ≡ stretchRoom → TableFits v plain octets marks (take n table) × (length (take n table) ≤ stretchRoom)
-      emit-ready l = (
-        record {
-          low = tests-passed .1 .low;
-          high = tests-passed .1 .high;
-          room = t .room;
-          held = record { same = t .sameOctets ∙ sym (t .sameMarks); unmarked = t .unmarked };
-        },
-        omega (arith, length-take n table),
-      )
+      pub prefix-short : length table ≡ stretchRoom → length (take n table) ≤ stretchRoom
+      prefix-short l = omega (arith, length-take n table)
 
-      -- and what writing them answers is the answer
-      pub no-fault : (after : List ℕ) (r : Written) → Emitted v (codesIn octets marks) (take n table) out after r → Repacked s v transfers out after r
+      -- what writing them answers is the answer
+      pub no-fault : (after : List ℕ) (r : Written) → Emitted (s .user) v codes (take n table) out after r → Repacked s v transfers out after r
       no-fault after r m =
           answered (first (roomCheck (packed s v transfers) (length out) ∷ [])) after r
           (ladder ∙ append-passed (transferChecks s 0 (records s transfers)) (roomCheck (packed s v transfers) (length out) ∷ []) (t .faultless))
           (rw (t .finished .is) at (m .answer)) (rw (t .finished .is) at (m .memory))
+
+-- octets and marks can be written
+pub marks-ready : (w v : ℕ) (transfers octets marks table : List ℕ) (n : ℕ) (plain : Bool) → WidthFits v → Taken w transfers octets marks table n plain
+    → TableFits v plain octets marks (take n table)
+marks-ready w v transfers octets marks table n plain f t =
+    record {
+      low = f .low;
+      high = f .high;
+      room = t .room;
+      held = record { same = t .sameOctets ∙ sym (t .sameMarks); unmarked = t .unmarked };
+    }
+
+-- a shape without user bits is known by its width
+pub bare-shape : (s : Shape) → s .user ≡ 0 → ofWidth (s .width) ≡ s
+bare-shape s e = λ i. record { width = s .width; user = sym e i }

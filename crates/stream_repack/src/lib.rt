@@ -1,5 +1,6 @@
-// The public call `repack`: a take of transfer records as its packed form at another width, or a refusal. Reading the take is
-// in repack_parse, writing the records in repack_emit; both know a record by its width.
+// The public call `repack`: a take of transfer records as its packed form at another width, or a refusal. A take without user bits
+// is read in repack_parse and written in repack_emit, which know a record by its width; one with user bits is read in
+// repack_tagged_parse and written in repack_tagged_emit.
 use repack_parse::Parsed;
 use repack_scratch::ITEM_ROOM;
 use repack_scratch::MARK_ROOM;
@@ -10,19 +11,21 @@ use stream_spec::Written;
 ghost use mathlib.Core.Path.{_≡_};
 ghost use mathlib.Core.Option.{none};
 ghost use Rattle.refusal.specs.Checks.{first};
+ghost use Rattle.stream_spec.specs.Layout.{ofWidth};
 ghost use Rattle.stream_spec.specs.Answers.{Repacked};
 ghost use Rattle.stream_repack.specs.Tests.{inputChecks};
 
-// The widths and the length have passed their tests. Three arrays hold what the take carries: an octet and a mark for each
-// item, an entry for each stretch; nothing is written to `out` before all records are read and the answer is known to fit.
-fn convert(s: Shape, v: usize, transfers: &[u8], out: &mut [u8]) -> Written
-    requires { ⌜ first (inputChecks s v (now transfers)) ≡ none ⌝ }
-    ensures { λ r. ⌜ Repacked s v (now (transfers .entry)) (now (out .entry)) (now (out .exit)) r ⌝ }
+// Records of w lanes without user bits; the tests in front have passed. Three arrays hold what the take carries: an octet and a
+// mark for each item, an entry for each stretch; nothing is written to `out` before all records are read and the answer is
+// known to fit.
+fn convert_bare(w: usize, v: usize, transfers: &[u8], out: &mut [u8]) -> Written
+    requires { ⌜ first (inputChecks (ofWidth w) v (now transfers)) ≡ none ⌝ }
+    ensures { λ r. ⌜ Repacked (ofWidth w) v (now (transfers .entry)) (now (out .entry)) (now (out .exit)) r ⌝ }
 {
     let mut octets = [0u8; ITEM_ROOM];
     let mut marks = [0u8; MARK_ROOM];
     let mut table = [0u32; STRETCH_ROOM];
-    let p = repack_parse::parse(s.width, transfers, &mut octets, &mut marks, &mut table);
+    let p = repack_parse::parse(w, transfers, &mut octets, &mut marks, &mut table);
     match p {
         Parsed::Refused(r) => Written::Refused(r),
         Parsed::Stretches(n, plain) => {
@@ -38,6 +41,6 @@ pub fn repack(s: Shape, v: usize, transfers: &[u8], out: &mut [u8]) -> Written
 {
     match stream_record::check_input(s, v, transfers) {
         Checked::Refused(f) => Written::Refused(f),
-        Checked::Passed => convert(s, v, transfers, out),
+        Checked::Passed => convert_bare(s.width, v, transfers, out),
     }
 }
