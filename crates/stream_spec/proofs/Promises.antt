@@ -170,10 +170,10 @@ joins v is js h = pack-parted v is js h
 pub canonical : Canonical
 canonical s t v xs ys m w l k = (
   (λ e.
-  sym (packed-items s v (w .0) xs)
-  ∙ ap (streamItems (atWidth s v)) e
-  ∙ ap (λ (u : ℕ). streamItems (shaped v u) (packed t v ys)) m
-  ∙ packed-items t v (w .0) ys),
+      sym (packed-items s v (w .0) xs)
+      ∙ ap (streamItems (atWidth s v)) e
+      ∙ ap (λ (u : ℕ). streamItems (shaped v u) (packed t v ys)) m
+      ∙ packed-items t v (w .0) ys),
   (λ e. ap₂ (λ (u : ℕ) (is : List (Item Kept)). octets u (pack v is)) m e),
 )
 

@@ -87,7 +87,7 @@ emit-requires c κs =
     let passed = tests-passed (ofWidth (a .w)) (a .v) (a .transfers .now) (a .out .now) (s .pre) in (
       marks-ready (a .w) (a .v) (a .transfers .now) octets marks table n plain (passed .1) t,
       prefix-short (ofWidth (a .w)) (a .v) (a .transfers .now) (a .out .now) (s .pre) (codesIn octets marks) table n (t .taken)
-      (parse .kept .1 .1 .1 .1 .0 ∙ length-replicate {A = ℕ} stretchRoom 0),
+          (parse .kept .1 .1 .1 .1 .0 ∙ length-replicate {A = ℕ} stretchRoom 0),
     )
 
 returns : tie.Need-returns
