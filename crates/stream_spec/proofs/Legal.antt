@@ -204,7 +204,7 @@ bytes-tagged m (some (octet d u) ∷ ls) h = (h .0 .1, bytes-tagged m ls (h .1))
 bytes-tagged m (some (position u) ∷ ls) h = (h .0, bytes-tagged m ls (h .1))
 
 -- so the padding is zero
-record-user : (s : Shape) (t : Transfer Kept) → length (t .lanes) ≡ s .width → LanesTagged (s .user) (t .lanes)
+pub record-user : (s : Shape) (t : Transfer Kept) → length (t .lanes) ≡ s .width → LanesTagged (s .user) (t .lanes)
     → userNumber s (octetsOf (s .user) t) < 2 ^ (s .width * s .user)
 record-user s t h k = rw (users-back s t h k, ← h) (users-fit (s .user) (t .lanes) k)
 
