@@ -3,13 +3,17 @@ use mathlib.Core.Path.{_≡_}
 use mathlib.Core.Bool.{false}
 use mathlib.Core.List.{List, _∷_}
 use mathlib.Core.Option.{none}
+use Prim.Native.Nat.{_≤_}
+use borrow.Author.Tests.{ltb-false}
 use Rattle.refusal.specs.Checks.{Check, first}
 use Rattle.refusal.specs.declared.Refusal.{Refusal}
 use Rattle.refusal.proofs.First.{first-none}
+use Rattle.stream_spec.specs.Layout.{userMost}
 use Rattle.stream_spec.specs.Checks.{userCheck, widthCheck}
+use Rattle.stream_spec.specs.Walk.{Narrow}
 use Rattle.stream_spec.proofs.Passed.{WidthFits, width-fits}
 use Rattle.report_setup_spec.specs.declared.Setup.{Setup}
-use Rattle.report_spec.specs.Report.{shapeOf, ratioChecks, Passes}
+use Rattle.report_spec.specs.Report.{shapeOf, outShape, ratioChecks, Passes}
 
 module _ (u : Setup) (p : Passes u) where
   abbrev ratio : List (Check Refusal)
@@ -36,8 +40,15 @@ module _ (u : Setup) (p : Passes u) where
   pub sound-ratio : first (ratioChecks (u .mode) (shapeOf u) (u .«width_out»)) ≡ none
   sound-ratio = found-user .1
 
-  pub fits-in : WidthFits (u .«width_in»)
-  fits-in = width-fits (u .«width_in») sound-in
-
   pub fits-out : WidthFits (u .«width_out»)
   fits-out = width-fits (u .«width_out») sound-out
+
+  few-user : u .user ≤ userMost
+  few-user = ltb-false userMost (u .user) sound-user
+
+  -- the records of the take and of the result have sizes that code can count
+  pub narrow-in : Narrow (shapeOf u)
+  narrow-in = record { width = width-fits (u .«width_in») sound-in .high; user = few-user }
+
+  pub narrow-out : Narrow (outShape u)
+  narrow-out = record { width = fits-out .high; user = few-user }
