@@ -13,11 +13,15 @@
  *   - so much stack is free: 216 KB for urd_report, 88 KB for urd_repack, 2 KB for any other call. (tests/bindings
  *     measures each of them; here they use 211.3, 83.1 and at most 1.2 KB, most of it arrays.)
  *
- * Octets. A capture (paper 01: a take) is records of 7 + width octets, width 1 to 16, at most 65,536 octets in all:
+ * Octets. A capture (paper 01: a take) is records of 7 + width + width * user / 8 octets, the last number rounded up, width being
+ * 1 to 16 byte lanes and user 0 to 4 user bits (TUSER) to a byte. So a record has 8 to 31 octets; a capture at most 65,536 in all:
  *   octet 0     bit 0 TLAST, bit 1 TVALID, bit 2 TREADY, bit 3 ARESETn; in a transfer record bit 0 alone
  *   octet 1, 2  TID 0 to 255, TDEST 0 to 15
  *   octet 3, 4  TKEEP, low octet first; octet 5, 6 TSTRB, the same way; bits at or above width are zero
  *   octet 7 on  data of lane 0, lane 1, up to width - 1
+ *   then        user bits, low octet first: those of lane x are bits x * user to x * user + user - 1; bits at or above
+ *               width * user are zero. A null lane may have any in a record that is read, and has zeros where urd_repack or
+ *               urd_downsize wrote it; where user is 0 there are no such octets
  * A take of write beats is records of 1 + bus/8 octets, bus/8 rounded up, at most 65,536 octets in all, too:
  *   octet 0     bit 0 WLAST; the other bits are zero
  *   octet 1 on  WSTRB, low octet first, lane 0 in the lowest bit; bits at or above bus are zero
@@ -34,22 +38,23 @@
 extern "C" {
 #endif
 
-/* The refusal numbers of paper 01, each with when exactly it is given. 0 is no refusal. */
-#define URD_WIDTH 1    /* a width is 0 or above 16 */
-#define URD_LENGTH 2   /* input is over 65,536 octets or no whole number of records */
-#define URD_FIELD 3    /* a bit that must be zero is set, or TDEST is above 15 */
-#define URD_RESERVED 4 /* a transfer record has a lane with TKEEP low and TSTRB high */
-#define URD_ROOM 5     /* the lent output, or the lent row, is shorter than the answer */
-#define URD_RATIO 6    /* downsizing: v does not divide width */
-#define URD_BUS 7      /* bus is none of 1, 2, 4, 8, 16, 32, 64, 128 */
-#define URD_SIZE 8     /* AxSIZE is above 7, or a beat is wider than the bus */
-#define URD_TYPE 9     /* kind is 3 or more */
-#define URD_COUNT 10   /* that many beats are not allowed for the kind, or AxLEN is above 255 */
-#define URD_ALIGN 11   /* the start of a WRAP is not a multiple of a beat's bytes */
-#define URD_FENCE 12   /* a byte of a beat lies in another 4,096-byte block than the start */
-#define URD_INDEX 13   /* no such record or beat; for a step, no next beat */
-#define URD_UNCLEAN 14 /* harvest of a broken capture */
-#define URD_SHEET 15   /* the setup sheet is not as it must be: the report only */
+/* The refusal numbers of papers 01 and 02, each with when exactly it is given. 0 is no refusal. */
+#define URD_WIDTH 1     /* a width is 0 or above 16 */
+#define URD_LENGTH 2    /* input is over 65,536 octets or no whole number of records */
+#define URD_FIELD 3     /* a bit that must be zero is set, or TDEST is above 15 */
+#define URD_RESERVED 4  /* a transfer record has a lane with TKEEP low and TSTRB high */
+#define URD_ROOM 5      /* the lent output, or the lent row, is shorter than the answer */
+#define URD_RATIO 6     /* downsizing: v does not divide width */
+#define URD_BUS 7       /* bus is none of 1, 2, 4, 8, 16, 32, 64, 128 */
+#define URD_SIZE 8      /* AxSIZE is above 7, or a beat is wider than the bus */
+#define URD_TYPE 9      /* kind is 3 or more */
+#define URD_COUNT 10    /* that many beats are not allowed for the kind, or AxLEN is above 255 */
+#define URD_ALIGN 11    /* the start of a WRAP is not a multiple of a beat's bytes */
+#define URD_FENCE 12    /* a byte of a beat lies in another 4,096-byte block than the start */
+#define URD_INDEX 13    /* no such record or beat; for a step, no next beat */
+#define URD_UNCLEAN 14  /* harvest of a broken capture */
+#define URD_SHEET 15    /* the setup sheet is not as it must be: the report only */
+#define URD_USERBITS 16 /* user is above 4 */
 
 /* The kinds of a burst, AxBURST. */
 #define URD_FIXED 0
@@ -126,6 +131,9 @@ urd_write_answer urd_judge_writes(uint32_t start, uint32_t len, uint32_t size, u
 
 /* ---- streams ---- */
 
+/* width and user say what a record is, above; urd_repack and urd_downsize read and write records of the same user. The number `user`
+ * is there since T-06: a program compiled before passes its other numbers in the wrong places, so compile it anew, with user 0. */
+
 /* What a stream call answers. */
 typedef struct urd_stream_answer {
     uint32_t refusal; /* the refusal's number, or 0 */
@@ -144,36 +152,38 @@ typedef struct urd_part_answer {
 /* Judges cycle records. Clean: rule 0, count of transfers. Broken: the lowest rule at cycle `place`, the earliest one: 1 TVALID high with
  * ARESETn low now or in the cycle before, 2 TVALID gone while it waited for TREADY, 3 TLAST or an octet from 1 on changed while it waited,
  * 4 a reserved lane.
- * Refusals: 1, 2, 3 (place: the record).
+ * Refusals: 1, 16, 2, 3 (place: the record).
  * Lent memory: read only. */
-urd_stream_answer urd_judge(size_t width, const uint8_t *capture, size_t capture_length);
+urd_stream_answer urd_judge(size_t width, size_t user, const uint8_t *capture, size_t capture_length);
 
 /* Writes the transfers of a clean capture of cycle records, in order, as transfer records: count of records.
- * Refusals: 1, 2, 3 (place: the record), 14 (place: the cycle; rule), 5.
+ * Refusals: 1, 16, 2, 3 (place: the record), 14 (place: the cycle; rule), 5.
  * Lent memory: `out` gets the records and is unchanged after them; refused, it is unchanged. */
-urd_stream_answer urd_harvest(size_t width, const uint8_t *capture, size_t capture_length, uint8_t *out, size_t out_length);
+urd_stream_answer urd_harvest(size_t width, size_t user, const uint8_t *capture, size_t capture_length, uint8_t *out, size_t out_length);
 
 /* Sets TLAST of every record to a level, for ports with no TLAST wire: count of records. `level` 0 is low, anything else high. Arm
  * recommends high where nobody knows what stands in between (IHI 0051A 3.1.3). The level is there since T-03: a program compiled before
  * passes none and gets either level, so compile it anew.
- * Refusals: 1, 2.
+ * Refusals: 1, 16, 2.
  * Lent memory: bit 0 of octet 0 of each record of `capture` becomes the level, nothing else changes; refused, it is unchanged. */
-urd_stream_answer urd_fill_in(size_t width, uint8_t *capture, size_t capture_length, uint32_t level);
+urd_stream_answer urd_fill_in(size_t width, size_t user, uint8_t *capture, size_t capture_length, uint32_t level);
 
-/* Writes the packed form, at width v, of a stream of transfer records: count of records.
- * Refusals: 1 (either width), 2, then record by record 3 and 4 (place: the record), 5.
+/* Writes the packed form, at width v, of a stream of transfer records: count of records. Data and position bytes keep their user
+ * bits. No result is longer than 377,424 octets: 2,621 records of 16 items with a user bit each, to records of one lane.
+ * Refusals: 1 (either width), 16, 2, then record by record 3 and 4 (place: the record), 5.
  * Lent memory: `out` gets the records and is unchanged after them; refused, it is unchanged. */
-urd_stream_answer urd_repack(size_t width, size_t v, const uint8_t *input, size_t input_length, uint8_t *out, size_t out_length);
+urd_stream_answer urd_repack(size_t width, size_t user, size_t v, const uint8_t *input, size_t input_length, uint8_t *out, size_t out_length);
 
-/* Cuts each transfer record into width/v records of width v, lane by lane, nulls kept: count of records.
- * Refusals: 1 (either width), 6, 2, then record by record 3 and 4 (place: the record), 5.
+/* Cuts each transfer record into width/v records of width v, lane by lane, nulls kept: count of records. Data and position bytes keep
+ * their user bits. No result is longer than urd_repack's.
+ * Refusals: 1 (either width), 16, 6, 2, then record by record 3 and 4 (place: the record), 5.
  * Lent memory: `out` gets the records and is unchanged after them; refused, it is unchanged. */
-urd_stream_answer urd_downsize(size_t width, size_t v, const uint8_t *input, size_t input_length, uint8_t *out, size_t out_length);
+urd_stream_answer urd_downsize(size_t width, size_t user, size_t v, const uint8_t *input, size_t input_length, uint8_t *out, size_t out_length);
 
-/* Where the data octets of record k stand: `length` octets from offset `start` of the capture.
- * Refusals: 1, 2, 13.
+/* Where the data octets of record k stand, without its user bits: `length` octets from offset `start` of the capture.
+ * Refusals: 1, 16, 2, 13.
  * Lent memory: read only; the part is the capture's own octets, not a copy. */
-urd_part_answer urd_data_octets(size_t width, const uint8_t *capture, size_t capture_length, size_t k);
+urd_part_answer urd_data_octets(size_t width, size_t user, const uint8_t *capture, size_t capture_length, size_t k);
 
 /* ---- the report ---- */
 
@@ -196,8 +206,9 @@ typedef struct urd_report_answer {
 } urd_report_answer;
 
 /* The report on cycle records by a setup sheet. `sheet_read` and `capture_read` are 0 where the file can't be read, else not.
- * In the sheet `tlast=none` fills in high and `tlast=low` low; before T-03 `none` was low.
- * Refusals: 15, 1 (either width), 6 (lanes mode), 2 (a capture that can't be read, too), 3 (place: the record), 5.
+ * In the sheet `tlast=none` fills in high and `tlast=low` low; before T-03 `none` was low. Since T-06 each sheet has a fifth line,
+ * `user=0` to `user=9`, and one of four lines is refused (15).
+ * Refusals: 15, 1 (either width), 16, 6 (lanes mode), 2 (a capture that can't be read, too), 3 (place: the record), 5.
  * Lent memory: `out` gets the result if clean, `text` the report's lines if they fit; nothing else in them changes. */
 urd_report_answer urd_report(const uint8_t *sheet, size_t sheet_length, uint32_t sheet_read, const uint8_t *capture, size_t capture_length, uint32_t capture_read, uint8_t *out, size_t out_length, uint8_t *text, size_t text_length);
 

@@ -1,6 +1,6 @@
 /* Paper 01's bench cases P1, S1 to S7 and B1 to B6 through C, with every answer and every octet typed from the paper;
- * then cuts and write beats (paper 02, T-02 and T-05), the layout of the structs, the refusals that no bench case gives,
- * and numbers at the edges.
+ * then cuts, write beats and user bits (paper 02, T-02, T-05 and T-06), the layout of the structs, the refusals that no bench
+ * case gives, and numbers at the edges.
  * The last line is 'N passed, M failed'. A case passes if all its checks do. */
 #include "urdhvasolk.h"
 
@@ -71,39 +71,39 @@ static void room_is(const uint8_t *room, size_t length, const char *hex, const c
     check(memcmp(room, expected, length) == 0, what);
 }
 
-typedef urd_stream_answer (*writer)(size_t, size_t, const uint8_t *, size_t, uint8_t *, size_t);
+typedef urd_stream_answer (*writer)(size_t, size_t, size_t, const uint8_t *, size_t, uint8_t *, size_t);
 
-static urd_stream_answer harvest(size_t width, size_t v, const uint8_t *capture, size_t length, uint8_t *out, size_t room)
+static urd_stream_answer harvest(size_t width, size_t user, size_t v, const uint8_t *capture, size_t length, uint8_t *out, size_t room)
 {
     (void)v;
-    return urd_harvest(width, capture, length, out, room);
+    return urd_harvest(width, user, capture, length, out, room);
 }
 
 /* An accepted writing call: into a larger room, into an exact one, and refused (5) where one octet is missing. */
-static void writes(writer call, size_t width, size_t v, const char *in, uint64_t count, const char *out)
+static void writes(writer call, size_t width, size_t user, size_t v, const char *in, uint64_t count, const char *out)
 {
     static uint8_t input[4096], room[4096];
     size_t length = octets_of(in, input), need = octets_of(out, room);
     memset(room, TAIL, sizeof room);
-    stream_is(call(width, v, input, length, room, need + 9), 0, 0, 0, count, "a larger room");
+    stream_is(call(width, user, v, input, length, room, need + 9), 0, 0, 0, count, "a larger room");
     room_is(room, sizeof room, out, "octets of a larger room");
     memset(room, TAIL, sizeof room);
-    stream_is(call(width, v, input, length, room, need), 0, 0, 0, count, "an exact room");
+    stream_is(call(width, user, v, input, length, room, need), 0, 0, 0, count, "an exact room");
     room_is(room, sizeof room, out, "octets of an exact room");
     if (need == 0)
         return;
     memset(room, TAIL, sizeof room);
-    stream_is(call(width, v, input, length, room, need - 1), URD_ROOM, 0, 0, 0, "one octet too few");
+    stream_is(call(width, user, v, input, length, room, need - 1), URD_ROOM, 0, 0, 0, "one octet too few");
     room_is(room, sizeof room, "", "a room too small is unchanged");
 }
 
 /* A refused writing call: its numbers, and the room as it was. */
-static void refuses(writer call, size_t width, size_t v, const char *in, uint32_t refusal, uint32_t rule, uint64_t place, const char *what)
+static void refuses(writer call, size_t width, size_t user, size_t v, const char *in, uint32_t refusal, uint32_t rule, uint64_t place, const char *what)
 {
     static uint8_t input[4096], room[256];
     size_t length = octets_of(in, input);
     memset(room, TAIL, sizeof room);
-    stream_is(call(width, v, input, length, room, sizeof room), refusal, rule, place, 0, what);
+    stream_is(call(width, user, v, input, length, room, sizeof room), refusal, rule, place, 0, what);
     room_is(room, sizeof room, "", "a refused room is unchanged");
 }
 
@@ -118,9 +118,9 @@ static void p1(void)
 {
     uint8_t take[11];
     size_t length = octets_of(TAKE, take);
-    stream_is(urd_judge(4, take, length), 0, 0, 0, 1, "judged clean, 1 transfer");
-    writes(harvest, 4, 4, TAKE, 1, TRANSFER);
-    writes(urd_repack, 4, 2, TRANSFER, 2, "00 01 02 03 00 01 00 11 00 01 01 02 01 00 01 00 44 00");
+    stream_is(urd_judge(4, 0, take, length), 0, 0, 0, 1, "judged clean, 1 transfer");
+    writes(harvest, 4, 0, 4, TAKE, 1, TRANSFER);
+    writes(urd_repack, 4, 0, 2, TRANSFER, 2, "00 01 02 03 00 01 00 11 00 01 01 02 01 00 01 00 44 00");
 }
 
 /* ---- the report ---- */
@@ -167,17 +167,17 @@ static void report_refusals(void)
     reports(SHEET, 1, TAKE, 1, 17, 128, room, "verdict=refused\nrefusal=5\nat=0\n", "", "one octet too few");
 }
 
-static void s1(void) { writes(urd_repack, 4, 4, TRANSFER, 1, "01 01 02 07 00 05 00 11 00 44 00"); }
-static void s2(void) { writes(urd_downsize, 4, 2, TRANSFER, 2, "00 01 02 01 00 01 00 11 00 01 01 02 03 00 02 00 00 44"); }
-static void s3(void) { writes(urd_repack, 1, 1, ITEM " " END_ONLY, 1, "01 00 00 01 00 01 00 AA"); }
-static void s4(void) { writes(urd_repack, 1, 1, END_ONLY " " END_ONLY, 2, END_ONLY " " END_ONLY); }
-static void s5(void) { writes(urd_repack, 1, 1, "00 00 00 00 00 00 00 00", 0, ""); }
+static void s1(void) { writes(urd_repack, 4, 0, 4, TRANSFER, 1, "01 01 02 07 00 05 00 11 00 44 00"); }
+static void s2(void) { writes(urd_downsize, 4, 0, 2, TRANSFER, 2, "00 01 02 01 00 01 00 11 00 01 01 02 03 00 02 00 00 44"); }
+static void s3(void) { writes(urd_repack, 1, 0, 1, ITEM " " END_ONLY, 1, "01 00 00 01 00 01 00 AA"); }
+static void s4(void) { writes(urd_repack, 1, 0, 1, END_ONLY " " END_ONLY, 2, END_ONLY " " END_ONLY); }
+static void s5(void) { writes(urd_repack, 1, 0, 1, "00 00 00 00 00 00 00 00", 0, ""); }
 
 static void s6(void)
 {
     for (size_t w = 1; w <= 16; w++)
         for (size_t v = 1; v <= 16; v++)
-            writes(urd_repack, w, v, "", 0, "");
+            writes(urd_repack, w, 0, v, "", 0, "");
 }
 
 static void s7(void)
@@ -190,7 +190,7 @@ static void s7(void)
             for (size_t lane = 1; lane < v; lane++)
                 strcat(out, "00 ");
         }
-        writes(urd_repack, 1, v, "00 01 00 01 00 01 00 5A 00 02 00 01 00 01 00 5A 00 01 00 01 00 01 00 5A", 3, out);
+        writes(urd_repack, 1, 0, v, "00 01 00 01 00 01 00 5A 00 02 00 01 00 01 00 5A 00 01 00 01 00 01 00 5A", 3, out);
     }
 }
 
@@ -465,6 +465,110 @@ static void write_refusals(void)
     }
 }
 
+/* ---- user bits (paper 02, T-06) ---- */
+
+#define TAGS " ED" /* two user bits to each byte of P1's record: 1, 3, 2, 3 on lanes 0 to 3, and lane 1 is null */
+
+static void user_bits(void)
+{
+    uint8_t take[24], low[24];
+    size_t length = octets_of(TAKE TAGS " " TAKE TAGS, take);
+    octets_of("0E 01 02 0D 00 09 00 11 22 33 44 ED 0E 01 02 0D 00 09 00 11 22 33 44 ED", low);
+    stream_is(urd_judge(4, 2, take, length), 0, 0, 0, 2, "judged clean, 2 transfers");
+    writes(harvest, 4, 2, 4, TAKE TAGS, 1, TRANSFER TAGS);
+    writes(urd_repack, 4, 2, 2, TRANSFER TAGS, 2, "00 01 02 03 00 01 00 11 00 09 01 01 02 01 00 01 00 44 00 03");
+    writes(urd_downsize, 4, 2, 2, TRANSFER TAGS, 2, "00 01 02 01 00 01 00 11 00 01 01 01 02 03 00 02 00 00 44 0E");
+    writes(urd_repack, 3, 3, 2, "00 01 02 05 00 01 00 11 22 33 B9 01 01 01 02 01 00 01 00 44 55 66 05 00", 2,
+           "00 01 02 03 00 01 00 11 00 31 01 01 02 01 00 01 00 44 00 05");
+    urd_part_answer a = urd_data_octets(4, 2, take, length, 1);
+    check(a.refusal == 0 && a.start == 19 && a.length == 4, "data octets without the user bits");
+    stream_is(urd_fill_in(4, 2, take, length, 0), 0, 0, 0, 2, "2 records, low");
+    check(memcmp(take, low, length) == 0, "TLAST cleared, nothing else");
+}
+
+/* Each user bit of 16 data bytes alone: it is found with its byte, and no other is there. */
+static void user_places(void)
+{
+    uint8_t input[31], out[16 * 9];
+    for (size_t m = 1; m <= 4; m++)
+        for (size_t bit = 0; bit < 16 * m; bit++) {
+            memset(input, 0, sizeof input);
+            memset(input + 3, 0xFF, 4);
+            input[23 + bit / 8] = (uint8_t)(1 << bit % 8);
+            stream_is(urd_repack(16, m, 1, input, 23 + 2 * m, out, sizeof out), 0, 0, 0, 16, "16 records");
+            for (size_t x = 0; x < 16; x++)
+                check(out[9 * x + 8] == (bit / m == x ? 1 << bit % m : 0), "each bit with its byte");
+        }
+}
+
+/* Each bit of a record's user octets, of every shape: R3 where it changes in a waiting record, on null lanes too; 3 in the padding. */
+static void user_octets(void)
+{
+    uint8_t take[2 * 31];
+    for (size_t w = 1; w <= 16; w++)
+        for (size_t m = 1; m <= 4; m++) {
+            size_t octets = (w * m + 7) / 8, size = 7 + w + octets;
+            for (size_t bit = 0; bit < 8 * octets; bit++) {
+                int padding = bit >= w * m;
+                memset(take, 0, sizeof take);
+                take[0] = 0x0A, take[size] = 0x0E;
+                take[size + 7 + w + bit / 8] = (uint8_t)(1 << bit % 8);
+                stream_is(urd_judge(w, m, take, 2 * size), padding ? URD_FIELD : 0, padding ? 0 : 3, 1, 0, "a user bit turns");
+            }
+        }
+}
+
+static void user_lengths(void)
+{
+    static const size_t full[][2] = {{8, 1}, {7, 2}, {6, 3}, {6, 4}}; /* records of 16 octets */
+    static uint8_t take[65552], out[377424];
+    size_t length = 2621 * 25;
+    for (size_t i = 0; i < sizeof full / sizeof full[0]; i++) {
+        stream_is(urd_judge(full[i][0], full[i][1], take, 65536), 0, 0, 0, 0, "65,536 octets");
+        stream_is(urd_judge(full[i][0], full[i][1], take, 65552), URD_LENGTH, 0, 0, 0, "one record more");
+        stream_is(urd_judge(full[i][0], full[i][1], take, 65535), URD_LENGTH, 0, 0, 0, "no whole number of records");
+    }
+    for (size_t at = 0; at < length; at += 25)
+        memset(take + at + 3, 0xFF, 4);
+    stream_is(urd_repack(16, 1, 1, take, length, out, sizeof out), 0, 0, 0, 41936, "the longest result");
+    stream_is(urd_repack(16, 1, 1, take, length, out, sizeof out - 1), URD_ROOM, 0, 0, 0, "one octet too few");
+}
+
+static void user_refusals(void)
+{
+    static const size_t user[] = {5, 8, 255, (size_t)1 << 32, SIZE_MAX / 2, SIZE_MAX};
+    uint8_t take[8] = {0x0F};
+    for (size_t i = 0; i < sizeof user / sizeof user[0]; i++) {
+        stream_is(urd_judge(16, user[i], take, 7), URD_USERBITS, 0, 0, 0, "16 before 2");
+        stream_is(urd_judge(17, user[i], take, 8), URD_WIDTH, 0, 0, 0, "1 before 16");
+        stream_is(urd_fill_in(1, user[i], take, 8, 0), URD_USERBITS, 0, 0, 0, "fill-in");
+        check(take[0] == 0x0F, "refused, it is unchanged");
+        check(urd_data_octets(1, user[i], take, 8, 9).refusal == URD_USERBITS, "16 before 13");
+        refuses(harvest, 1, user[i], 1, "02 00 00 00 00 00 00 00", URD_USERBITS, 0, 0, "16 before 14");
+        refuses(urd_repack, 1, user[i], 17, ITEM, URD_WIDTH, 0, 0, "1 of the width out before 16");
+        refuses(urd_repack, 1, user[i], 1, "02", URD_USERBITS, 0, 0, "repack");
+        refuses(urd_downsize, 4, user[i], 3, "", URD_USERBITS, 0, 0, "16 before 6");
+    }
+    stream_is(urd_judge(16, 4, take, 0), 0, 0, 0, 0, "4 are allowed");
+}
+
+/* A sheet with these widths, this mode and these user bits. */
+#define USER_SHEET(in, out, mode, user) "width_in=" in "\nwidth_out=" out "\nmode=" mode "\ntlast=wired\nuser=" user "\n"
+
+static void user_report(void)
+{
+    const urd_report_answer clean = {URD_CLEAN, 0, 0, 0, 1, 1, 2, 0, 0}, sheet = {URD_REFUSED, URD_SHEET, 0, 0, 0, 0, 0, 0, 0};
+    const urd_report_answer width = {URD_REFUSED, URD_WIDTH, 0, 0, 0, 0, 0, 0, 0}, user = {URD_REFUSED, URD_USERBITS, 0, 0, 0, 0, 0, 0, 0};
+    const char *no_sheet = "verdict=refused\nrefusal=15\nat=0\n", *no_width = "verdict=refused\nrefusal=1\nat=0\n", *no_user = "verdict=refused\nrefusal=16\nat=0\n";
+    reports(USER_SHEET("4", "2", "pack", "2"), 1, TAKE TAGS, 1, 20, 128, clean, "verdict=clean\ntransfers=1\npackets=1\nrecords=2\n",
+            "00 01 02 03 00 01 00 11 00 09 01 01 02 01 00 01 00 44 00 03", "P1 with user bits");
+    reports(USER_SHEET("4", "2", "pack", "5"), 1, TAKE TAGS, 0, 20, 128, user, no_user, "", "16 before 2");
+    reports(USER_SHEET("4", "3", "lanes", "9"), 1, TAKE TAGS, 1, 20, 128, user, no_user, "", "16 before 6");
+    reports(USER_SHEET("17", "2", "pack", "5"), 1, TAKE TAGS, 1, 20, 128, width, no_width, "", "1 before 16");
+    reports(USER_SHEET("4", "2", "pack", "10"), 1, TAKE TAGS, 1, 20, 128, sheet, no_sheet, "", "two digits");
+    reports("width_in=4\nwidth_out=2\nmode=pack\ntlast=wired\n", 1, TAKE, 1, 20, 128, sheet, no_sheet, "", "a sheet of four lines");
+}
+
 /* ---- what no bench case shows ---- */
 
 /* A field's offset and its octets. */
@@ -519,12 +623,12 @@ static void fill_in(void)
     size_t length = octets_of(TAKE " FE 01 02 0D 00 09 00 11 22 33 45", take);
     octets_of("0E 01 02 0D 00 09 00 11 22 33 44 FE 01 02 0D 00 09 00 11 22 33 45", cleared);
     octets_of("0F 01 02 0D 00 09 00 11 22 33 44 FF 01 02 0D 00 09 00 11 22 33 45", set);
-    stream_is(urd_fill_in(4, take, length - 1, 0), URD_LENGTH, 0, 0, 0, "no whole number of records");
+    stream_is(urd_fill_in(4, 0, take, length - 1, 0), URD_LENGTH, 0, 0, 0, "no whole number of records");
     check(take[0] == 0x0F, "refused, it is unchanged");
     for (size_t i = 0; i < sizeof high / sizeof high[0]; i++) {
-        stream_is(urd_fill_in(4, take, length, 0), 0, 0, 0, 2, "2 records, low");
+        stream_is(urd_fill_in(4, 0, take, length, 0), 0, 0, 0, 2, "2 records, low");
         check(memcmp(take, cleared, length) == 0, "TLAST cleared, nothing else");
-        stream_is(urd_fill_in(4, take, length, high[i]), 0, 0, 0, 2, "2 records, high");
+        stream_is(urd_fill_in(4, 0, take, length, high[i]), 0, 0, 0, 2, "2 records, high");
         check(memcmp(take, set, length) == 0, "TLAST set, nothing else");
     }
 }
@@ -533,13 +637,13 @@ static void data_octets(void)
 {
     uint8_t take[22];
     size_t length = octets_of(TAKE " " TAKE, take);
-    urd_part_answer a = urd_data_octets(4, take, length, 1);
+    urd_part_answer a = urd_data_octets(4, 0, take, length, 1);
     check(a.refusal == 0 && a.start == 18 && a.length == 4 && take[a.start] == 0x11, "record 1");
-    a = urd_data_octets(4, take, length, 2);
+    a = urd_data_octets(4, 0, take, length, 2);
     check(a.refusal == URD_INDEX && a.start == 0 && a.length == 0, "no record 2");
-    a = urd_data_octets(4, take, length, SIZE_MAX);
+    a = urd_data_octets(4, 0, take, length, SIZE_MAX);
     check(a.refusal == URD_INDEX && a.start == 0 && a.length == 0, "no such record");
-    a = urd_data_octets(17, take, length, 0);
+    a = urd_data_octets(17, 0, take, length, 0);
     check(a.refusal == URD_WIDTH && a.start == 0 && a.length == 0, "width 17");
 }
 
@@ -549,7 +653,7 @@ static void rule_is(const char *hex, uint32_t rule, uint64_t cycle, const char *
 {
     uint8_t take[64];
     size_t length = octets_of(hex, take);
-    stream_is(urd_judge(1, take, length), 0, rule, cycle, 0, what);
+    stream_is(urd_judge(1, 0, take, length), 0, rule, cycle, 0, what);
 }
 
 static void findings(void)
@@ -562,8 +666,8 @@ static void findings(void)
     rule_is(CYCLE("0A") " " CYCLE("0B"), 3, 1, "R3");
     rule_is("0E 00 00 00 00 01 00 55", 4, 0, "R4");
     rule_is(CYCLE("0A") " " CYCLE("00") " " CYCLE("08"), 0, 0, "no wait across reset");
-    refuses(harvest, 1, 1, CYCLE("0A") " " CYCLE("0B"), URD_UNCLEAN, 3, 1, "UNCLEAN has the cycle and the rule");
-    refuses(harvest, 1, 1, CYCLE("00") " " CYCLE("0E"), URD_UNCLEAN, 1, 1, "UNCLEAN for the first sample out of reset");
+    refuses(harvest, 1, 0, 1, CYCLE("0A") " " CYCLE("0B"), URD_UNCLEAN, 3, 1, "UNCLEAN has the cycle and the rule");
+    refuses(harvest, 1, 0, 1, CYCLE("00") " " CYCLE("0E"), URD_UNCLEAN, 1, 1, "UNCLEAN for the first sample out of reset");
 }
 
 #define GOOD "00 00 00 03 00 03 00 11 22"
@@ -572,13 +676,13 @@ static void findings(void)
 
 static void refusals(void)
 {
-    refuses(urd_repack, 2, 17, FIELD " 00", URD_WIDTH, 0, 0, "1 before 2 and 3");
-    refuses(urd_downsize, 2, 0, FIELD " 00", URD_WIDTH, 0, 0, "1 before 6");
-    refuses(urd_downsize, 2, 3, FIELD " 00", URD_RATIO, 0, 0, "6 before 2");
-    refuses(urd_downsize, 2, 1, FIELD " 00", URD_LENGTH, 0, 0, "2 before 3");
-    refuses(urd_repack, 2, 1, GOOD " " FIELD, URD_FIELD, 0, 1, "3 before 4 in record 1");
-    refuses(urd_repack, 2, 1, GOOD " " RESERVED " " FIELD, URD_RESERVED, 0, 1, "4 of an earlier record");
-    refuses(harvest, 1, 1, "02 00 00 00 00 00 00 00 10 00 00 00 00 00 00 00", URD_FIELD, 0, 1, "3 before 14");
+    refuses(urd_repack, 2, 0, 17, FIELD " 00", URD_WIDTH, 0, 0, "1 before 2 and 3");
+    refuses(urd_downsize, 2, 0, 0, FIELD " 00", URD_WIDTH, 0, 0, "1 before 6");
+    refuses(urd_downsize, 2, 0, 3, FIELD " 00", URD_RATIO, 0, 0, "6 before 2");
+    refuses(urd_downsize, 2, 0, 1, FIELD " 00", URD_LENGTH, 0, 0, "2 before 3");
+    refuses(urd_repack, 2, 0, 1, GOOD " " FIELD, URD_FIELD, 0, 1, "3 before 4 in record 1");
+    refuses(urd_repack, 2, 0, 1, GOOD " " RESERVED " " FIELD, URD_RESERVED, 0, 1, "4 of an earlier record");
+    refuses(harvest, 1, 0, 1, "02 00 00 00 00 00 00 00 10 00 00 00 00 00 00 00", URD_FIELD, 0, 1, "3 before 14");
     judged(0x1FFF, 257, 8, 3, 3, URD_BUS, "7 first");
     judged(0x1FFF, 257, 8, 3, 4, URD_SIZE, "8 before 9");
     judged(0x1FFF, 257, 2, 3, 4, URD_TYPE, "9 before 10");
@@ -592,14 +696,14 @@ static void edges(void)
     static const uint32_t big[] = {256, 0x7FFFFFFF, 0x80000000, 0xFFFFFFFF};
     static uint8_t over[65537], out[8];
     for (size_t i = 0; i < sizeof width / sizeof width[0]; i++) {
-        stream_is(urd_judge(width[i], over, 8), URD_WIDTH, 0, 0, 0, "judge");
-        stream_is(urd_fill_in(width[i], over, 8, 1), URD_WIDTH, 0, 0, 0, "fill-in");
-        stream_is(urd_repack(width[i], 1, over, 8, out, 8), URD_WIDTH, 0, 0, 0, "repack from");
-        stream_is(urd_repack(1, width[i], over, 8, out, 8), URD_WIDTH, 0, 0, 0, "repack to");
-        stream_is(urd_downsize(width[i], width[i], over, 8, out, 8), URD_WIDTH, 0, 0, 0, "downsize");
+        stream_is(urd_judge(width[i], 0, over, 8), URD_WIDTH, 0, 0, 0, "judge");
+        stream_is(urd_fill_in(width[i], 0, over, 8, 1), URD_WIDTH, 0, 0, 0, "fill-in");
+        stream_is(urd_repack(width[i], 0, 1, over, 8, out, 8), URD_WIDTH, 0, 0, 0, "repack from");
+        stream_is(urd_repack(1, 0, width[i], over, 8, out, 8), URD_WIDTH, 0, 0, 0, "repack to");
+        stream_is(urd_downsize(width[i], 0, width[i], over, 8, out, 8), URD_WIDTH, 0, 0, 0, "downsize");
     }
     for (size_t w = 1; w <= 16; w++)
-        stream_is(urd_judge(w, over, sizeof over), URD_LENGTH, 0, 0, 0, "65,537 octets");
+        stream_is(urd_judge(w, 0, over, sizeof over), URD_LENGTH, 0, 0, 0, "65,537 octets");
     for (size_t i = 0; i < sizeof big / sizeof big[0]; i++) {
         burst_is(urd_burst_judge(0, 0, 0, 1, big[i]), URD_BUS, 0, 0, 0, 0, "bus");
         burst_is(urd_burst_judge(0, 0, big[i], 1, 4), URD_SIZE, 0, 0, 0, 0, "size");
@@ -636,6 +740,12 @@ int main(void)
     run("T-05, W1 to W5", write_rules);
     run("T-05, every bus, the longest", write_lengths);
     run("T-05, refusals", write_refusals);
+    run("T-06, user bits", user_bits);
+    run("T-06, each user bit with its byte", user_places);
+    run("T-06, R3 and the padding", user_octets);
+    run("T-06, the longest", user_lengths);
+    run("T-06, refusals", user_refusals);
+    run("T-06, the report", user_report);
     run("layout of the structs", layout);
     run("fill-in", fill_in);
     run("data octets", data_octets);

@@ -6,7 +6,7 @@
 #include <inttypes.h>
 #include <stdio.h>
 
-/* One cycle of a port of 4 byte lanes: all four flags high, TID 1, TDEST 2, data on lanes 0 and 3, a position on lane 2. */
+/* One cycle of a port of 4 byte lanes without user bits: all four flags high, TID 1, TDEST 2, data on lanes 0 and 3, a position on lane 2. */
 static const uint8_t capture[] = {0x0F, 0x01, 0x02, 0x0D, 0x00, 0x09, 0x00, 0x11, 0x22, 0x33, 0x44};
 
 static void print_records(const uint8_t *octets, uint64_t records, size_t width)
@@ -19,16 +19,16 @@ static void stream(void)
 {
     uint8_t transfers[sizeof capture], packed[64];
 
-    urd_stream_answer judged = urd_judge(4, capture, sizeof capture);
+    urd_stream_answer judged = urd_judge(4, 0, capture, sizeof capture);
     if (judged.refusal != 0 || judged.rule != 0) {
         printf("refusal %" PRIu32 ", rule %" PRIu32 " at %" PRIu64 "\n", judged.refusal, judged.rule, judged.place);
         return;
     }
     printf("clean, %" PRIu64 " transfers\n", judged.count);
 
-    urd_stream_answer harvested = urd_harvest(4, capture, sizeof capture, transfers, sizeof transfers);
+    urd_stream_answer harvested = urd_harvest(4, 0, capture, sizeof capture, transfers, sizeof transfers);
     size_t length = (size_t)harvested.count * (7 + 4);
-    urd_stream_answer repacked = urd_repack(4, 2, transfers, length, packed, sizeof packed);
+    urd_stream_answer repacked = urd_repack(4, 0, 2, transfers, length, packed, sizeof packed);
     printf("%" PRIu64 " records of width 2\n", repacked.count);
     print_records(packed, repacked.count, 2);
 }

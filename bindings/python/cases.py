@@ -49,8 +49,8 @@ def writes(call, count, text):
             same((answer, room), (stream(count=count), expected + before[len(expected):]), f"{more} octets more")
 
 
-def packs(width, v, text, count, result):
-    writes(lambda out: urd.repack(width, v, octets(text), out), count, result)
+def packs(width, v, text, count, result, user=0):
+    writes(lambda out: urd.repack(width, user, v, octets(text), out), count, result)
 
 
 TAKE = "0F 01 02 0D 00 09 00 11 22 33 44"
@@ -60,8 +60,8 @@ END_ONLY = "01 00 00 00 00 00 00 00"  # the second record of S3
 
 @case("P1")
 def _():
-    same(urd.judge(4, octets(TAKE)), stream(count=1), "judged")
-    writes(lambda out: urd.harvest(4, octets(TAKE), out), 1, TRANSFER)
+    same(urd.judge(4, 0, octets(TAKE)), stream(count=1), "judged")
+    writes(lambda out: urd.harvest(4, 0, octets(TAKE), out), 1, TRANSFER)
     packs(4, 2, TRANSFER, 2, "00 01 02 03 00 01 00 11 00 01 01 02 01 00 01 00 44 00")
 
 
@@ -102,7 +102,7 @@ def _():
 @case("S2")
 def _():
     result = "00 01 02 01 00 01 00 11 00 01 01 02 03 00 02 00 00 44"
-    writes(lambda out: urd.downsize(4, 2, octets(TRANSFER), out), 2, result)
+    writes(lambda out: urd.downsize(4, 0, 2, octets(TRANSFER), out), 2, result)
 
 
 @case("S3")
@@ -332,31 +332,91 @@ def _():
     beats_are((2**32 - 1, 0, 0, 1, 1), "01 01", written(strobes=1), "the last byte of memory")
 
 
+TAGS = "ED"  # two user bits to each byte of P1's record: 1, 3, 2, 3 on lanes 0 to 3, and lane 1 is null
+
+
+@case("T-06, user bits")
+def _():
+    take = bytearray(octets((TAKE + TAGS) * 2))
+    same(urd.judge(4, 2, take), stream(count=2), "judged")
+    writes(lambda out: urd.harvest(4, 2, octets(TAKE + TAGS), out), 1, TRANSFER + TAGS)
+    packs(4, 2, TRANSFER + TAGS, 2, "00 01 02 03 00 01 00 11 00 09 01 01 02 01 00 01 00 44 00 03", user=2)
+    result = "00 01 02 01 00 01 00 11 00 01 01 01 02 03 00 02 00 00 44 0E"
+    writes(lambda out: urd.downsize(4, 2, 2, octets(TRANSFER + TAGS), out), 2, result)
+    packs(3, 2, "00 01 02 05 00 01 00 11 22 33 B9 01 01 01 02 01 00 01 00 44 55 66 05 00", 2,
+          "00 01 02 03 00 01 00 11 00 31 01 01 02 01 00 01 00 44 00 05", user=3)
+    same(urd.data_octets(4, 2, take, 1), urd.PartAnswer(0, 19, 4), "data octets without the user bits")
+    same((urd.fill_in(4, 2, take, 0), take), (stream(count=2), octets(("0E" + TAKE[2:] + TAGS) * 2)), "fill-in, low")
+    for bit in range(64):
+        record = octets("00 00 00 FF FF FF FF" + "00" * 16) + (1 << bit).to_bytes(8, "little")
+        room = bytearray(16 * 9)
+        same(urd.repack(16, 4, 1, record, room), stream(count=16), "16 records")
+        same(room[8::9], bytes((1 << bit % 4) * (x == bit // 4) for x in range(16)), f"user bit {bit} with its byte")
+
+
+@case("T-06, R3 and the padding, the longest")
+def _():
+    for width in range(1, 17):
+        for user in range(1, 5):
+            users = (width * user + 7) // 8
+            for bit in range(8 * users):
+                take = b"\x0A" + bytes(6 + width + users) + b"\x0E" + bytes(6 + width) + (1 << bit).to_bytes(users, "little")
+                expected = stream(rule=3, place=1) if bit < width * user else stream(urd.FIELD, place=1)
+                same(urd.judge(width, user, take), expected, f"user bit {bit} turns, width {width}, {user} to a byte")
+    for width, user in ((8, 1), (7, 2), (6, 3), (6, 4)):
+        same(urd.judge(width, user, bytes(65536)), stream(), "65,536 octets")
+        same(urd.judge(width, user, bytes(65552)), stream(urd.LENGTH), "one record more")
+    take = (bytes(3) + b"\xFF" * 4 + bytes(18)) * 2621
+    same(urd.repack(16, 1, 1, take, bytearray(377424)), stream(count=41936), "the longest result")
+    same(urd.repack(16, 1, 1, take, bytearray(377423)), stream(urd.ROOM), "one octet too few")
+
+
+@case("T-06, refusals and the report")
+def _():
+    for user in (5, 8, 2**32, 2**64 - 1, 2**64, -1):
+        refused = stream(urd.USERBITS)
+        same(urd.judge(16, user, b"\0"), refused, f"16 before 2, {user}")
+        same(urd.judge(17, user, b""), stream(urd.WIDTH), f"1 before 16, {user}")
+        same(urd.harvest(1, user, b"", bytearray()), refused, f"harvest, {user}")
+        same(urd.fill_in(1, user, bytearray(), True), refused, f"fill-in, {user}")
+        same(urd.repack(1, user, 17, b"", bytearray()), stream(urd.WIDTH), f"1 of the width out before 16, {user}")
+        same(urd.repack(1, user, 16, b"", bytearray()), refused, f"repack, {user}")
+        same(urd.downsize(4, user, 3, b"", bytearray()), refused, f"16 before 6, {user}")
+        same(urd.data_octets(1, user, b"", 0), urd.PartAnswer(urd.USERBITS, 0, 0), f"16 before 13, {user}")
+    told = "verdict=clean\ntransfers=1\npackets=1\nrecords=2\n"
+    result = "00 01 02 03 00 01 00 11 00 09 01 01 02 01 00 01 00 44 00 03"
+    tagged, take = SHEET.replace(b"user=0", b"user=2"), octets(TAKE + TAGS)
+    same(urd.report(tagged, take), report(urd.CLEAN, told, counts=(1, 1, 2), result=result), "P1 with user bits")
+    for line, number in ((b"user=5", urd.USERBITS), (b"user=9", urd.USERBITS), (b"user=10", urd.SHEET), (b"user=", urd.SHEET)):
+        same(urd.report(SHEET.replace(b"user=0", line), take).refusal, number, line.decode())
+    same(urd.report(SHEET.replace(b"user=0\n", b""), octets(TAKE)).refusal, urd.SHEET, "a sheet of four lines")
+
+
 @case("findings and UNCLEAN")
 def _():
     cycle = " 00 00 01 00 01 00 55"
     for flags, rule in ((("08", "02"), 1), (("00", "0E"), 1), (("0A", "08"), 2), (("0A", "0B"), 3)):
         take = octets(flags[0] + cycle + flags[1] + cycle)
         room = bytearray([TAIL] * 16)
-        same(urd.judge(1, take), stream(rule=rule, place=1), f"R{rule}")
-        same((urd.harvest(1, take, room), room), (stream(urd.UNCLEAN, rule, 1), bytes([TAIL] * 16)), f"harvest, R{rule}")
-    same(urd.judge(1, octets("00" + cycle + "08" + cycle + "0E" + cycle)), stream(count=1), "no R1 after one idle sample")
-    same(urd.judge(1, octets("0E 00 00 00 00 01 00 55")), stream(rule=4), "R4")
+        same(urd.judge(1, 0, take), stream(rule=rule, place=1), f"R{rule}")
+        same((urd.harvest(1, 0, take, room), room), (stream(urd.UNCLEAN, rule, 1), bytes([TAIL] * 16)), f"harvest, R{rule}")
+    same(urd.judge(1, 0, octets("00" + cycle + "08" + cycle + "0E" + cycle)), stream(count=1), "no R1 after one idle sample")
+    same(urd.judge(1, 0, octets("0E 00 00 00 00 01 00 55")), stream(rule=4), "R4")
 
 
 @case("fill-in, data octets")
 def _():
     take = bytearray(octets(TAKE + TAKE))
-    same(urd.data_octets(4, take, 1), urd.PartAnswer(0, 18, 4), "record 1")
-    same(urd.data_octets(4, take, 2), urd.PartAnswer(urd.INDEX, 0, 0), "no record 2")
+    same(urd.data_octets(4, 0, take, 1), urd.PartAnswer(0, 18, 4), "record 1")
+    same(urd.data_octets(4, 0, take, 2), urd.PartAnswer(urd.INDEX, 0, 0), "no record 2")
     for level, flags in ((0, "0E"), (1, "0F"), (False, "0E"), (True, "0F"), (0, "0E"), (-1, "0F"), (0, "0E"), (2**64, "0F")):
-        same(urd.fill_in(4, take, level), stream(count=2), f"fill-in, {level}")
+        same(urd.fill_in(4, 0, take, level), stream(count=2), f"fill-in, {level}")
         same(take, octets((flags + TAKE[2:]) * 2), f"TLAST of each record by {level}, nothing else")
-    same(urd.fill_in(3, take, False), stream(urd.LENGTH), "fill-in, no whole number of records")
+    same(urd.fill_in(3, 0, take, False), stream(urd.LENGTH), "fill-in, no whole number of records")
     same(take, octets(TAKE + TAKE), "refused, it is unchanged")
     for level in ("low", None, 0.0):
         try:
-            same(urd.fill_in(4, take, level), "TypeError", f"fill-in, {level!r}")
+            same(urd.fill_in(4, 0, take, level), "TypeError", f"fill-in, {level!r}")
         except TypeError:
             same(take, octets(TAKE + TAKE), f"{level!r} is no level")
 
@@ -364,27 +424,27 @@ def _():
 @case("numbers at the edges")
 def _():
     for wide in (-1, 0, 17, 2**32 + 4, 2**64 - 1, 2**64 + 4, -(2**64) + 4):
-        same(urd.judge(wide, octets(TAKE)), stream(urd.WIDTH), f"judge {wide}")
-        same(urd.repack(wide, 1, b"", bytearray()), stream(urd.WIDTH), f"repack from {wide}")
-        same(urd.repack(1, wide, b"", bytearray()), stream(urd.WIDTH), f"repack to {wide}")
-        same(urd.downsize(wide, wide, b"", bytearray()), stream(urd.WIDTH), f"downsize {wide}")
-        same(urd.fill_in(wide, bytearray(), True), stream(urd.WIDTH), f"fill-in {wide}")
+        same(urd.judge(wide, 0, octets(TAKE)), stream(urd.WIDTH), f"judge {wide}")
+        same(urd.repack(wide, 0, 1, b"", bytearray()), stream(urd.WIDTH), f"repack from {wide}")
+        same(urd.repack(1, 0, wide, b"", bytearray()), stream(urd.WIDTH), f"repack to {wide}")
+        same(urd.downsize(wide, 0, wide, b"", bytearray()), stream(urd.WIDTH), f"downsize {wide}")
+        same(urd.fill_in(wide, 0, bytearray(), True), stream(urd.WIDTH), f"fill-in {wide}")
     for big in (-1, 2**32 - 1, 2**32 + 1, 2**64 + 1):
         same(urd.burst_judge(0, 0, 0, 1, big), burst(urd.BUS), f"bus {big}")
         same(urd.burst_judge(0, 0, big, 1, 4), burst(urd.SIZE), f"size {big}")
         same(urd.burst_judge(0, 0, 0, big, 4), burst(urd.TYPE), f"kind {big}")
         same(urd.burst_judge(0, big, 0, 1, 4), burst(urd.COUNT), f"len {big}")
         same(urd.burst_beat(0, 1, 0, 1, 4, big), burst(urd.INDEX), f"beat {big}")
-        same(urd.data_octets(4, octets(TAKE), big), urd.PartAnswer(urd.INDEX, 0, 0), f"record {big}")
+        same(urd.data_octets(4, 0, octets(TAKE), big), urd.PartAnswer(urd.INDEX, 0, 0), f"record {big}")
     same((urd.burst_judge(2**32, 0, 0, 1, 4), urd.burst_beat(-1, 0, 0, 1, 4, 0)), (None, None), "no 32-bit start")
-    same(urd.judge(1, bytes(65537)), stream(urd.LENGTH), "65,537 octets")
-    same(urd.judge(1, b""), stream(), "an empty take")
+    same(urd.judge(1, 0, bytes(65537)), stream(urd.LENGTH), "65,537 octets")
+    same(urd.judge(1, 0, b""), stream(), "an empty take")
 
 
 @case("input and lent memory may be the same object")
 def _():
     room = bytearray(octets(TRANSFER + "00" * 7))
-    same(urd.repack(4, 2, memoryview(room)[:11], room), stream(count=2), "repacked in place")
+    same(urd.repack(4, 0, 2, memoryview(room)[:11], room), stream(count=2), "repacked in place")
     same(room, octets("00 01 02 03 00 01 00 11 00 01 01 02 01 00 01 00 44 00"), "its octets")
 
 

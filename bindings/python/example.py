@@ -1,20 +1,20 @@
 """A short tour in Python, the same as bindings/c/example.c: it prints bindings/example.out. `make lib` first."""
 import urdhvasolk as urd
 
-# One cycle of a port of 4 byte lanes: all four flags high, TID 1, TDEST 2, data on lanes 0 and 3, a position on lane 2.
+# One cycle of a port of 4 byte lanes without user bits: all four flags high, TID 1, TDEST 2, data on lanes 0 and 3, a position on lane 2.
 CAPTURE = bytes.fromhex("0F 01 02 0D 00 09 00 11 22 33 44")
 
 
 def stream():
-    judged = urd.judge(4, CAPTURE)
+    judged = urd.judge(4, 0, CAPTURE)
     if judged.refusal or judged.rule:
         print(f"refusal {judged.refusal}, rule {judged.rule} at {judged.place}")
         return
     print(f"clean, {judged.count} transfers")
 
     transfers, packed = bytearray(len(CAPTURE)), bytearray(64)
-    harvested = urd.harvest(4, CAPTURE, transfers)
-    repacked = urd.repack(4, 2, transfers[: harvested.count * (7 + 4)], packed)
+    harvested = urd.harvest(4, 0, CAPTURE, transfers)
+    repacked = urd.repack(4, 0, 2, transfers[: harvested.count * (7 + 4)], packed)
     print(f"{repacked.count} records of width 2")
     for k in range(repacked.count):
         print(packed[k * 9 : (k + 1) * 9].hex(" ").upper())

@@ -5,6 +5,7 @@ build/lib/liburdhvasolk.so of this project (`make lib`). No call raises on any w
 - a number that the library's argument cannot hold, negative ones too, is passed on as the largest one that it can, which
   is refused for the same reason; a start that is no 32-bit number has no such stand-in, and the answer is None; the level of
   fill_in is never refused;
+- a stream call takes the width of its records and, straight after it (T-06), their user bits to a byte, 0 to 4;
 - input is any bytes-like object, and is copied, so it may be the lent memory itself;
 - lent memory (`out`, and the capture of fill_in) is a bytearray or the like, changed in place as the header says.
 """
@@ -14,6 +15,7 @@ import os
 from collections import namedtuple
 
 WIDTH, LENGTH, FIELD, RESERVED, ROOM, RATIO, BUS, SIZE, TYPE, COUNT, ALIGN, FENCE, INDEX, UNCLEAN, SHEET = range(1, 16)
+USERBITS = 16
 FIXED, INCR, WRAP = range(3)
 CLEAN, BROKEN, REFUSED = range(3)
 
@@ -72,12 +74,13 @@ _burst_beat = _call("urd_burst_beat", _Burst, *_burst, _u32)
 _burst_step = _call("urd_burst_step", _Burst, *_burst, _u32)
 _axi3_cut = _call("urd_axi3_cut", _Cut, *_burst, ctypes.POINTER(_u64), _size)
 _judge_writes = _call("urd_judge_writes", _Write, *_burst, *_input)
-_judge = _call("urd_judge", _Stream, _size, *_input)
-_harvest = _call("urd_harvest", _Stream, _size, *_input, *_lent)
-_fill_in = _call("urd_fill_in", _Stream, _size, *_lent, _u32)
-_repack = _call("urd_repack", _Stream, _size, _size, *_input, *_lent)
-_downsize = _call("urd_downsize", _Stream, _size, _size, *_input, *_lent)
-_data_octets = _call("urd_data_octets", _Part, _size, *_input, _size)
+_shape = (_size, _size)  # width and user, of every stream call
+_judge = _call("urd_judge", _Stream, *_shape, *_input)
+_harvest = _call("urd_harvest", _Stream, *_shape, *_input, *_lent)
+_fill_in = _call("urd_fill_in", _Stream, *_shape, *_lent, _u32)
+_repack = _call("urd_repack", _Stream, *_shape, _size, *_input, *_lent)
+_downsize = _call("urd_downsize", _Stream, *_shape, _size, *_input, *_lent)
+_data_octets = _call("urd_data_octets", _Part, *_shape, *_input, _size)
 _report = _call("urd_report", _Report, *_input, _u32, *_input, _u32, *_lent, *_lent)
 
 
@@ -151,48 +154,53 @@ def judge_writes(start, len_, size, kind, bus, beats):
     return _plain(WriteAnswer, _judge_writes(start, *(_held(n, _u32) for n in (len_, size, kind, bus)), beats, len(beats)))
 
 
-def judge(width, capture):
+def _sizes(*numbers):
+    return (_held(n, _size) for n in numbers)
+
+
+def judge(width, user, capture):
     """Clean: rule 0 and the count of transfers. Broken: the lowest rule at cycle `place`, the earliest one: 1 TVALID high with
     ARESETn low now or in the cycle before, 2 TVALID gone while it waited for TREADY, 3 TLAST or an octet from 1 on changed
-    while it waited, 4 a reserved lane. Refusals 1, 2, 3."""
+    while it waited, 4 a reserved lane. Refusals 1, 16, 2, 3."""
     capture = _read(capture)
-    return _plain(StreamAnswer, _judge(_held(width, _size), capture, len(capture)))
+    return _plain(StreamAnswer, _judge(*_sizes(width, user), capture, len(capture)))
 
 
-def harvest(width, capture, out):
-    """Writes the transfers of a clean capture into out: count of records. Refusals 1, 2, 3, 14, 5."""
+def harvest(width, user, capture, out):
+    """Writes the transfers of a clean capture into out: count of records. Refusals 1, 16, 2, 3, 14, 5."""
     capture, lent = _read(capture), _lend(out)
-    return _plain(StreamAnswer, _harvest(_held(width, _size), capture, len(capture), ctypes.addressof(lent), len(lent)))
+    return _plain(StreamAnswer, _harvest(*_sizes(width, user), capture, len(capture), ctypes.addressof(lent), len(lent)))
 
 
-def fill_in(width, capture, level):
+def fill_in(width, user, capture, level):
     """Sets TLAST of every record in the lent capture, for ports with no TLAST wire: count of records. False or 0 as the level is
-    low, True or any other whole number high; anything else, the text "low" too, raises TypeError. Refusals 1, 2."""
+    low, True or any other whole number high; anything else, the text "low" too, raises TypeError. Refusals 1, 16, 2."""
     lent = _lend(capture)
     high = int(operator.index(level) != 0)
-    return _plain(StreamAnswer, _fill_in(_held(width, _size), ctypes.addressof(lent), len(lent), high))
+    return _plain(StreamAnswer, _fill_in(*_sizes(width, user), ctypes.addressof(lent), len(lent), high))
 
 
-def _convert(function, width, v, octets, out):
+def _convert(function, width, user, v, octets, out):
     octets, lent = _read(octets), _lend(out)
-    answer = function(_held(width, _size), _held(v, _size), octets, len(octets), ctypes.addressof(lent), len(lent))
+    answer = function(*_sizes(width, user, v), octets, len(octets), ctypes.addressof(lent), len(lent))
     return _plain(StreamAnswer, answer)
 
 
-def repack(width, v, octets, out):
-    """Writes the packed form at width v of transfer records into out: count of records. Refusals 1, 2, 3, 4, 5."""
-    return _convert(_repack, width, v, octets, out)
+def repack(width, user, v, octets, out):
+    """Writes the packed form at width v of transfer records into out, each byte with its user bits: count of records; 377,424
+    octets are always enough. Refusals 1, 16, 2, 3, 4, 5."""
+    return _convert(_repack, width, user, v, octets, out)
 
 
-def downsize(width, v, octets, out):
-    """Cuts transfer records into width/v records each, lane by lane, into out. Refusals 1, 6, 2, 3, 4, 5."""
-    return _convert(_downsize, width, v, octets, out)
+def downsize(width, user, v, octets, out):
+    """Cuts transfer records into width/v records each, lane by lane, into out. Refusals 1, 16, 6, 2, 3, 4, 5."""
+    return _convert(_downsize, width, user, v, octets, out)
 
 
-def data_octets(width, capture, k):
-    """Where the data octets of record k stand in the capture: start and length. Refusals 1, 2, 13."""
+def data_octets(width, user, capture, k):
+    """Where the data octets of record k stand in the capture: start and length. Refusals 1, 16, 2, 13."""
     capture = _read(capture)
-    return _plain(PartAnswer, _data_octets(_held(width, _size), capture, len(capture), _held(k, _size)))
+    return _plain(PartAnswer, _data_octets(*_sizes(width, user), capture, len(capture), _held(k, _size)))
 
 
 def _file(octets):
@@ -204,7 +212,7 @@ def _file(octets):
 def report(sheet, take):
     """The report on a take by its setup sheet, each None where it can't be read: verdict and numbers, the lines as a str, and
     the octets of the result, none unless clean. In the sheet tlast=none fills in high, tlast=low low; before T-03 none was low.
-    Refusals 15, 1, 6, 2, 3, 5, the last for a result above 65,536 octets."""
+    Since T-06 a sheet has a fifth line, user=0 to user=9. Refusals 15, 1, 16, 6, 2, 3, 5, the last for a result above 65,536 octets."""
     out, text = bytearray(65536), bytearray(128)
     lent_out, lent_text = _lend(out), _lend(text)
     a = _report(*_file(sheet), *_file(take), ctypes.addressof(lent_out), len(out), ctypes.addressof(lent_text), len(text))

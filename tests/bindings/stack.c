@@ -1,6 +1,7 @@
 /* How much stack each call of the library uses: `stack REPORT REPACK OTHERS` says how many octets urd_report, urd_repack
  * and any other call may use; that may be SLACK more than they do, and not less. Each call runs in a thread of its own on a
- * stack that was painted before, with long inputs of every width, and the lowest octet that is no longer as painted tells.
+ * stack that was painted before, with long inputs of every width, without user bits and with them, and the lowest octet that is
+ * no longer as painted tells.
  * The last line is 'N passed, M failed'. */
 #define _GNU_SOURCE /* pthread_attr_setstack, MAP_ANONYMOUS */
 #include "urdhvasolk.h"
@@ -22,14 +23,18 @@ enum { DATA, POSITIONS, MIXED, ENDS, KINDS }; /* what is in its lanes */
 
 static uint8_t take[MOST], transfers[MOST], beats[MOST], text[128], sheet[64];
 static union { uint8_t octets[16 * MOST]; uint64_t numbers[2 * MOST]; } lent;
-static size_t w, v, length, sheet_length, beats_length; /* widths in and out, octets of take and transfers, of sheet, of beats */
+static size_t w, m, v, length, sheet_length, beats_length; /* width in, user bits, width out; octets of take and transfers, of sheet, of beats */
+
+static size_t record_size(void) { return 7 + w + (w * m + 7) / 8; }
 
 static void put_record(uint8_t *r, size_t i, int kind)
 {
     unsigned all = (1u << w) - 1, some = (unsigned)i * 2654435761u >> 9;
     unsigned keep = kind == MIXED ? some & all : kind == ENDS ? 0 : all;
     unsigned strobe = kind == POSITIONS ? 0 : kind == MIXED ? keep & some >> 5 : keep;
-    memset(r, (int)i, 7 + w);
+    memset(r, (int)i, record_size());
+    if (w * m % 8 != 0)
+        r[record_size() - 1] &= (uint8_t)((1 << w * m % 8) - 1); /* no padding bit */
     r[0] = kind == ENDS || i % 5 == 0; /* TLAST */
     r[1] = (uint8_t)(i / 9);           /* TID */
     r[2] = 3;                          /* TDEST */
@@ -40,19 +45,19 @@ static void put_record(uint8_t *r, size_t i, int kind)
 /* As many records as a take can have. With `bad` TDEST of the very last one is 16, so that it is refused. */
 static void fill(int kind, int bad)
 {
-    size_t records = MOST / (7 + w);
-    length = records * (7 + w);
+    size_t size = record_size(), records = MOST / size;
+    length = records * size;
     for (size_t i = 0; i < records; i++)
-        put_record(transfers + i * (7 + w), i, kind);
-    transfers[length - (7 + w) + 2] = bad ? 16 : 3;
+        put_record(transfers + i * size, i, kind);
+    transfers[length - size + 2] = bad ? 16 : 3;
     memcpy(take, transfers, length);
-    for (size_t i = 0; i < length; i += 7 + w)
+    for (size_t i = 0; i < length; i += size)
         take[i] |= 14; /* TVALID, TREADY, ARESETn */
 }
 
 static void write_sheet(int lanes, const char *tlast)
 {
-    sheet_length = (size_t)snprintf((char *)sheet, sizeof sheet, "width_in=%zu\nwidth_out=%zu\nmode=%s\ntlast=%s\nuser=0\n", w, v, lanes ? "lanes" : "pack", tlast);
+    sheet_length = (size_t)snprintf((char *)sheet, sizeof sheet, "width_in=%zu\nwidth_out=%zu\nmode=%s\ntlast=%s\nuser=%zu\n", w, v, lanes ? "lanes" : "pack", tlast, m);
 }
 
 /* Write beats of one byte each, of each kind of burst, on a bus of 1 to 128 bytes: clean ones of DATA, else as many as a take can have.
@@ -76,12 +81,12 @@ static void fill_beats(int kind, int bad)
 
 /* ---- the calls; each answers its refusal ---- */
 
-static uint32_t judge(void) { return urd_judge(w, take, length).refusal; }
-static uint32_t harvest(void) { return urd_harvest(w, take, length, lent.octets, sizeof lent.octets).refusal; }
-static uint32_t fill_in(void) { return urd_fill_in(w, take, length, (uint32_t)v % 2).refusal; }
-static uint32_t data_octets(void) { return urd_data_octets(w, take, length, v).refusal; }
-static uint32_t repack(void) { return urd_repack(w, v, transfers, length, lent.octets, sizeof lent.octets).refusal; }
-static uint32_t downsize(void) { return urd_downsize(w, v, transfers, length, lent.octets, sizeof lent.octets).refusal; }
+static uint32_t judge(void) { return urd_judge(w, m, take, length).refusal; }
+static uint32_t harvest(void) { return urd_harvest(w, m, take, length, lent.octets, sizeof lent.octets).refusal; }
+static uint32_t fill_in(void) { return urd_fill_in(w, m, take, length, (uint32_t)v % 2).refusal; }
+static uint32_t data_octets(void) { return urd_data_octets(w, m, take, length, v).refusal; }
+static uint32_t repack(void) { return urd_repack(w, m, v, transfers, length, lent.octets, sizeof lent.octets).refusal; }
+static uint32_t downsize(void) { return urd_downsize(w, m, v, transfers, length, lent.octets, sizeof lent.octets).refusal; }
 static uint32_t report(void) { return urd_report(sheet, sheet_length, 1, take, length, 1, lent.octets, sizeof lent.octets, text, sizeof text).refusal; }
 static uint32_t burst_judge(void) { return urd_burst_judge(64, 15, 2, (uint32_t)v % 3, 4).refusal; }
 static uint32_t burst_beat(void) { return urd_burst_beat(64, 15, 2, (uint32_t)v % 3, 4, (uint32_t)w - 1).refusal; }
@@ -156,8 +161,10 @@ int main(int n, char **limits)
         asked = calls[i].call;
         most = accepted = 0;
         for (w = 1; w <= 16; w++)
-            for (int kind = 0; kind < 2 * KINDS; kind++)
-                measure_widths(kind / 2, kind % 2);
+            for (int kind = 0; kind < 4 * KINDS; kind++) {
+                m = kind < 2 * KINDS ? 0 : 1 + w % 4;
+                measure_widths(kind / 2 % KINDS, kind % 2);
+            }
         int good = accepted > 0 && most > 0 && most <= limit && limit <= most + SLACK;
         printf("%s: %zu octets of stack at most, %zu allowed, accepted %zu times%s\n", calls[i].name, most, limit, accepted, good ? "" : "  FAILED");
         failed += !good;

@@ -10,8 +10,11 @@ fn main() {
     streams::packed();
     streams::three_pairs();
     streams::findings();
+    streams::resets();
     streams::levels();
     streams::bounds();
+    streams::user_bits();
+    streams::user_bounds();
     bursts::beats();
     bursts::wrap();
     bursts::boundary();

@@ -17,7 +17,7 @@ ghost use Rattle.report_spec.specs.Report.{reportOf, textMost};
 ghost use Rattle.report_spec.specs.Promises.{isClean};
 ghost use Rattle.report.specs.Delivery.{known, Tells, Delivers};
 
-// The longest sheet has 48 octets: a longer file is read as over-long, and is no sheet.
+// The longest sheet has 55 octets: a longer file is read as over-long, and is no sheet.
 const SHEET_MOST: usize = 64;
 
 // No text is longer: the `textMost` of report_spec.

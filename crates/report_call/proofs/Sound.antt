@@ -11,12 +11,13 @@ use Rattle.refusal.specs.declared.Refusal.{Refusal}
 use Rattle.stream_spec.specs.declared.Shape.{Shape}
 use Rattle.stream_spec.specs.declared.Verdict.the-variants.{Clean}
 use Rattle.stream_spec.specs.declared.Written.{Written}
-use Rattle.stream_spec.specs.Layout.{widthMost, size}
+use Rattle.stream_spec.specs.Layout.{size}
 use Rattle.stream_spec.specs.Checks.{captureMost}
 use Rattle.stream_spec.specs.Handshake.{transferCount, harvested}
-use Rattle.stream_spec.specs.Walk.{Passed}
+use Rattle.stream_spec.specs.Walk.{Narrow, Passed}
 use Rattle.stream_spec.specs.Memory.{inFront}
 use Rattle.stream_spec.specs.Answers.{lentAfter, judgeAnswer, harvestRefusal, harvestAfter, Harvested}
+use Rattle.stream_spec.proofs.Passed.{passed-narrow}
 use Rattle.stream_spec.proofs.Harvest.{harvested-long, harvested-short}
 use Rattle.stream_spec.proofs.Clean.{clean-count, clean-passed, clean-harvested}
 
@@ -25,8 +26,8 @@ module _ (s : Shape) (xs : List ℕ) (n : ℕ) (clean : judgeAnswer s xs ≡ Cle
   passed : Passed s xs
   passed = clean-passed s xs n clean
 
-  pub width-high : t .width ≤ widthMost
-  width-high = subst (λ (k : Shape). k .width ≤ widthMost) (sym same) (passed .high)
+  pub shape-narrow : Narrow t
+  shape-narrow = subst Narrow (sym same) (passed-narrow s xs passed)
 
   few : length (harvested s xs) ≤ captureMost
   few = omega (arith, harvested-short s xs, passed .short)
@@ -62,4 +63,4 @@ module _ (s : Shape) (xs : List ℕ) (n : ℕ) (clean : judgeAnswer s xs ≡ Cle
       part-long = long ∙ sym (ap length part-is)
 
       pub part-passed : Passed s (take (n * z) after)
-      part-passed = subst (Passed s) (sym part-is) (record { low = passed .low; high = passed .high; whole = whole; short = few })
+      part-passed = subst (Passed s) (sym part-is) (record { low = passed .low; high = passed .high; user = passed .user; whole = whole; short = few })

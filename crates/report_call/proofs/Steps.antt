@@ -13,8 +13,8 @@ use Rattle.stream_spec.specs.declared.Shape.{Shape}
 use Rattle.stream_spec.specs.declared.Verdict.{Verdict as Judgement}
 use Rattle.stream_spec.specs.declared.Verdict.the-variants.{Clean as Sound, Broken as Breaks, Refused as NotJudged}
 use Rattle.refusal.specs.Checks.{first}
-use Rattle.stream_spec.specs.Layout.{widthMost}
-use Rattle.stream_spec.specs.Checks.{widthCheck, lengthCheck}
+use Rattle.stream_spec.specs.Checks.{widthCheck, userCheck, lengthCheck}
+use Rattle.stream_spec.specs.Walk.{Narrow}
 use Rattle.stream_spec.specs.Handshake.{low, high, harvested}
 use Rattle.stream_spec.specs.Answers.{judgeAnswer, fillAfter, Judged}
 use Rattle.report_setup_spec.specs.declared.Setup.{Setup}
@@ -36,7 +36,7 @@ use Rattle.refusal.proofs.First.{first-none}
 use Rattle.stream_record.specs.Checked.{checkedOf}
 use Rattle.stream_record.proofs.Tests.{refused-is, passed-is}
 use Rattle.stream_spec.proofs.Fill.{refused-kept}
-use Rattle.report_spec.proofs.Passes.{sound-in, fits-in}
+use Rattle.report_spec.proofs.Passes.{sound-in, sound-user, narrow-in}
 
 -- a refusal leaves the output as it is
 pub came-refused : (r : Refusal) (out : List ℕ) (f : Ending) → f .verdict ≡ Refused r → f .octets ≡ 0 → Came (refused r) out out f
@@ -104,20 +104,18 @@ found-alone true q r e = (refl, cc)
 found-alone false q r e = let z : _≡_ {A = ℕ} 0 1 = cc in absurd (omega arith)
 
 -- a take of a bad length is not filled in, and judging refuses it
-ill-kept : (level : Bool) (s : Shape) (capture : List ℕ) → widthCheck (s .width) .found ≡ false → lengthCheck s capture .found ≡ true
-    → fillAfter level s capture ≡ capture
-ill-kept level s capture w h = refused-kept level s capture Length (rw (w, h) refl)
+module _ (s : Shape) (capture : List ℕ) (w : widthCheck (s .width) .found ≡ false) (m : userCheck s .found ≡ false) (h : lengthCheck s capture .found ≡ true) where
+  ill-kept : (level : Bool) → fillAfter level s capture ≡ capture
+  ill-kept level = refused-kept level s capture Length (rw (w, m, h) refl)
 
-ill-filled : (s : Shape) (wire : Tlast) (capture : List ℕ) → widthCheck (s .width) .found ≡ false → lengthCheck s capture .found ≡ true
-    → prepared wire s capture ≡ capture
-ill-filled s Wired capture w h = refl
-ill-filled s Absent capture w h = ill-kept high s capture w h
-ill-filled s Low capture w h = ill-kept low s capture w h
+  ill-filled : (wire : Tlast) → prepared wire s capture ≡ capture
+  ill-filled Wired = refl
+  ill-filled Absent = ill-kept high
+  ill-filled Low = ill-kept low
 
-ill-afterJudging : (s : Shape) (capture : List ℕ) → widthCheck (s .width) .found ≡ false → lengthCheck s capture .found ≡ true
-    → judgeAnswer s capture ≡ NotJudged Length
-unfolding judgeAnswer
-ill-afterJudging s capture w h = rw (w, h) refl
+  ill-afterJudging : judgeAnswer s capture ≡ NotJudged Length
+  unfolding judgeAnswer
+  ill-afterJudging = rw (w, m, h) refl
 
 -- the code has the shape of the take in t, and tested the length as y
 module _ (u : Setup) (t : Shape) (same : t ≡ shapeOf u) (xs : List ℕ) (y : Checked) (h : checkedOf y ≡ first (lengthCheck t xs ∷ [])) where
@@ -146,8 +144,8 @@ module _ (u : Setup) (out : List ℕ) (x : Checked) (e : checkedOf x ≡ first (
     setup-passed capture out' f c = subst (λ (o : Option Refusal). Came (unless o (captureOutcome u capture (length out))) out out' f) (sym passes) c
 
     -- the code has the shape of the take in t
-    pub width-high : (t : Shape) → t ≡ shapeOf u → t .width ≤ widthMost
-    width-high t same = subst (λ (s : Shape). s .width ≤ widthMost) (sym same) (fits-in u passes .high)
+    pub shape-narrow : (t : Shape) → t ≡ shapeOf u → Narrow t
+    shape-narrow t same = subst Narrow (sym same) (narrow-in u passes)
 
     module _ (read : Bool) (capture : List ℕ) where
       pub setup-unread : read ≡ false → (f : Ending) → f .verdict ≡ Refused Length → f .octets ≡ 0
@@ -160,10 +158,11 @@ module _ (u : Setup) (out : List ℕ) (x : Checked) (e : checkedOf x ≡ first (
           → (f : Ending) → f .verdict ≡ Refused r → f .octets ≡ 0 → Came (setupOutcome u (contents read capture) (length out)) out out f
       setup-ill h r i f a b =
           let w = sound-in u passes in
+          let m = sound-user u passes in
           let l = i .0 in
           let told : f .verdict ≡ Refused Length = a ∙ sym (ap {B = Verdict} Refused (i .1)) in
           let no : judgeAnswer (shapeOf u) (cyclesOf u capture) ≡ NotJudged Length =
-          ap (judgeAnswer (shapeOf u)) (ill-filled (shapeOf u) (u .tlast) capture w l) ∙ ill-afterJudging (shapeOf u) capture w l in
+          ap (judgeAnswer (shapeOf u)) (ill-filled (shapeOf u) capture w m l (u .tlast)) ∙ ill-afterJudging (shapeOf u) capture w m l in
           subst (λ (b : Bool). Came (setupOutcome u (contents b capture) (length out)) out out f) (sym h)
           (setup-passed (some capture) out f
           (subst (λ (j : Judgement). Came (afterJudging j (convertedTransfers u (transfersOf u capture) (length out))) out out f) (sym no) (came-refused Length out f told b)))

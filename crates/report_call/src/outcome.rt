@@ -1,5 +1,6 @@
 // From sheet and take to the verdict, with the result in the lent output, the sheet first and the helpers last. Each step is a
-// call of the library; the order of the tests is paper 01's: SHEET, WIDTH, RATIO in lanes mode, LENGTH, FIELD, broken, ROOM.
+// call of the library; the order of the tests is paper 01's, with T-06's USERBITS: SHEET, WIDTH, USERBITS, RATIO in lanes mode,
+// LENGTH, FIELD, broken, ROOM.
 // A take is the `capture` as it was sampled, `cycles` once it is filled in, and `transfers` once it is harvested.
 use refusal::Refusal;
 use report_setup_spec::Mode;
@@ -179,7 +180,7 @@ fn prepare(wire: Tlast, s: Shape, capture: &mut [u8])
     }
 }
 
-// WIDTH of either width, RATIO in lanes mode.
+// WIDTH of either width, USERBITS, RATIO in lanes mode.
 fn check_setup(u: Setup) -> Checked
     ensures { λ r. ⌜ checkedOf r ≡ first (setupChecks u) ⌝ }
 {
@@ -210,7 +211,7 @@ fn check_ratio(u: Setup) -> Checked
 fn shape_of(u: Setup) -> Shape
     ensures { λ r. ⌜ r ≡ shapeOf u ⌝ }
 {
-    stream_record::shape_of(u.width_in)
+    stream_record::shape_of(u.width_in, u.user)
 }
 
 fn out_shape(u: Setup) -> Shape

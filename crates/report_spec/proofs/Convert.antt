@@ -60,14 +60,14 @@ result-fits Lanes s v xs room e =
 
 -- a record is cut by itself
 each-sliced : (s : Shape) (v : ℕ) (rs : List (List ℕ)) → Sized (size s) rs
-    → octets (slices (s .width) v (map (transferOf s) rs)) ≡ joined (map (sliced s v) rs)
+    → octets (s .user) (slices (s .width) v (map (transferOf s) rs)) ≡ joined (map (sliced s v) rs)
 each-sliced s v [] z = refl
 each-sliced s v (r ∷ rs) z =
     let t = transferOf s r in
-    let alone : sliced s v r ≡ octets (sliceTransfer (s .width) v t) =
-    ap (λ (rs : List (List ℕ)). octets (slices (s .width) v (map (transferOf s) rs))) (record-alone s r (z .0))
-    ∙ ap octets (append-nil (sliceTransfer (s .width) v t)) in
-    octets-append (sliceTransfer (s .width) v t) (slices (s .width) v (map (transferOf s) rs))
+    let alone : sliced s v r ≡ octets (s .user) (sliceTransfer (s .width) v t) =
+    ap (λ (rs : List (List ℕ)). octets (s .user) (slices (s .width) v (map (transferOf s) rs))) (record-alone s r (z .0))
+    ∙ ap (octets (s .user)) (append-nil (sliceTransfer (s .width) v t)) in
+    octets-append (s .user) (sliceTransfer (s .width) v t) (slices (s .width) v (map (transferOf s) rs))
     ∙ ap₂ (λ (a b : List ℕ). a ++ b) (sym alone) (each-sliced s v rs (z .1))
 
 -- where each record has TLAST, each is converted by itself, in either mode
@@ -77,7 +77,7 @@ each-converted Pack s v rs z h =
     eachItsPacket s v (joined rs) (subst AllLast (sym (records-joined s rs z)) h)
     ∙ ap (λ (rs : List (List ℕ)). joined (map (packed s v) rs)) (records-joined s rs z)
 each-converted Lanes s v rs z h =
-    ap (λ (rs : List (List ℕ)). octets (slices (s .width) v (map (transferOf s) rs))) (records-joined s rs z) ∙ each-sliced s v rs z
+    ap (λ (rs : List (List ℕ)). octets (s .user) (slices (s .width) v (map (transferOf s) rs))) (records-joined s rs z) ∙ each-sliced s v rs z
 
 -- ---- what an answer says
 

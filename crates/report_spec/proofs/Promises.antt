@@ -45,7 +45,7 @@ use Rattle.report_spec.specs.declared.Tally.{Tally}
 use Rattle.report_spec.specs.declared.Verdict.the-variants.{Clean, Broken, Refused}
 use Rattle.report_spec.specs.Report.{Outcome, shapeOf, outShape, prepared, cyclesOf, transfersOf, lasts, packetCount, convertAnswer, convertResult, tally, converted, convertedTransfers, afterJudging, captureOutcome, ratioChecks, setupChecks, Passes, unless, setupOutcome, sheetOutcome, outcomeOf, Whole, whole, reportOf}
 use Rattle.report_spec.specs.Promises.{OctetsOf, ReportsSetup, isClean, OnlyWhenClean, CleanTally, CleanTallies, sampledAt, resultBy, TlastNone, TlastLow, mayShow, RefusalsShown, NeverReservedNorUnclean, PackNeverRatio, orderedChecks, convertedOf, tallyOf, inOrder, ReportInOrder, TextShort}
-use Rattle.report_spec.proofs.Passes.{sound-in, sound-out, sound-ratio, fits-out}
+use Rattle.report_spec.proofs.Passes.{sound-in, sound-out, sound-user, sound-ratio, fits-out}
 use Rattle.report_spec.proofs.Convert.{convertRefusal, convertCount, answer-is, result-long, result-fits, each-converted, not-written, IsWritten, is-written}
 use Rattle.report_spec.proofs.Ends.{lasts-filled, same-ends}
 use Rattle.report_spec.proofs.Short.{two-short, three-short}
@@ -141,7 +141,7 @@ module _ (u : Setup) (p : Passes u) (capture : List ℕ) (o : Octets capture) (n
   only-room Pack h room = harvestRepacks s (cyclesOf u capture) (length ts) v room octets-in taken width-out
   only-room Lanes h room =
       let ratio = first-none (ratioCheck s v) [] h .0 in
-      rw (sound-in u p, sound-out u p, ratio, fits-take)
+      rw (sound-in u p, sound-out u p, sound-user u p, ratio, fits-take)
       (append-passed (transferChecks s 0 (records s ts)) (roomCheck (sliced s v ts) room ∷ []) (legal .faultless))
 
   divides : first (ratioChecks Lanes s v) ≡ none → s .width % v ≡ 0
@@ -177,7 +177,7 @@ first-shows m (c ∷ cs) h r e = go (c .found) refl (first-shows m cs (h .1) r)
     go false k later = later (rw k at e)
 
 setup-shows : (u : Setup) → AllShow (u .mode) (setupChecks u)
-setup-shows u = (refl, (refl, go (u .mode)))
+setup-shows u = (refl, (refl, (refl, go (u .mode))))
   where
     go : (m : Mode) → AllShow m (ratioChecks m (shapeOf u) (u .«width_out»))
     go Pack = tt
@@ -195,7 +195,7 @@ not-judged none none n r e = let z : _≡_ {A = ℕ} 0 1 = cc in absurd (omega a
 judge-shows : (m : Mode) (s : Shape) (xs : List ℕ) (r : Refusal) → judgeAnswer s xs ≡ NotJudged r → mayShow m (codeOf r .0) ≡ true
 unfolding judgeAnswer
 judge-shows m s xs r e =
-    first-shows m (judgeChecks s xs) (refl, (refl, cycles-show m s 0 (records s xs))) r
+    first-shows m (judgeChecks s xs) (refl, (refl, (refl, cycles-show m s 0 (records s xs)))) r
     (not-judged (first (judgeChecks s xs)) (firstFinding s xs) (transferCount s xs) r e)
 
 room-shows : (m : Mode) (b : Bool) (r : Refusal) → cond b (some Room) none ≡ some r → mayShow m (codeOf r .0) ≡ true
@@ -448,7 +448,7 @@ module _ (u : Setup) (capture : List ℕ) (o : Octets capture) (room : ℕ) wher
 
   judge-is : Passes u → judgeAnswer (shapeOf u) cycles ≡ verdict (first left) (firstFinding (shapeOf u) cycles) (transferCount (shapeOf u) cycles)
   unfolding judgeAnswer
-  judge-is p = rw (sound-in u p) refl
+  judge-is p = rw (sound-in u p, sound-user u p) refl
 
   room-last : Passes u → (n : ℕ) → judgeAnswer (shapeOf u) cycles ≡ Sound n
       → convertedTransfers u (transfersOf u capture) room n .verdict ≡ inOrder none none roomy (tally n (packetCount (shapeOf u) (transfersOf u capture)) (length (records (outShape u) (convertedOf u capture))))

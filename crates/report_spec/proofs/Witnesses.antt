@@ -31,7 +31,7 @@ use Rattle.report_spec.specs.declared.Tally.{Tally}
 use Rattle.report_spec.specs.declared.Verdict.the-variants.{Clean, Broken, Refused}
 use Rattle.report_spec.specs.Report.{shapeOf, cyclesOf, tally, setupOutcome, sheetOutcome, verdictValues, textOf, whole, reportOf}
 use Rattle.report_spec.specs.Promises.{OctetsOf, isClean, CleanTally, OnePacketEach, NoPacketEnds, mayShow, orderedChecks, convertedOf, tallyOf, inOrder}
-use Rattle.report_spec.specs.Cases.{says, p1Sheet, p1Take, p1Result, p1Low, p1Slices, cycle}
+use Rattle.report_spec.specs.Cases.{says, p1Sheet, p1Take, p1Result, p1Tagged, p1TaggedResult, p1Low, p1Slices, cycle}
 use Rattle.report_spec.proofs.Promises.{reportsSetup, onlyWhenClean, cleanTallies, tlastNone, tlastLow, refusalsShown, neverReservedNorUnclean, packNeverRatio, reportInOrder, textShort, no}
 
 -- ---- what the promises ask
@@ -46,7 +46,7 @@ numbers = 1 ∷ 2 ∷ 3 ∷ 4 ∷ 5 ∷ 6 ∷ 7 ∷ 8 ∷ 9 ∷ 10 ∷ 11 ∷ 12
 
 abbrev shownTable : Bool → List Bool
 shownTable six =
-    true ∷ true ∷ true ∷ false ∷ true ∷ six ∷ false ∷ false ∷ false ∷ false ∷ false ∷ false ∷ false ∷ false ∷ false ∷ false ∷ false ∷ false ∷ false ∷ false ∷ []
+    true ∷ true ∷ true ∷ false ∷ true ∷ six ∷ false ∷ false ∷ false ∷ false ∷ false ∷ false ∷ false ∷ false ∷ false ∷ true ∷ false ∷ false ∷ false ∷ false ∷ []
 
 pub pack-table : map (mayShow Pack) numbers ≡ shownTable false
 pack-table = refl
@@ -135,15 +135,23 @@ module _ (u : Setup) (capture : List ℕ) (room : ℕ) (o : Octets capture) wher
 -- ---- at examples: P1, a port without a TLAST wire, a take with a reserved lane, the longest text
 
 abbrev p1 : Setup
-p1 = record { «width_in» = 4; «width_out» = 2; mode = Pack; tlast = Wired }
+p1 = record { «width_in» = 4; «width_out» = 2; mode = Pack; tlast = Wired; user = 0 }
 
 pub p1-tallied : CleanTally p1 p1Take 18 p1Result (tally 1 1 2)
 unfolding size judgeAnswer repackAnswer
 p1-tallied = cleanTallies p1 p1Take 18 (tally 1 1 2) (octets-tested p1Take .1 refl) refl
 
+-- T-06: the same with two user bits to a byte
+abbrev p1User : Setup
+p1User = record { «width_in» = 4; «width_out» = 2; mode = Pack; tlast = Wired; user = 2 }
+
+pub tagged-tallied : CleanTally p1User p1Tagged 20 p1TaggedResult (tally 1 1 2)
+unfolding size judgeAnswer repackAnswer
+tagged-tallied = cleanTallies p1User p1Tagged 20 (tally 1 1 2) (octets-tested p1Tagged .1 refl) refl
+
 -- a data byte and an all-null transfer, sampled without TLAST and with it; at width 2 a record each, or one record for both
 abbrev unwired : Tlast → Setup
-unwired wire = record { «width_in» = 1; «width_out» = 2; mode = Pack; tlast = wire }
+unwired wire = record { «width_in» = 1; «width_out» = 2; mode = Pack; tlast = wire; user = 0 }
 
 abbrev unwiredTake : List ℕ
 unwiredTake = cycle 0x0E 0 1 1 ++ cycle 0x0F 0 0 0
@@ -164,7 +172,7 @@ low-ends-none = tlastLow (unwired Low) unwiredTake 9 (tally 2 0 1) refl refl
 
 -- in lanes mode too there are as many TLASTs in the result: P1's transfer sampled without TLAST, and its two slices
 abbrev sliced : Setup
-sliced = record { «width_in» = 4; «width_out» = 2; mode = Lanes; tlast = Absent }
+sliced = record { «width_in» = 4; «width_out» = 2; mode = Lanes; tlast = Absent; user = 0 }
 
 pub sliced-tallied : CleanTally sliced p1Low 18 p1Slices (tally 1 1 2)
 unfolding size judgeAnswer fillAfter downsizeAnswer
@@ -185,7 +193,7 @@ p1-room = neverReservedNorUnclean p1Sheet (some p1Take) 17 Room (octets-tested p
 
 -- the same, of a broken take
 abbrev narrow : Option (List ℕ)
-narrow = says "width_in=1\nwidth_out=1\nmode=pack\ntlast=wired\n"
+narrow = says "width_in=1\nwidth_out=1\nmode=pack\ntlast=wired\nuser=0\n"
 
 pub broken-unwritten : (out : List ℕ) → inFront (reportOf narrow (some (cycle 0x0E 0 0 1)) 65536 .result) out ≡ out
 unfolding reportOf sheetOf size judgeAnswer

@@ -111,15 +111,15 @@ TlastLow =
     (u : Setup) (capture : List ℕ) (room : ℕ) (t : Tally) → u .tlast ≡ Low → setupOutcome u (some capture) room .verdict ≡ Clean t
     → NoPacketEnds u capture (setupOutcome u (some capture) room .result) t
 
--- ---- which refusals show once the sheet is read, by their numbers: 1, 2, 3, 5, and 6 in lanes mode. So 4 and 14 never do: a
--- reserved lane is R4, and a broken take is a verdict of its own.
+-- ---- which refusals show once the sheet is read, by their numbers: 1, 2, 3, 5, since T-06 16, and 6 in lanes mode. So 4 and 14
+-- never do: a reserved lane is R4, and a broken take is a verdict of its own.
 
 abbrev pub ratioNumber : Mode → List ℕ
 ratioNumber Pack = []
 ratioNumber Lanes = 6 ∷ []
 
 abbrev pub shown : Mode → List ℕ
-shown m = 1 ∷ 2 ∷ 3 ∷ 5 ∷ ratioNumber m
+shown m = 1 ∷ 16 ∷ 2 ∷ 3 ∷ 5 ∷ ratioNumber m
 
 abbrev pub listed : ℕ → List ℕ → Bool
 listed n [] = false
@@ -143,8 +143,8 @@ PackNeverRatio =
     (sheet : List ℕ) (u : Setup) → sheetOf sheet ≡ Read u → u .mode ≡ Pack
     → (capture : Option (List ℕ)) (room : ℕ) (r : Refusal) → OctetsOf capture → reportOf (some sheet) capture room .verdict ≡ Refused r → codeOf r .0 ≢ 6
 
--- ---- 01's order as one list: "WIDTH of either width, RATIO in lanes mode, LENGTH, FIELD, a broken verdict, and ROOM last".
--- For a sheet and a take that were read, the verdict is the first of these that is there, or else clean.
+-- ---- 01's order as one list: "WIDTH of either width, RATIO in lanes mode, LENGTH, FIELD, a broken verdict, and ROOM last",
+-- and T-06's USERBITS "straight after WIDTH". For a sheet and a take that were read, the verdict is the first of these that is there, or else clean.
 
 abbrev pub orderedChecks : Setup → List ℕ → List (Check Refusal)
 orderedChecks u cycles = setupChecks u ++ lengthCheck (shapeOf u) cycles ∷ cycleChecks (shapeOf u) 0 (records (shapeOf u) cycles)

@@ -1,5 +1,5 @@
 -- The report (paper 01, 'The report program'): from a setup sheet and a take of cycle records to a verdict, the text that is
--- printed and the octets of the result. Words in quotes are 01's or, where it is said, T-03's (paper 02). What a sheet says is
+-- printed and the octets of the result. Words in quotes are 01's or, where it is said, those of T-03 or T-06 (paper 02). What a sheet says is
 -- report_setup_spec's `sheetOf`; what judging, harvesting, fill-in, repacking and downsizing answer is stream_spec's.
 use mathlib.Core.Path.{_≡_}
 use mathlib.Core.Bool.{Bool, true, false, cond}
@@ -16,7 +16,7 @@ use Rattle.stream_spec.specs.declared.Verdict.{Verdict as Judgement}
 use Rattle.stream_spec.specs.declared.Verdict.the-variants.{Clean as Sound, Broken as Breaks, Refused as NotJudged}
 use Rattle.stream_spec.specs.declared.Written.{Written}
 use Rattle.stream_spec.specs.declared.Written.the-variants.{Records, Refused as NotWritten}
-use Rattle.stream_spec.specs.Layout.{ofWidth, atWidth, bitOf, tlast, records, packed, sliced}
+use Rattle.stream_spec.specs.Layout.{shaped, atWidth, bitOf, tlast, records, packed, sliced}
 use Rattle.refusal.specs.Checks.{Check, first}
 use Rattle.stream_spec.specs.Checks.{shapeChecks, ratioCheck}
 use Rattle.stream_spec.specs.Memory.{inFront}
@@ -51,9 +51,9 @@ pub record Outcome : Type 0 where
 abbrev pub refused : Refusal → Outcome
 refused r = record { verdict = Refused r; result = [] }
 
--- the records of the take, and those of the result
+-- the records of the take, and those of the result: T-06: "m being one fixed number in all the calls"
 abbrev pub shapeOf : Setup → Shape
-shapeOf u = ofWidth (u .«width_in»)
+shapeOf u = shaped (u .«width_in») (u .user)
 
 abbrev pub outShape : Setup → Shape
 outShape u = atWidth (shapeOf u) (u .«width_out»)
@@ -113,7 +113,7 @@ captureOutcome u none room = refused Length
 captureOutcome u (some capture) room =
     afterJudging (judgeAnswer (shapeOf u) (cyclesOf u capture)) (convertedTransfers u (transfersOf u capture) room)
 
--- ".. then WIDTH of either width, RATIO in lanes mode .."
+-- ".. then WIDTH of either width, RATIO in lanes mode .."; T-06: USERBITS "straight after WIDTH"
 abbrev pub ratioChecks : Mode → Shape → ℕ → List (Check Refusal)
 ratioChecks Pack s v = []
 ratioChecks Lanes s v = ratioCheck s v ∷ []
@@ -121,7 +121,7 @@ ratioChecks Lanes s v = ratioCheck s v ∷ []
 abbrev pub setupChecks : Setup → List (Check Refusal)
 setupChecks u = shapeChecks (shapeOf u) (u .«width_out» ∷ []) ++ ratioChecks (u .mode) (shapeOf u) (u .«width_out»)
 
--- the sheet's widths and its ratio pass their tests
+-- the sheet's widths, its user bits and its ratio pass their tests
 abbrev pub Passes : Setup → Type 0
 Passes u = first (setupChecks u) ≡ none
 

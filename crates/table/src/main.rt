@@ -1,4 +1,4 @@
-// Prints the refusal table of paper 01, a line for each refusal: its name there, then the number, place and rule that the
+// Prints the refusal table of the papers, a line for each refusal: its name there, then the number, place and rule that the
 // library shows for it. The refusals that have a place are shown at record 7, and the unclean take at cycle 7, rule 3.
 use refusal::Refusal;
 
@@ -32,4 +32,5 @@ fn main() {
     row(b"INDEX", Refusal::Index);
     row(b"UNCLEAN", Refusal::Unclean(7, 3));
     row(b"SHEET", Refusal::Setup);
+    row(b"USERBITS", Refusal::UserBits);
 }

@@ -5,7 +5,7 @@ use native.Mathlib.Omega.{arith}
 use lib.ListN.{replicate, length-replicate, take}
 use borrow.Author.Needs.{needs}
 use Rattle.report_spec.specs.Report.{shapeOf}
-use Rattle.report_call.proofs.Sound.{width-high, short, part-is, part-fits, part-long, part-passed}
+use Rattle.report_call.proofs.Sound.{shape-narrow, short, part-is, part-fits, part-long, part-passed}
 use Rattle.report_call.proofs.Steps.{clean-came}
 use Rattle.report_call.proofs.outcome.of_clean.Statement.{statement}
 use Rattle.report_call.proofs.outcome.of_clean.Tie as tie
@@ -27,7 +27,7 @@ record-size-requires : tie.Need-record-size-requires
 record-size-requires c κs =
     let at-shape-of = c .before .before .before in
     let call = at-shape-of .before .before .before in
-    width-high (shapeOf (call .args .u)) (call .args .cycles .now) (call .args .count) (call .pre .1) (at-shape-of .shape-of .result)
+    shape-narrow (shapeOf (call .args .u)) (call .args .cycles .now) (call .args .count) (call .pre .1) (at-shape-of .shape-of .result)
     (at-shape-of .shape-of .ensures)
 
 mul-n : tie.Need-mul-n

@@ -2,7 +2,7 @@
 use borrow.Author.Tests.{not-true, not-false}
 use borrow.Author.Needs.{needs}
 use Rattle.report_spec.specs.Report.{contents}
-use Rattle.report_call.proofs.Steps.{setup-refused, passes, width-high, length-passed, length-refused, setup-unread, setup-ill, setup-read}
+use Rattle.report_call.proofs.Steps.{setup-refused, passes, shape-narrow, length-passed, length-refused, setup-unread, setup-ill, setup-read}
 use Rattle.report_call.proofs.outcome.of_setup.Statement.{statement}
 use Rattle.report_call.proofs.outcome.of_setup.Tie as tie
 
@@ -38,7 +38,7 @@ check-length-requires c κs =
     let at-enum-told = c .before .before in
     let at-check-setup = at-enum-told .before .before in
     let call = at-check-setup .before .before .before in
-    width-high (call .args .u) (call .args .out .now) (at-check-setup .check-setup .result) (at-check-setup .check-setup .ensures)
+    shape-narrow (call .args .u) (call .args .out .now) (at-check-setup .check-setup .result) (at-check-setup .check-setup .ensures)
     (at-enum-told .enum-told .given .1) (c .shape-of .result) (c .shape-of .ensures)
 
 refuse-requires-3 : tie.Need-refuse-requires-3

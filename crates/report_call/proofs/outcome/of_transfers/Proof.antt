@@ -1,12 +1,10 @@
 -- `report_call::outcome::of_transfers` meets its contract: ROOM, or clean. Assumes nothing.
 use mathlib.Core.Path.{sym, subst}
-use Prim.Native.Nat.{_≤_}
 use native.Mathlib.Omega.{arith}
 use borrow.Author.Needs.{needs}
 use Rattle.stream_spec.specs.declared.Shape.{Shape}
-use Rattle.stream_spec.specs.Layout.{widthMost}
-use Rattle.stream_spec.specs.Walk.{Passed}
-use Rattle.report_spec.proofs.Passes.{fits-out}
+use Rattle.stream_spec.specs.Walk.{Narrow, Passed}
+use Rattle.report_spec.proofs.Passes.{narrow-out}
 use Rattle.report_call.proofs.Convert.{room-short, long-fits, all-written}
 use Rattle.report_call.proofs.outcome.of_transfers.Statement.{statement}
 use Rattle.report_call.proofs.outcome.of_transfers.Tie as tie
@@ -37,7 +35,7 @@ out-shape-requires c κs = search needs
 record-size-requires : tie.Need-record-size-requires
 record-size-requires c κs =
     let call = c .before .before .before .before .before .before .before .before .before .before .before .before in
-    subst (λ (s : Shape). s .width ≤ widthMost) (sym (c .out-shape .ensures)) (fits-out (call .args .u) (call .pre .0) .high)
+    subst Narrow (sym (c .out-shape .ensures)) (narrow-out (call .args .u) (call .pre .0))
 
 mul-t18 : tie.Need-mul-t18
 mul-t18 c =

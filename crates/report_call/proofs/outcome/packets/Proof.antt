@@ -7,6 +7,7 @@ use borrow.Author.Needs.{needs}
 use lib.ListN.{length}
 use Rattle.stream_spec.specs.declared.Shape.{Shape}
 use Rattle.stream_spec.specs.Layout.{size as sizeOf}
+use Rattle.stream_spec.proofs.Passed.{passed-narrow}
 use Rattle.stream_spec.proofs.Size.{size-pos}
 use Rattle.report_call.proofs.Packets.{Counting, counting-start, next-within, again, counted}
 use Rattle.report_call.proofs.outcome.packets.Statement.{statement}
@@ -19,7 +20,7 @@ abbrev μ-loop : tie.MeasureT-loop
 μ-loop transfers size at₀ n₀ at n = length transfers - at
 
 record-size-requires : tie.Need-record-size-requires Inv-loop μ-loop
-record-size-requires c κs = c .before .pre .high
+record-size-requires c κs = passed-narrow (c .before .args .s) (c .before .args .transfers .now) (c .before .pre)
 
 loop-holds : tie.Need-loop-holds Inv-loop μ-loop
 loop-holds c =
