@@ -1,9 +1,7 @@
 -- `stream_record::load_user` meets its contract: a word is loaded, and the octets before the user bits are shifted out. Assumes nothing.
-use native.Mathlib.Omega.{arith}
-use lib.ListN.{length}
-use Prim.Native.Nat.{_≤_}
-use Rattle.stream_record.proofs.Users.{none-loaded, eight-before, user-loaded}
 use borrow.Author.Needs.{needs}
+use native.Mathlib.Omega.{arith}
+use Rattle.stream_record.proofs.Users.{none-loaded, eight-before, user-loaded}
 use Rattle.stream_record.proofs.load_user.Statement.{statement}
 use Rattle.stream_record.proofs.load_user.Tie as tie
 

@@ -1,7 +1,7 @@
 -- `stream_write::write_user` meets its contract: octet by octet, what is left to write gets shorter. Assumes nothing.
+use borrow.Author.Needs.{needs}
 use Prim.Native.Nat.{_-_}
 use Rattle.stream_write.proofs.Users.{Storing, storing-starts, storing-octet, storing-done}
-use borrow.Author.Needs.{needs}
 use Rattle.stream_write.proofs.write_user.Statement.{statement}
 use Rattle.stream_write.proofs.write_user.Tie as tie
 
