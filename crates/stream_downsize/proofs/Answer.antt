@@ -38,7 +38,7 @@ module _ (s : Shape) (v : ℕ) (xs : List ℕ) (t : Tested s v xs) where
   pub cuts-of : Cuts s (atWidth s v)
   cuts-of =
       let f = shapes-fit s v (t .shapes) in
-      record { high = f .0 .high; low = f .0 .low; small = f .1 .high; some = f .1 .low; whole = ratio-fits s v (t .ratio) }
+      record { high = f .0 .high; low = f .0 .low; small = f .1 .high; some = f .1 .low; whole = ratio-fits s v (t .ratio); user = f .0 .user; same = refl }
 
   pub passed-of : Passed s xs
   passed-of = take-passed s xs (shapes-fit s v (t .shapes) .0) (t .length)
@@ -64,7 +64,7 @@ module _ (s : Shape) (v : ℕ) (xs : List ℕ) (c : Cuts s (atWidth s v)) (z : �
       length-octets (atWidth s v) (slicedTransfers s v xs) (wide-slices (s .width) v (transfers s xs))
       ∙ rw (sliced-count, e) refl
 
-  -- at most as many records as a take has octets, of at most 16 slices of at most 23 octets
+  -- at most as many records as a take has octets, of at most 16 slices of at most 31 octets
   pub count-fits : length xs ≤ captureMost → length xs / z * (s .width / v) ≤ captureMost * widthMost
   count-fits l =
       let few : length xs / z ≤ captureMost = omega (arith, div-le-self (length xs) z) in
@@ -73,7 +73,7 @@ module _ (s : Shape) (v : ℕ) (xs : List ℕ) (c : Cuts s (atWidth s v)) (z : �
 
   pub product-fits : (y : ℕ) → y ≡ size (atWidth s v) → length xs ≤ captureMost → length xs / z * (s .width / v) * y ≤ captureMost * widthMost * sizeMost
   product-fits y e l =
-      let short : y ≤ sizeMost = omega (arith, size-most (atWidth s v) (c .small)) in
+      let short : y ≤ sizeMost = omega (arith, size-most (atWidth s v) (c .small) (c .user)) in
       mul-le-mul (count-fits l) short
 
 -- ---- the answers

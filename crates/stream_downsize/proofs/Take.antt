@@ -1,14 +1,11 @@
 -- A take, record by record: its slices as they are written, stated by what remains. Assumes nothing.
-use mathlib.Core.Path.{_≡_, refl, ap, _∙_, subst}
-use mathlib.Core.Bool.{false}
+use mathlib.Core.Path.{_≡_, ap, _∙_, subst}
 use mathlib.Core.List.{List, [], _∷_, _++_, map}
 use Prim.Native.Nat.{ℕ, _+_, _≤_, _<_}
-use native.Mathlib.Omega.{arith}
 use lib.ListN.{length, drop}
 use Rattle.stream_spec.specs.declared.Shape.{Shape}
 use Rattle.stream_spec.specs.Packed.{sliceTransfer, slices}
 use Rattle.stream_spec.specs.Layout.{size, transferOf, records, transfers, octets, sliced}
-use Rattle.stream_spec.specs.Checks.{reservedFault}
 use Rattle.stream_spec.specs.Memory.{inFront, Writing, Writes}
 use Rattle.stream_spec.specs.Walk.{Left, recordAt}
 use Rattle.stream_spec.proofs.Legal.{Faultless, faultless-of}
@@ -41,8 +38,8 @@ module _ (s t : Shape) (xs out₀ out : List ℕ) (to at : ℕ) (p : Sliding s t
 
     split : sliced s (t .width) (drop at xs) ≡ recordSlices s t (recordAt xs at z) ++ rest
     split =
-        ap (λ (rs : List (List ℕ)). octets (slices (s .width) (t .width) (map (transferOf s) rs))) (records-next s xs at (p .left) more z q)
-        ∙ octets-append (sliceTransfer (s .width) (t .width) (transferOf s (recordAt xs at z))) (slices (s .width) (t .width) (transfers s (drop (at + z) xs)))
+        ap (λ (rs : List (List ℕ)). octets (s .user) (slices (s .width) (t .width) (map (transferOf s) rs))) (records-next s xs at (p .left) more z q)
+        ∙ octets-append (s .user) (sliceTransfer (s .width) (t .width) (transferOf s (recordAt xs at z))) (slices (s .width) (t .width) (transfers s (drop (at + z) xs)))
 
     next-writing : Writing out₀ out to (sliced s (t .width) xs) (recordSlices s t (recordAt xs at z) ++ rest)
     next-writing =
@@ -70,6 +67,6 @@ module _ (s t : Shape) (xs out₀ out : List ℕ) (to at : ℕ) (p : Sliding s t
   pub sliding-done : length xs ≤ at → out ≡ inFront (sliced s (t .width) xs) out₀
   sliding-done h =
       let nothing : sliced s (t .width) (drop at xs) ≡ [] =
-      ap (λ (rs : List (List ℕ)). octets (slices (s .width) (t .width) (map (transferOf s) rs))) (no-records s xs at h) in
+      ap (λ (rs : List (List ℕ)). octets (s .user) (slices (s .width) (t .width) (map (transferOf s) rs))) (no-records s xs at h) in
       writing-end out₀ out (sliced s (t .width) xs) to
       (writing-as out₀ out (sliced s (t .width) xs) (sliced s (t .width) (drop at xs)) [] to nothing (p .writing))

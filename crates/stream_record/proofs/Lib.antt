@@ -2,3 +2,4 @@ pub mod Field
 pub mod Padding
 pub mod RecordFaults
 pub mod Tests
+pub mod Users

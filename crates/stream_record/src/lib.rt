@@ -25,12 +25,13 @@ use layout::USER_MOST;
 use layout::WIDTH_MOST;
 use refusal::Refusal;
 use stream_spec::Shape;
+use words::load8;
 use words::widen4;
 ghost use mathlib.Core.Path.{_≡_};
 ghost use Prim.Native.Nat.{ℕ, _+_, _*_, _%_, _≤_, _<_, _^_};
 ghost use lib.Dec.{ltb};
 ghost use lib.ListN.{length, getD};
-ghost use Rattle.stream_spec.specs.Layout.{headOctets, widthMost, userMost, userOctets, shaped, atWidth, size, typesOf, anyReserved};
+ghost use Rattle.stream_spec.specs.Layout.{headOctets, widthMost, userMost, userOctets, userNumber, shaped, atWidth, size, typesOf, anyReserved};
 ghost use Rattle.stream_spec.specs.Checks.{widthCheck, lengthCheck, userFault};
 ghost use Rattle.stream_spec.specs.Walk.{Narrow};
 ghost use Rattle.stream_record.specs.Header.{headerOf, headerFault};
@@ -133,6 +134,19 @@ fn bad_padding(s: Shape, rec: &[u8]) -> bool
         return false;
     }
     1u8 << n <= rec[rec.len() - 1]
+}
+
+// The user bits of all lanes of a record as one number. Eight octets that end with the record's last one are read, other octets
+// of it among them where it has fewer than eight of user bits, and shifted down.
+pub fn load_user(rec: &[u8], s: Shape) -> u64
+    requires { ⌜ Narrow s × (length (now rec) ≡ size s) ⌝ }
+    ensures { λ r. ⌜ r ≡ userNumber s (now (rec .entry)) ⌝ }
+{
+    let k = user_octets(s);
+    if k == 0 {
+        return 0;
+    }
+    load8(rec, rec.len() - 8) >> (8 * (8 - k))
 }
 
 // Whether the length of an input is refused. The shape has passed its test.

@@ -1,5 +1,5 @@
-// Writing a record's octets, as stream_spec's Layout has them: its header, and its null lanes. The lanes that carry something
-// are written by the crates above, which know what they carry.
+// Writing a record's octets, as stream_spec's Layout has them: its header, its null lanes, and its user bits. The lanes that
+// carry something are written by the crates above, which know what they carry.
 use stream_record::layout::FLAGS;
 use stream_record::layout::HEAD_OCTETS;
 use stream_record::layout::TDEST;
@@ -12,6 +12,8 @@ ghost use mathlib.Core.Path.{_≡_};
 ghost use mathlib.Core.List.{_∷_, _++_};
 ghost use Prim.Native.Nat.{_+_, _≤_, _<_};
 ghost use lib.ListN.{length, drop};
+ghost use Rattle.words.specs.Splice.{splice};
+ghost use Rattle.words.specs.Words.{octetsOfWord};
 ghost use Rattle.stream_spec.specs.Layout.{headOctets, widthMost};
 ghost use Rattle.stream_write.specs.Write.{headerOctets, dataHeader, nullLanes};
 
@@ -71,5 +73,19 @@ pub fn write_nulls(out: &mut [u8], n: usize, v: usize)
     while n < j {
         j -= 1;
         out[HEAD_OCTETS + j] = 0;
+    }
+}
+
+// User bits in k octets from place `at` on, low octet first.
+pub fn write_user(out: &mut [u8], at: usize, user: u64, k: usize)
+    requires { ⌜ at + k ≤ length (now out) ⌝ }
+    ensures { λ _. ⌜ now (out .exit) ≡ splice at (octetsOfWord k user) (now (out .entry)) ⌝ }
+{
+    let mut u = user;
+    let mut j = 0;
+    while j < k {
+        out[at + j] = (u % 0x100) as u8;
+        u = u / 0x100;
+        j += 1;
     }
 }

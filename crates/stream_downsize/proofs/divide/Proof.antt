@@ -8,7 +8,7 @@ use Prim.Native.Nat.{_%_}
 use native.Mathlib.Omega.{arith}
 use Rattle.refusal.proofs.First.{first-none}
 use Rattle.stream_spec.specs.Checks.{ratioCheck, lengthCheck}
-use Rattle.stream_spec.proofs.Passed.{shapes-fit}
+use Rattle.stream_spec.proofs.Passed.{shapes-fit, shape-narrow}
 use Rattle.stream_record.proofs.Tests.{refused-is, passed-is}
 use Rattle.stream_downsize.proofs.Answer.{bad-ratio, bad-length}
 use Rattle.stream_downsize.proofs.divide.Statement.{statement}
@@ -34,7 +34,7 @@ returns c =
     bad-ratio (e .args .s) (e .args .v) (e .args .transfers .now) (e .args .out .now) (e .pre) (rw (ne-eqb (e .args .s .width % e .args .v) 0 (c .if1 .taken)) refl)
 
 check-length-requires : tie.Need-check-length-requires
-check-length-requires c κs = let e = entry (c .before) in shapes-fit (e .args .s) (e .args .v) (e .pre) .0 .high
+check-length-requires c κs = let e = entry (c .before) in shape-narrow (e .args .s) (shapes-fit (e .args .s) (e .args .v) (e .pre) .0)
 
 enum-known-why : tie.Need-enum-known-why
 enum-known-why c = search needs

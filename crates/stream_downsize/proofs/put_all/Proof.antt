@@ -6,6 +6,7 @@ use native.Mathlib.Omega.{arith}
 use lib.ListN.{length}
 use Rattle.stream_spec.proofs.Size.{size-pos}
 use Rattle.stream_spec.proofs.Walk.{record-fits}
+use Rattle.stream_downsize.proofs.Slices.{input-narrow}
 use Rattle.stream_downsize.proofs.Take.{Sliding, sliding-starts, sliding-asks, sliding-next, sliding-done}
 use Rattle.stream_downsize.proofs.put_all.Statement.{statement}
 use Rattle.stream_downsize.proofs.put_all.Tie as tie
@@ -43,7 +44,7 @@ turn c = c .before .before .before .before .before
 -- ---- the needs
 
 record-size-requires : tie.Need-record-size-requires Inv-loop μ-loop
-record-size-requires c κs = c .before .before .pre .cuts .high
+record-size-requires c κs = input-narrow (c .before .before .pre .cuts)
 
 loop-holds : tie.Need-loop-holds Inv-loop μ-loop
 loop-holds c =

@@ -36,8 +36,8 @@ returns c =
     let put = c .before .before .before in
     let e = put .before .before .before .before in
     let a = e .args in
-    let slice = octetsOf (sliceOf (a .t .width) (a .h) (a .lanes .now) (odd (a .last))) in
-    let long = slice-long (a .t) (a .h) (a .lanes .now) (odd (a .last)) in
+    let slice = octetsOf (a .t .user) (sliceOf (a .t) (a .h) (a .user) (a .lanes .now) (odd (a .last))) in
+    let long = slice-long (a .t) (a .h) (a .user) (a .lanes .now) (odd (a .last)) in
     let lent = length (a .out .now) - a .to in
     rw (put .put-record .ensures, c .record-size .ensures) (
       refl,

@@ -6,7 +6,8 @@ use Prim.Native.Nat.{ℕ, _+_, _-_, _≤_}
 use native.Mathlib.Omega.{arith}
 use lib.ListN.{length, take, drop, length-set, take-append-drop}
 use Rattle.stream_write.proofs.Fill.{fill-down}
-use Rattle.stream_downsize.proofs.Lanes.{dataIn, data-none, data-down}
+use Rattle.stream_downsize.specs.Slices.{dataIn}
+use Rattle.stream_downsize.proofs.Lanes.{data-none, data-down}
 use Rattle.stream_downsize.proofs.put_lanes.Statement.{statement}
 use Rattle.stream_downsize.proofs.put_lanes.Tie as tie
 

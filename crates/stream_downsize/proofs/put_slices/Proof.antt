@@ -3,23 +3,24 @@
 use borrow.Author.Needs.{needs}
 use mathlib.Core.Path.{_≡_, ap, _∙_}
 use mathlib.Core.List.{List}
-use Prim.Native.Nat.{ℕ, _+_, _-_, _/_, _≤_}
+use Prim.Native.Nat.{ℕ, _+_, _-_, _≤_}
 use native.Mathlib.Omega.{arith}
 use lib.ListN.{length, take, drop, length-drop}
 use lib.Seq.{take-all}
 use Rattle.stream_spec.specs.Layout.{headOctets, odd}
 use Rattle.stream_spec.proofs.Bits.{odd-low}
-use Rattle.stream_spec.proofs.Size.{size-holds}
+use Rattle.stream_spec.proofs.Size.{size-holds, users-most}
 use Rattle.stream_downsize.specs.Slices.{slicesFrom}
-use Rattle.stream_downsize.proofs.Slices.{Slicing, slices-some, slicing-starts, slicing-told, slicing-lanes, slicing-unreserved, slicing-room, slicing-next, slicing-last-room, slicing-done}
+use Rattle.stream_downsize.proofs.Slices.{input-narrow, output-narrow, Slicing, slices-some, slicing-starts, slicing-told, slicing-lanes, slicing-unreserved, slicing-room, slicing-bits, slicing-next, slicing-last-room, slicing-done}
 use Rattle.stream_downsize.proofs.put_slices.Statement.{statement}
 use Rattle.stream_downsize.proofs.put_slices.Tie as tie
 
 abbrev Inv-loop : tie.InvT-loop
-Inv-loop out₀ at rec t h₀ v k₀ to₀ from₀ out h k to from = Slicing t rec out₀ at (slicesFrom k₀ (t .width) h₀ (drop headOctets rec)) out h k to from
+Inv-loop out₀ at rec t h₀ user₀ v bits k₀ to₀ from₀ out h user k to from =
+    Slicing t rec out₀ at (slicesFrom k₀ t h₀ user₀ (drop headOctets rec)) out h user k to from
 
 abbrev μ-loop : tie.MeasureT-loop
-μ-loop out₀ at rec t h₀ v k₀ to₀ from₀ out h k to from = k
+μ-loop out₀ at rec t h₀ user₀ v bits k₀ to₀ from₀ out h user k to from = k
 
 -- ---- what is known in a turn, and what is known behind the loop's end
 
@@ -27,7 +28,7 @@ abbrev Turns : Type 0
 Turns = tie.At-loop Inv-loop μ-loop
 
 abbrev entry : Turns → tie.Start Inv-loop μ-loop
-entry t = t .before .before .before .before .before
+entry t = t .before .before .before .before .before .before .before
 
 abbrev rec : Turns → List ℕ
 rec t = entry t .args .rec .now
@@ -57,16 +58,28 @@ turn c = c .before .before .before
 read-header-requires : tie.Need-read-header-requires Inv-loop μ-loop
 read-header-requires c κs = let e = c .before .before in omega (arith, e .pre .whole, size-holds (e .args .s))
 
+load-user-requires : tie.Need-load-user-requires Inv-loop μ-loop
+load-user-requires c κs = let e = c .before .before .before in (input-narrow (e .pre .cuts), e .pre .whole)
+
+mul-bits : tie.Need-mul-bits Inv-loop μ-loop
+mul-bits c =
+    let e = c .before .before .before .before .before in
+    let t = output-narrow (e .pre .cuts) in
+    record { fits = omega (arith, users-most (e .args .t) (t .width) (t .user)) }
+
 div-k : tie.Need-div-k Inv-loop μ-loop
-div-k c = omega (arith, c .before .before .before .before .pre .cuts .some)
+div-k c = omega (arith, c .before .before .before .before .before .before .pre .cuts .some)
 
 sub-k : tie.Need-sub-k Inv-loop μ-loop
 sub-k c =
-    let e = c .before .before .before .before in
+    let e = c .before .before .before .before .before .before in
     slices-some (e .args .s .width) (e .args .t .width) (e .pre .cuts .whole) (e .pre .cuts .low)
 
 loop-holds : tie.Need-loop-holds Inv-loop μ-loop
-loop-holds c = let h = c .before .read-header in slicing-starts (c .before .before .before .before .pre) (h .result) (h .ensures)
+loop-holds c =
+    let u = c .before .before in
+    let h = u .before .read-header in
+    slicing-starts (u .before .before .before .before .pre) (h .result) (h .ensures) (u .load-user .result) (u .load-user .ensures)
 
 sub-put-at : tie.Need-sub-put-at Inv-loop μ-loop
 sub-put-at c = omega (arith, lanes-fit (c .before .before))
@@ -82,10 +95,16 @@ put-at-requires c κs =
     let turn = c .before .before in
     let t = turn .before in
     rw (lent t)
-    (entry t .pre .cuts .small, lent-long t, slicing-room (t .loop .inv) (turn .loop-test .taken), slicing-unreserved (t .loop .inv), omega arith)
+    (output-narrow (entry t .pre .cuts), lent-long t, slicing-room (t .loop .inv) (turn .loop-test .taken), slicing-unreserved (t .loop .inv), omega arith)
 
 shifted-requires : tie.Need-shifted-requires Inv-loop μ-loop
 shifted-requires c κs = entry (turn (c .before .before) .before) .pre .cuts .small
+
+shr-user : tie.Need-shr-user Inv-loop μ-loop
+shr-user c =
+    let turn' = turn (put c) in
+    let t = turn' .before in
+    slicing-bits (t .loop .inv) (turn' .loop-test .taken) (output-narrow (entry t .pre .cuts) .user)
 
 add-from : tie.Need-add-from Inv-loop μ-loop
 add-from c = let t = turn (put c) .before in omega (arith, lanes-fit t, entry t .good)
@@ -124,7 +143,7 @@ put-at-requires-2 c κs =
     let end = c .before .before .before in
     let t = end .before in
     rw (lent t)
-    (entry t .pre .cuts .small, lent-long t, slicing-last-room (t .loop .inv) (end .loop-test .left), slicing-unreserved (t .loop .inv), omega (arith, c .tlast .ensures .1))
+    (output-narrow (entry t .pre .cuts), lent-long t, slicing-last-room (t .loop .inv) (end .loop-test .left), slicing-unreserved (t .loop .inv), omega (arith, c .tlast .ensures .1))
 
 -- the last slice, from behind it
 abbrev last-put : tie.After-slice-known3 Inv-loop μ-loop → tie.After-put-at2 Inv-loop μ-loop
@@ -142,12 +161,13 @@ returns c =
     let bit = last-put c .before .tlast in
     let end = end-of (last-put c) in
     let t = end .before in
-    let h = t .before .before .read-header in
+    let u = t .before .before .before in
+    let h = u .before .read-header in
     let is : odd (bit .result) ≡ odd (t .loop .h .flags) = ap odd (bit .ensures .1) ∙ odd-low (t .loop .h .flags) in
     record {
       same = p .ensures .1 .same ∙ t .loop .inv .same;
       writes =
-          slicing-told (entry t .pre) (h .result) (h .ensures) (p .last .0) (p .result)
+          slicing-told (entry t .pre) (h .result) (h .ensures) (u .load-user .result) (u .load-user .ensures) (p .last .0) (p .result)
           (slicing-done (t .loop .inv) (end .loop-test .left) (lanes t) (lent t) (odd (bit .result)) is (p .last .0) (p .result) (p .ensures .1 .writes));
     }
 
@@ -158,6 +178,8 @@ put-slices-spec =
     Inv-loop
     μ-loop
     read-header-requires
+    load-user-requires
+    mul-bits
     div-k
     sub-k
     loop-holds
@@ -166,6 +188,7 @@ put-slices-spec =
     part-put-at-end
     put-at-requires
     shifted-requires
+    shr-user
     add-from
     sub-k-2
     loop-less

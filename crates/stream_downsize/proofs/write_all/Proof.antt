@@ -2,13 +2,15 @@
 use borrow.Author.Needs.{needs}
 use mathlib.Core.Path.{_≡_, sym, ap, _∙_, subst}
 use mathlib.Core.List.{List}
-use Prim.Native.Nat.{ℕ, _≤_}
+use Prim.Native.Nat.{ℕ}
 use native.Mathlib.Omega.{arith}
 use Rattle.stream_spec.specs.declared.Shape.{Shape}
-use Rattle.stream_spec.specs.Layout.{widthMost, size, atWidth, sliced}
+use Rattle.stream_spec.specs.Layout.{size, atWidth, sliced}
 use Rattle.stream_spec.specs.Memory.{inFront}
+use Rattle.stream_spec.specs.Walk.{Narrow}
 use Rattle.stream_spec.proofs.Size.{size-pos}
 use Rattle.stream_downsize.specs.Slices.{Cuts, TakeFits}
+use Rattle.stream_downsize.proofs.Slices.{input-narrow, output-narrow}
 use Rattle.stream_downsize.proofs.Answer.{cuts-of, passed-of, count-fits, product-fits, no-room, fits-take, all-written}
 use Rattle.stream_downsize.proofs.write_all.Statement.{statement}
 use Rattle.stream_downsize.proofs.write_all.Tie as tie
@@ -23,8 +25,8 @@ cuts e = cuts-of (e .args .s) (e .args .v) (octets e) (e .pre .0)
 abbrev entry : tie.After-at-width → tie.Start
 entry c = c .before .before .before
 
-small : (c : tie.After-at-width) → c .at-width .result .width ≤ widthMost
-small c = rw (c .at-width .ensures) (cuts (entry c) .small)
+narrow : (c : tie.After-at-width) → Narrow (c .at-width .result)
+narrow c = rw (c .at-width .ensures) (output-narrow (cuts (entry c)))
 
 -- and from where the two sizes are told
 abbrev sized : tie.After-record-size2 → tie.After-record-size
@@ -40,7 +42,7 @@ at-width-requires : tie.Need-at-width-requires
 at-width-requires c κs = search needs
 
 record-size-requires : tie.Need-record-size-requires
-record-size-requires c κs = cuts (entry c) .high
+record-size-requires c κs = input-narrow (cuts (entry c))
 
 div-n : tie.Need-div-n
 div-n c = omega (arith, c .record-size .ensures, size-pos (entry (c .before) .args .s))
@@ -56,7 +58,7 @@ mul-n c =
     record { fits = omega (arith, few) }
 
 record-size-requires-2 : tie.Need-record-size-requires-2
-record-size-requires-2 c κs = small (c .before .before)
+record-size-requires-2 c κs = narrow (c .before .before)
 
 mul-if1 : tie.Need-mul-if1
 mul-if1 c =
