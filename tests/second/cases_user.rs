@@ -27,7 +27,7 @@ const NINE: &str = "00 00 00 FF 01 FF 01 90 91 92 93 94 95 96 97 98 00 01";
 const NIBBLES: &str = "00 00 00 FF FF FF FF 60 61 62 63 64 65 66 67 68 69 6A 6B 6C 6D 6E 6F 10 32 54 76 98 BA DC FE";
 const TRIPLES: &str = "00 00 00 FF FF FF FF 60 61 62 63 64 65 66 67 68 69 6A 6B 6C 6D 6E 6F 88 C6 FA 88 C6 FA";
 // Records of one lane: three with items, bits 5 6 4; one that vanishes and an end alone, both with bits on their null lane.
-const SINGLES: &str = "00 07 00 01 00 01 00 D0 05 00 07 00 01 00 00 00 D1 06 01 07 00 01 00 01 00 D2 04";
+const SINGLES: &str = "00 07 00 01 00 01 00 E0 05 00 07 00 01 00 00 00 E1 06 01 07 00 01 00 01 00 E2 04";
 const NO_ITEM: &str = "00 07 00 00 00 00 00 DD 07";
 const END_ONLY: &str = "01 07 00 00 00 00 00 DD 07";
 // The same pair with other bits, and another pair with the same bits.
@@ -64,7 +64,7 @@ const PACKED: [Hand; 35] = [
     (16, 4, 16, NIBBLES, NIBBLES),
     (16, 3, 8, TRIPLES, "00 00 00 FF 00 FF 00 60 61 62 63 64 65 66 67 88 C6 FA | 00 00 00 FF 00 FF 00 68 69 6A 6B 6C 6D 6E 6F 88 C6 FA"),
     (16, 3, 16, TRIPLES, TRIPLES),
-    (1, 3, 3, SINGLES, "01 07 00 07 00 05 00 D0 00 D2 35 01"),
+    (1, 3, 3, SINGLES, "01 07 00 07 00 05 00 E0 00 E2 35 01"),
     (1, 3, 3, NO_ITEM, ""),
     (1, 3, 3, END_ONLY, "01 07 00 00 00 00 00 00 00 00 00 00"),
     (1, 2, 3, PAIRS, "00 01 00 03 00 03 00 5A 5B 00 03 | 00 02 00 01 00 01 00 5C 00 00 00"),
