@@ -10,17 +10,20 @@ pub struct BurstCalls {
     pub step: fn(Burst, u32) -> BurstAnswer,
 }
 
+/// Each call gets the width, then T-06's user bits to a byte, then the output width where it has one.
 pub struct StreamCalls {
-    pub judge: fn(usize, &[u8]) -> StreamAnswer,
-    pub harvest: fn(usize, &[u8], &mut [u8]) -> StreamAnswer,
+    pub judge: fn(usize, usize, &[u8]) -> StreamAnswer,
+    pub harvest: fn(usize, usize, &[u8], &mut [u8]) -> StreamAnswer,
     pub fill_in: FillInCall,
-    pub data_octets: fn(usize, &[u8], usize) -> (StreamAnswer, [u64; 2]),
-    pub repack: fn(usize, usize, &[u8], &mut [u8]) -> StreamAnswer,
-    pub downsize: fn(usize, usize, &[u8], &mut [u8]) -> StreamAnswer,
+    pub data_octets: fn(usize, usize, &[u8], usize) -> (StreamAnswer, [u64; 2]),
+    pub repack: ConvertCall,
+    pub downsize: ConvertCall,
 }
 
-/// The width, the lent take, and the number that says the level: 0 is low, each other one high.
-pub type FillInCall = fn(usize, &mut [u8], u32) -> StreamAnswer;
+pub type ConvertCall = fn(usize, usize, usize, &[u8], &mut [u8]) -> StreamAnswer;
+
+/// Width, user bits, the lent take, and the number that says the level: 0 is low, each other one high.
+pub type FillInCall = fn(usize, usize, &mut [u8], u32) -> StreamAnswer;
 
 /// A burst, and the lent row as numbers, five a description.
 pub type CutCall = fn(Burst, &mut [u64]) -> CutAnswer;
@@ -165,7 +168,7 @@ const TAIL: u8 = 0xC3;
 pub fn hex(text: &str) -> Vec<u8> { text.split_whitespace().map(|h| u8::from_str_radix(h, 16).expect("a typed octet")).collect() }
 
 /// An accepted writing call: the octets, the count, and an unchanged tail.
-fn writes(t: &mut Tally, call: impl Fn(&mut [u8]) -> StreamAnswer, count: u64, octets: &str) {
+pub fn writes(t: &mut Tally, call: impl Fn(&mut [u8]) -> StreamAnswer, count: u64, octets: &str) {
     let mut room = vec![TAIL; hex(octets).len() + 9];
     let mut expected = hex(octets);
     expected.extend([TAIL; 9]);
@@ -174,17 +177,17 @@ fn writes(t: &mut Tally, call: impl Fn(&mut [u8]) -> StreamAnswer, count: u64, o
 }
 
 /// The answer, and the lent take afterwards. The octet on either side has the other level in bit 0, so that a change shows.
-fn fill_leaves(t: &mut Tally, fill_in: FillInCall, w: usize, level: u32, take: &[u8], answer: StreamAnswer, after: &[u8]) {
+pub fn fill_leaves(t: &mut Tally, fill_in: FillInCall, w: usize, m: usize, level: u32, take: &[u8], answer: StreamAnswer, after: &[u8]) {
     let side = [if level == 0 { TAIL } else { TAIL - 1 }];
     let mut lent = [&side, take, &side].concat();
-    let got = fill_in(w, &mut lent[1..=take.len()], level);
-    let inputs = || format!("fill-in {w}, level {level:#x}, {} octets {:02x?}", take.len(), &take[..take.len().min(40)]);
+    let got = fill_in(w, m, &mut lent[1..=take.len()], level);
+    let inputs = || format!("fill-in {w}, user bits {m}, level {level:#x}, {} octets {:02x?}", take.len(), &take[..take.len().min(40)]);
     t.same(got, answer, inputs);
     t.check(lent == [&side, after, &side].concat(), || format!("{}\n    other octets {:02x?}", inputs(), &lent[..lent.len().min(42)]));
 }
 
 fn fills(t: &mut Tally, fill_in: FillInCall, w: usize, level: u32, take: &[u8], count: u64, after: &[u8]) {
-    fill_leaves(t, fill_in, w, level, take, StreamAnswer { count, ..Default::default() }, after);
+    fill_leaves(t, fill_in, w, 0, level, take, StreamAnswer { count, ..Default::default() }, after);
 }
 
 /// Four records of width 1 as sampled, filled in low, and high; then the same octets as two records of width 9, low and high.
@@ -210,7 +213,7 @@ fn fill_ins(t: &mut Tally, fill_in: FillInCall) {
         for (w, octets, refusal) in [(0, 31, 1), (0, 65_544, 1), (17, 48, 1), (usize::MAX - 6, 32, 1), (usize::MAX, 36, 1),
             (1, 1, 2), (1, 31, 2), (1, 33, 2), (16, 45, 2), (16, 47, 2), (1, 65_537, 2), (1, 65_544, 2), (9, 65_552, 2)] {
             let refused = StreamAnswer { refusal, ..Default::default() };
-            fill_leaves(t, fill_in, w, level, &vec![other; octets], refused, &vec![other; octets]);
+            fill_leaves(t, fill_in, w, 0, level, &vec![other; octets], refused, &vec![other; octets]);
         }
     });
 }
@@ -222,21 +225,21 @@ const END_ONLY: &str = "01 00 00 00 00 00 00 00"; // the second record of S3
 pub fn streams(t: &mut Tally, c: &StreamCalls) {
     let p1 = hex(P1_TRANSFER);
     let pack = |t: &mut Tally, w: usize, v: usize, input: &str, count: u64, octets: &str| {
-        writes(t, |out| (c.repack)(w, v, &hex(input), out), count, octets)
+        writes(t, |out| (c.repack)(w, 0, v, &hex(input), out), count, octets)
     };
     t.group("case P1", |t| {
         let take = hex(P1_TAKE);
-        t.same((c.judge)(4, &take), StreamAnswer { count: 1, ..Default::default() }, || "P1 judged".to_string());
-        writes(t, |out| (c.harvest)(4, &take, out), 1, P1_TRANSFER);
+        t.same((c.judge)(4, 0, &take), StreamAnswer { count: 1, ..Default::default() }, || "P1 judged".to_string());
+        writes(t, |out| (c.harvest)(4, 0, &take, out), 1, P1_TRANSFER);
         pack(t, 4, 2, P1_TRANSFER, 2, "00 01 02 03 00 01 00 11 00 01 01 02 01 00 01 00 44 00");
         let part = (StreamAnswer::default(), [7, 4]);
-        t.same((c.data_octets)(4, &take, 0), part, || "P1's data octets".to_string());
+        t.same((c.data_octets)(4, 0, &take, 0), part, || "P1's data octets".to_string());
         let low = hex("0E 01 02 0D 00 09 00 11 22 33 44");
         fills(t, c.fill_in, 4, 0, &take, 1, &low);
         fills(t, c.fill_in, 4, 1, &low, 1, &take);
     });
     t.group("case S1", |t| pack(t, 4, 4, P1_TRANSFER, 1, "01 01 02 07 00 05 00 11 00 44 00"));
-    t.group("case S2", |t| writes(t, |out| (c.downsize)(4, 2, &p1, out), 2, "00 01 02 01 00 01 00 11 00 01 01 02 03 00 02 00 00 44"));
+    t.group("case S2", |t| writes(t, |out| (c.downsize)(4, 0, 2, &p1, out), 2, "00 01 02 01 00 01 00 11 00 01 01 02 03 00 02 00 00 44"));
     t.group("case S3", |t| pack(t, 1, 1, &format!("00 00 00 01 00 01 00 AA {END_ONLY}"), 1, "01 00 00 01 00 01 00 AA"));
     t.group("case S4", |t| pack(t, 1, 1, &format!("{END_ONLY} {END_ONLY}"), 2, &format!("{END_ONLY} {END_ONLY}")));
     t.group("case S5", |t| pack(t, 1, 1, "00 00 00 00 00 00 00 00", 0, ""));
@@ -252,14 +255,14 @@ pub fn streams(t: &mut Tally, c: &StreamCalls) {
         for (flags, place, rule) in [(["0A", "00", "08"], 0, 0), (["0A", "08", "08"], 1, 2), (["0A", "0B", "08"], 1, 3), (["08", "02", "08"], 1, 1),
             (["00", "0A", "0A"], 1, 1), (["00", "02", "08"], 1, 1), (["00", "08", "0A"], 0, 0), (["0A", "00", "0A"], 2, 1)] {
             let take: Vec<String> = flags.iter().map(|f| format!("{f} 00 00 {idle}")).collect();
-            t.same((c.judge)(1, &hex(&take.join(" "))), StreamAnswer { rule, place, ..Default::default() }, || format!("{flags:?}"));
+            t.same((c.judge)(1, 0, &hex(&take.join(" "))), StreamAnswer { rule, place, ..Default::default() }, || format!("{flags:?}"));
         }
         let (reset, reserved) = (format!("00 00 00 {idle}"), "0E 00 00 00 00 01 00 55");
-        t.same((c.judge)(1, &hex(reserved)), StreamAnswer { rule: 4, ..Default::default() }, || "R4".to_string());
+        t.same((c.judge)(1, 0, &hex(reserved)), StreamAnswer { rule: 4, ..Default::default() }, || "R4".to_string());
         let first = StreamAnswer { rule: 1, place: 1, ..Default::default() };
-        t.same((c.judge)(1, &hex(&format!("{reset} {reserved}"))), first, || "R1 before R4".to_string());
+        t.same((c.judge)(1, 0, &hex(&format!("{reset} {reserved}"))), first, || "R1 before R4".to_string());
         let unclean = StreamAnswer { refusal: 14, ..first };
-        t.same((c.harvest)(1, &hex(&format!("{reset} {reserved}")), &mut [0; 8]), unclean, || "14 with R1".to_string());
+        t.same((c.harvest)(1, 0, &hex(&format!("{reset} {reserved}")), &mut [0; 8]), unclean, || "14 with R1".to_string());
     });
     // Each refusal stands before all later ones: the input breaks those too.
     t.group("stream refusals in order", |t| {
@@ -268,23 +271,23 @@ pub fn streams(t: &mut Tally, c: &StreamCalls) {
         let field = "02 00 00 00 00 03 00 11 22"; // octet 0 wrong, both lanes reserved
         let reserved = "00 00 00 01 00 03 00 11 22";
         let calls: [(&str, fn(&StreamCalls, &[u8]) -> StreamAnswer, String, StreamAnswer); 11] = [
-            ("downsize 2 to 0", |c, i| (c.downsize)(2, 0, i, &mut []), format!("{field} 00"), refused(1, 0, 0)),
-            ("downsize 2 to 3", |c, i| (c.downsize)(2, 3, i, &mut []), format!("{field} 00"), refused(6, 0, 0)),
-            ("downsize 2 to 1", |c, i| (c.downsize)(2, 1, i, &mut []), format!("{field} 00"), refused(2, 0, 0)),
-            ("repack 2 to 17", |c, i| (c.repack)(2, 17, i, &mut []), format!("{field} 00"), refused(1, 0, 0)),
-            ("3 before 4 in a record", |c, i| (c.repack)(2, 1, i, &mut []), format!("{good} {field}"), refused(3, 1, 0)),
-            ("4 of an earlier record", |c, i| (c.repack)(2, 1, i, &mut []), format!("{good} {reserved} {field}"), refused(4, 1, 0)),
-            ("repack without room", |c, i| (c.repack)(2, 1, i, &mut []), good.to_string(), refused(5, 0, 0)),
-            ("judge 3 before a finding", |c, i| (c.judge)(2, i), format!("{field} 10{}", &good[2..]), refused(3, 1, 0)),
-            ("harvest 3 before 14", |c, i| (c.harvest)(2, i, &mut []), format!("{field} 10{}", &good[2..]), refused(3, 1, 0)),
-            ("harvest 14 before 5", |c, i| (c.harvest)(2, i, &mut []), format!("0E{} {field}", &good[2..]), refused(14, 1, 1)),
-            ("harvest without room", |c, i| (c.harvest)(2, i, &mut []), format!("0E{}", &good[2..]), refused(5, 0, 0)),
+            ("downsize 2 to 0", |c, i| (c.downsize)(2, 0, 0, i, &mut []), format!("{field} 00"), refused(1, 0, 0)),
+            ("downsize 2 to 3", |c, i| (c.downsize)(2, 0, 3, i, &mut []), format!("{field} 00"), refused(6, 0, 0)),
+            ("downsize 2 to 1", |c, i| (c.downsize)(2, 0, 1, i, &mut []), format!("{field} 00"), refused(2, 0, 0)),
+            ("repack 2 to 17", |c, i| (c.repack)(2, 0, 17, i, &mut []), format!("{field} 00"), refused(1, 0, 0)),
+            ("3 before 4 in a record", |c, i| (c.repack)(2, 0, 1, i, &mut []), format!("{good} {field}"), refused(3, 1, 0)),
+            ("4 of an earlier record", |c, i| (c.repack)(2, 0, 1, i, &mut []), format!("{good} {reserved} {field}"), refused(4, 1, 0)),
+            ("repack without room", |c, i| (c.repack)(2, 0, 1, i, &mut []), good.to_string(), refused(5, 0, 0)),
+            ("judge 3 before a finding", |c, i| (c.judge)(2, 0, i), format!("{field} 10{}", &good[2..]), refused(3, 1, 0)),
+            ("harvest 3 before 14", |c, i| (c.harvest)(2, 0, i, &mut []), format!("{field} 10{}", &good[2..]), refused(3, 1, 0)),
+            ("harvest 14 before 5", |c, i| (c.harvest)(2, 0, i, &mut []), format!("0E{} {field}", &good[2..]), refused(14, 1, 1)),
+            ("harvest without room", |c, i| (c.harvest)(2, 0, i, &mut []), format!("0E{}", &good[2..]), refused(5, 0, 0)),
         ];
         for (name, call, input, expected) in calls {
             t.same(call(c, &hex(&input)), expected, || format!("{name}: {input}"));
         }
         let none = refused(13, 0, 0);
-        t.same((c.data_octets)(2, &hex(field), 1), (none, [0, 0]), || "data octets 13".to_string());
+        t.same((c.data_octets)(2, 0, &hex(field), 1), (none, [0, 0]), || "data octets 13".to_string());
     });
     fill_ins(t, c.fill_in);
 }

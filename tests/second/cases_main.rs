@@ -1,6 +1,7 @@
 //! The self test: the model against the papers' own cases and formulas.
 #![allow(dead_code)]
 mod cases;
+mod cases_user;
 mod cases_writes;
 mod least;
 mod masks;
@@ -130,6 +131,27 @@ fn write_beats(t: &mut Tally, r: &mut Random) {
     });
 }
 
+/// A stream of records with these user bits to a byte, packed, packed again, and sliced.
+fn packing_twice(t: &mut Tally, r: &mut Random, m: usize) {
+    let (w, v, u) = (1 + r.below(16), 1 + r.below(16), 1 + r.below(16));
+    let mut stream = Vec::new();
+    for _ in 0..r.below(9) {
+        let keep = (r.next() & r.next()) as u16 & ((1u32 << w) - 1) as u16;
+        let strb = keep & r.next() as u16;
+        stream.extend([r.below(2) as u8, r.below(2) as u8, 0]);
+        stream.extend(keep.to_le_bytes().into_iter().chain(strb.to_le_bytes()));
+        stream.extend((0..w).map(|_| r.next() as u8));
+        if m > 0 { stream.extend(&(r.next() & u64::MAX >> (64 - w * m)).to_le_bytes()[..(w * m).div_ceil(8)]); }
+    }
+    let list = model::items(w, m, &stream);
+    let once = model::packed(v, m, &list);
+    t.same(model::items(v, m, &once), list.clone(), || format!("items after packing, user bits {m}, {stream:02x?}"));
+    t.same(model::packed(u, m, &model::items(v, m, &once)), model::packed(u, m, &list), || format!("{w} {v} {u}, user bits {m}, {stream:02x?}"));
+    if let Ok(sliced) = model::downsize_plan(w, m, v, &stream) {
+        t.same(model::items(v, m, &sliced), list, || format!("items after downsizing {w} to {v}, user bits {m}, {stream:02x?}"));
+    }
+}
+
 fn main() {
     let mut t = Tally::default();
     t.least = least::SELF_TEST;
@@ -142,14 +164,16 @@ fn main() {
     });
     cases::cuts(&mut t, model_axi3::cut);
     cases_writes::writes(&mut t, |b, take| model_writes::judge(b, take));
-    cases::streams(&mut t, &cases::StreamCalls {
+    let calls = cases::StreamCalls {
         judge: model::judge,
         harvest: model::harvest,
-        fill_in: |w, take, level| model::fill_in(w, take, level != 0),
+        fill_in: |w, m, take, level| model::fill_in(w, m, take, level != 0),
         data_octets: model::data_octets,
         repack: model::repack,
         downsize: model::downsize,
-    });
+    };
+    cases::streams(&mut t, &calls);
+    cases_user::users(&mut t, &calls);
     t.group("pseudo code and formulas agree", |t| for _ in 0..20_000 {
         let b = Burst { start: r.next() as u32, len: r.below(256) as u32, size: r.below(8) as u32, kind: r.below(3) as u32, bus: 1 << r.below(8) };
         let judged = model::judge_burst(b);
@@ -160,24 +184,8 @@ fn main() {
             t.check((-1920..=128).contains(&step) && (step >= 0 || b.kind == WRAP), || format!("{b:?} step {step}"));
         }
     });
-    t.group("packing twice, and downsizing first, change nothing", |t| for _ in 0..2_000 {
-        let (w, v, u) = (1 + r.below(16), 1 + r.below(16), 1 + r.below(16));
-        let mut stream = Vec::new();
-        for _ in 0..r.below(9) {
-            let keep = (r.next() & r.next()) as u16 & ((1u32 << w) - 1) as u16;
-            let strb = keep & r.next() as u16;
-            stream.extend([r.below(2) as u8, r.below(2) as u8, 0]);
-            stream.extend(keep.to_le_bytes().into_iter().chain(strb.to_le_bytes()));
-            stream.extend((0..w).map(|_| r.next() as u8));
-        }
-        let list = model::items(w, &stream);
-        let once = model::packed(v, &list);
-        t.same(model::items(v, &once), list.clone(), || format!("items after packing {stream:02x?}"));
-        t.same(model::packed(u, &model::items(v, &once)), model::packed(u, &list), || format!("{w} {v} {u} {stream:02x?}"));
-        if let Ok(sliced) = model::downsize_plan(w, v, &stream) {
-            t.same(model::items(v, &sliced), list, || format!("items after downsizing {w} to {v} {stream:02x?}"));
-        }
-    });
+    t.group("packing twice, and downsizing first, change nothing", |t| for _ in 0..2_000 { packing_twice(t, &mut r, 0) });
+    t.seeded_group("T-06 packing twice, and downsizing first, change nothing", |t, r| for round in 0..4_000 { packing_twice(t, r, 1 + round % 4) });
     cut_bursts(&mut t, &mut r);
     masks_of_bursts(&mut t, &mut r);
     write_beats(&mut t, &mut r);

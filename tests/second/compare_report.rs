@@ -1,15 +1,17 @@
 //! The library's report against the report's model (tests/report/model.rs), on many sheets and takes.
-use crate::compare_streams::{cycles, damage, show};
+use crate::compare_streams::{cycles, damage, show, some_user};
 use crate::library_report::{self as library, File, ReportAnswer};
-use crate::model::{MOST_OCTETS, ROOM};
+use crate::model::{MOST_OCTETS, ROOM, record_octets};
 use crate::report_model::{self, Report};
 use crate::tally::{Random, Tally};
 use crate::{cases, library_stream};
+use std::fmt::Display;
 
 const GUARD: usize = 24; // octets before and after each lent room
 const READ: [u32; 6] = [1, 1, 2, 256, 0x8000_0000, u32::MAX]; // each says that a file was read
 const WORDS: [&str; 3] = ["wired", "none", "low"]; // T-03's
 const NO_WORDS: [&str; 9] = ["high", "Low", "LOW", "lows", "lo", "low ", "nonelow", "wire", ""];
+const NO_USERS: [&str; 9] = ["5", "9", "10", "00", "04", "", "a", " 0", "0 "]; // T-06's line: the first two are USERBITS, the rest SHEET
 
 fn octets<'a>(file: File<'a>) -> Option<&'a [u8]> { if file.1 == 0 { None } else { Some(file.0) } }
 
@@ -73,17 +75,18 @@ fn compare_all(t: &mut Tally, sheet: File, take: File) {
     for (room, more) in rooms.into_iter().zip([0, 25, -1, 1, -1_000]) { compare(t, sheet, take, room, more); }
 }
 
-fn sheet(w: usize, v: usize, mode: &str, tlast: &str) -> Vec<u8> {
-    format!("width_in={w}\nwidth_out={v}\nmode={mode}\ntlast={tlast}\n").into_bytes()
+pub fn sheet(w: usize, v: usize, mode: &str, tlast: &str, user: impl Display) -> Vec<u8> {
+    format!("width_in={w}\nwidth_out={v}\nmode={mode}\ntlast={tlast}\nuser={user}\n").into_bytes()
 }
 
-/// A sheet for takes of width w, or nearly one.
-fn random_sheet(r: &mut Random, w: usize) -> Vec<u8> {
+/// A sheet for takes of width w with m user bits, or nearly one.
+fn random_sheet(r: &mut Random, w: usize, m: usize) -> Vec<u8> {
     let any = 1 + r.below(16);
     let v = if r.one_in(12) { r.pick(&[0, 17, 99]) } else { r.pick(&[w, 1, (w + 1) / 2, any]) };
     let w = if r.one_in(16) { r.pick(&[0, 17, 99]) } else { w };
     let tlast = if r.one_in(24) { r.pick(&NO_WORDS) } else { r.pick(&WORDS) };
-    let mut sheet = sheet(w, v, r.pick(&["pack", "lanes"]), tlast);
+    let user = if r.one_in(24) { r.pick(&NO_USERS).to_string() } else { m.to_string() };
+    let mut sheet = sheet(w, v, r.pick(&["pack", "lanes"]), tlast, user);
     let at = r.below(sheet.len());
     match r.below(24) {
         0 => sheet[at] ^= 1 << r.below(8),
@@ -96,16 +99,16 @@ fn random_sheet(r: &mut Random, w: usize) -> Vec<u8> {
 }
 
 /// TLAST of each cycle at random, as of a port without the wire: clean where it is filled in, and else R3 if it moves during a wait.
-fn move_tlast(r: &mut Random, w: usize, take: &mut [u8]) {
-    for cycle in take.chunks_mut(7 + w) { cycle[0] ^= r.below(2) as u8; }
+fn move_tlast(r: &mut Random, w: usize, m: usize, take: &mut [u8]) {
+    for cycle in take.chunks_mut(record_octets(w, m)) { cycle[0] ^= r.below(2) as u8; }
 }
 
 /// A file that can't be read hands over octets all the same, and they count for nothing.
-fn random_report(t: &mut Tally, r: &mut Random, w: usize, records: usize) {
-    let sheet = random_sheet(r, w);
-    let mut take = cycles(r, w, records);
-    if r.one_in(3) { move_tlast(r, w, &mut take); }
-    if r.one_in(2) { damage(r, w, &mut take); }
+fn random_report(t: &mut Tally, r: &mut Random, w: usize, m: usize, records: usize) {
+    let sheet = random_sheet(r, w, m);
+    let mut take = cycles(r, w, m, records);
+    if r.one_in(3) { move_tlast(r, w, m, &mut take); }
+    if r.one_in(2) { damage(r, w, m, &mut take); }
     if r.one_in(12) { take.truncate(take.len().saturating_sub(1)); }
     let sheet_read = if r.one_in(20) { 0 } else { r.pick(&READ) };
     let take_read = if r.one_in(20) { 0 } else { r.pick(&READ) };
@@ -114,15 +117,15 @@ fn random_report(t: &mut Tally, r: &mut Random, w: usize, records: usize) {
 
 /// As many records as fit into 65,536 octets, one less or more.
 fn longest_report(t: &mut Tally, r: &mut Random) {
-    let w = r.pick(&[1, 2, 4, 9, 16]);
-    let records = MOST_OCTETS / (7 + w) + r.below(3) - 1;
-    random_report(t, r, w, records);
+    let (w, m) = r.pick(&[(1, 0), (2, 0), (4, 0), (9, 0), (16, 0), (1, 1), (8, 1), (7, 2), (6, 3), (16, 4)]);
+    let records = MOST_OCTETS / record_octets(w, m) + r.below(3) - 1;
+    random_report(t, r, w, m, records);
 }
 
 /// The library's report into the program's own room: its numbers, text and records.
-fn ask(sheet: &[u8], take: &[u8]) -> (ReportAnswer, String, Vec<u8>) {
+fn ask(sheet: File, take: File) -> (ReportAnswer, String, Vec<u8>) {
     let (mut out, mut text) = (vec![0; MOST_OCTETS], vec![0; 200]);
-    let answer = library::report((sheet, 1), (take, 1), &mut out, &mut text);
+    let answer = library::report(sheet, take, &mut out, &mut text);
     out.truncate(answer.octets as usize);
     text.truncate(answer.text as usize);
     (answer, String::from_utf8_lossy(&text).to_string(), out)
@@ -149,21 +152,21 @@ fn by_hand(t: &mut Tally) {
         (1, 2, "pack", "low", NULLS, "clean 3 0 0", ""),
         (1, 1, "lanes", "low", NULLS, "clean 3 0 3", "00 05 02 00 00 00 00 00 00 05 02 00 00 00 00 00 00 06 02 00 00 00 00 00"),
     ] {
-        told_by_hand(t, &sheet(w, v, mode, tlast), &cases::hex(take), told, Some(&cases::hex(out)));
+        told_by_hand(t, (&sheet(w, v, mode, tlast, 0), 1), (&cases::hex(take), 1), told, Some(&cases::hex(out)));
     }
-    for tlast in NO_WORDS { told_by_hand(t, &sheet(4, 2, "pack", tlast), &cases::hex(cases::P1_TAKE), "refused 15 0", Some(&[])); }
+    for tlast in NO_WORDS { told_by_hand(t, (&sheet(4, 2, "pack", tlast, 0), 1), (&cases::hex(cases::P1_TAKE), 1), "refused 15 0", Some(&[])); }
 }
 
 /// The library's text, and its records where they are given; then all rooms, against the model.
-fn told_by_hand(t: &mut Tally, sheet: &[u8], take: &[u8], told: &str, records: Option<&[u8]>) {
+pub fn told_by_hand(t: &mut Tally, sheet: File, take: File, told: &str, records: Option<&[u8]>) {
     let keys = [["verdict", "transfers", "packets", "records"], ["verdict", "cycle", "rule", ""], ["verdict", "refusal", "at", ""]];
     let keys = keys[["clean", "broken", "refused"].iter().position(|v| told.starts_with(v)).expect("a verdict")];
     let expected: String = keys.iter().zip(told.split(' ')).map(|(key, value)| format!("{key}={value}\n")).collect();
     let (_, text, out) = ask(sheet, take);
-    let inputs = || format!("report by hand, {:?}, {}", String::from_utf8_lossy(sheet), show(take));
+    let inputs = || format!("report by hand, sheet read {} {:?}, take read {} {}", sheet.1, String::from_utf8_lossy(sheet.0), take.1, show(take.0));
     t.same(text, expected, inputs);
     t.check(records.is_none_or(|records| out == records), || format!("{}\n    library  {}\n    expected {records:02x?}", inputs(), show(&out)));
-    compare_all(t, (sheet, 1), (take, 1));
+    compare_all(t, sheet, take);
 }
 
 /// Packing around the room of 65,536 octets: widths, transfers, whether their lanes are all data or all null, the word, and the
@@ -190,7 +193,7 @@ fn bounds(t: &mut Tally) {
         transfer.resize(7 + w, 0x77);
         let packets = if tlast == "none" { transfers } else { 0 };
         let told = records.map_or("refused 5 0".to_string(), |records| format!("clean {transfers} {packets} {records}"));
-        told_by_hand(t, &sheet(w, v, "pack", tlast), &transfer.repeat(transfers), &told, None);
+        told_by_hand(t, (&sheet(w, v, "pack", tlast, 0), 1), (&transfer.repeat(transfers), 1), &told, None);
     }
 }
 
@@ -209,41 +212,42 @@ fn packed_records(v: usize, transfers: &[&[u8]], ends: impl Fn(&[u8]) -> bool) -
 }
 
 /// These transfers one by one with TLAST high, each converted by the library alone, and joined.
-fn one_by_one(w: usize, v: usize, mode: &str, transfers: &[&[u8]]) -> Vec<u8> {
+fn one_by_one(w: usize, m: usize, v: usize, mode: &str, transfers: &[&[u8]]) -> Vec<u8> {
     let convert = if mode == "lanes" { library_stream::downsize } else { library_stream::repack };
-    let mut room = vec![0; 128]; // 16 records of one lane are the most
+    let mut room = vec![0; 144]; // 16 records of one lane are the most
     let mut alone = |c: &&[u8]| {
-        let answer = convert(w, v, &[&[1], &c[1..]].concat(), &mut room);
-        room[..(answer.count as usize).saturating_mul(7 + v).min(128)].to_vec()
+        let answer = convert(w, m, v, &[&[1], &c[1..]].concat(), &mut room);
+        room[..(answer.count as usize).saturating_mul(record_octets(v, m)).min(144)].to_vec()
     };
     transfers.iter().flat_map(&mut alone).collect()
 }
 
 /// T-03 without a packed form of the whole: what each word makes of a clean take is counted on its cycles, and the packets once
 /// more on the result. With `none` the result is also made from each transfer alone. Where there is no wire, TLAST moves.
-fn each_word(t: &mut Tally, r: &mut Random, w: usize, records: usize) {
-    let wired = cycles(r, w, records);
+fn each_word(t: &mut Tally, r: &mut Random, w: usize, m: usize, records: usize) {
+    let wired = cycles(r, w, m, records);
     let mut moving = wired.clone();
-    move_tlast(r, w, &mut moving);
+    move_tlast(r, w, m, &mut moving);
     let slices: Vec<usize> = (1..=w).filter(|v| w % v == 0).collect();
     for (mode, v) in [("pack", 1 + r.below(16)), ("lanes", r.pick(&slices))] {
         for tlast in WORDS {
             let take = if tlast == "wired" { &wired } else { &moving };
-            let transfers: Vec<&[u8]> = take.chunks(7 + w).filter(|c| c[0] & 14 == 14).collect();
+            let transfers: Vec<&[u8]> = take.chunks(record_octets(w, m)).filter(|c| c[0] & 14 == 14).collect();
             let ends = |c: &[u8]| match tlast { "none" => true, "low" => false, _ => c[0] & 1 == 1 };
             let packets = transfers.iter().filter(|c| ends(c)).count() as u64;
             let count = if mode == "lanes" { transfers.len() * (w / v) } else { packed_records(v, &transfers, ends) };
-            let fits = count * (7 + v) <= MOST_OCTETS;
+            let fits = count * record_octets(v, m) <= MOST_OCTETS;
             let expected = if fits { (0, transfers.len() as u64, packets, count as u64, packets) } else { (ROOM, 0, 0, 0, 0) };
-            let (a, _, out) = ask(&sheet(w, v, mode, tlast), take);
-            let last = out.chunks(7 + v).filter(|r| r[0] & 1 == 1).count() as u64;
-            let inputs = || format!("report {mode} {w} to {v}, tlast={tlast}, {}", show(take));
+            let sheet = sheet(w, v, mode, tlast, m);
+            let (a, _, out) = ask((&sheet, 1), (take, 1));
+            let last = out.chunks(record_octets(v, m)).filter(|r| r[0] & 1 == 1).count() as u64;
+            let inputs = || format!("report {mode} {w} to {v}, tlast={tlast}, user={m}, {}", show(take));
             t.same((a.refusal, a.transfers, a.packets, a.records, last), expected, inputs);
             if tlast == "none" {
-                let joined = if fits { one_by_one(w, v, mode, &transfers) } else { Vec::new() };
+                let joined = if fits { one_by_one(w, m, v, mode, &transfers) } else { Vec::new() };
                 t.check(out == joined, || format!("{}\n    library  {}\n    alone    {}", inputs(), show(&out), show(&joined)));
             }
-            compare(t, (&sheet(w, v, mode, tlast), 1), (take, 1), MOST_OCTETS, 0);
+            compare(t, (&sheet, 1), (take, 1), MOST_OCTETS, 0);
         }
     }
 }
@@ -251,9 +255,9 @@ fn each_word(t: &mut Tally, r: &mut Random, w: usize, records: usize) {
 /// One round of the soak; one in a few hundred has a long take.
 pub fn round(t: &mut Tally, r: &mut Random) {
     if r.one_in(600) { longest_report(t, r); }
-    let (w, records) = (1 + r.below(16), r.below(14));
-    random_report(t, r, w, records);
-    if r.one_in(6) { each_word(t, r, w, records); }
+    let (w, m, records) = (1 + r.below(16), some_user(r), r.below(14));
+    random_report(t, r, w, m, records);
+    if r.one_in(6) { each_word(t, r, w, m, records); }
 }
 
 /// What the gate asks.
@@ -261,16 +265,16 @@ pub fn all(t: &mut Tally) {
     t.group("T-03 reports by hand", by_hand);
     t.group("T-03 reports at the room's bound", bounds);
     t.seeded_group("T-03 word by word", |t, r| for round in 0..600 {
-        let w = 1 + r.below(16);
-        let records = if round % 40 == 0 { r.below(MOST_OCTETS / (7 + w)) } else { r.below(14) };
-        each_word(t, r, w, records);
+        let (w, m) = (1 + r.below(16), some_user(r));
+        let records = if round % 40 == 0 { r.below(MOST_OCTETS / record_octets(w, m)) } else { r.below(14) };
+        each_word(t, r, w, m, records);
     });
-    t.seeded_group("reports", |t, r| for _ in 0..2_000 { let (w, n) = (1 + r.below(16), r.below(14)); random_report(t, r, w, n) });
+    t.seeded_group("reports", |t, r| for _ in 0..2_000 { let (w, m, n) = (1 + r.below(16), some_user(r), r.below(14)); random_report(t, r, w, m, n) });
     t.seeded_group("reports on longest takes", |t, r| for _ in 0..12 { longest_report(t, r) });
 }
 
 /// What must have occurred by then.
-pub const VERDICTS: [&str; 11] = [
+pub const VERDICTS: [&str; 12] = [
     "report clean", "report broken rule 1", "report broken rule 2", "report broken rule 3", "report broken rule 4",
-    "report refusal 1", "report refusal 2", "report refusal 3", "report refusal 5", "report refusal 6", "report refusal 15",
+    "report refusal 1", "report refusal 2", "report refusal 3", "report refusal 5", "report refusal 6", "report refusal 15", "report refusal 16",
 ];

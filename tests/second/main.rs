@@ -5,11 +5,14 @@
 #![allow(dead_code)]
 mod calls;
 mod cases;
+mod cases_user;
 mod cases_writes;
 mod compare_axi3;
 mod compare_bursts;
 mod compare_report;
 mod compare_streams;
+mod compare_user;
+mod compare_user_report;
 mod compare_writes;
 mod least;
 mod library_axi3;
@@ -39,7 +42,9 @@ fn gate(seed: u64, only: Option<String>) -> ! {
     compare_axi3::all(&mut t);
     compare_writes::all(&mut t);
     compare_streams::all(&mut t);
+    compare_user::all(&mut t);
     compare_report::all(&mut t);
+    compare_user_report::all(&mut t);
     calls::show();
     t.seed = None; // the last two groups are about the run as a whole
     let bursts = [&compare_bursts::VERDICTS[..], &compare_axi3::VERDICTS, &compare_writes::VERDICTS];

@@ -1,6 +1,7 @@
 //! The second program's model: what paper 01 says, done slowly and plainly.
-//! Written from paper 01, source document 004 (bursts) and 000 (streams)
-//! alone, without sight of the library. Section names are paper 01's.
+//! Written from paper 01, source document 004 (bursts) and 000 (streams) and the
+//! texts of the change requests alone, without sight of the library. Section names
+//! are paper 01's. Where a width w is given, m is T-06's number of user bits to a byte.
 
 // ---- "Refusal numbers" ----
 pub const WIDTH: u32 = 1;
@@ -17,6 +18,7 @@ pub const ALIGN: u32 = 11;
 pub const FENCE: u32 = 12;
 pub const INDEX: u32 = 13;
 pub const UNCLEAN: u32 = 14;
+pub const USERBITS: u32 = 16;
 
 // ======================= Part 1: bursts ("Bursts") =======================
 
@@ -157,8 +159,9 @@ fn refused_at(refusal: u32, place: usize) -> StreamAnswer { StreamAnswer { refus
 
 fn counted(count: usize) -> StreamAnswer { StreamAnswer { count: count as u64, ..StreamAnswer::default() } }
 
-// ---- "One record of a take" ----
-pub fn record_octets(w: usize) -> usize { 7 + w }
+// ---- "One record of a take", with T-06's octets at its end ----
+fn user_octets(w: usize, m: usize) -> usize { (w * m).div_ceil(8) }
+pub fn record_octets(w: usize, m: usize) -> usize { 7 + w + user_octets(w, m) }
 fn tlast(r: &[u8]) -> bool { r[0] & 1 != 0 }
 fn tvalid(r: &[u8]) -> bool { r[0] & 2 != 0 }
 fn tready(r: &[u8]) -> bool { r[0] & 4 != 0 }
@@ -168,32 +171,53 @@ fn tstrb(r: &[u8], lane: usize) -> bool { r[5 + lane / 8] >> (lane % 8) & 1 != 0
 fn is_reserved(r: &[u8], lane: usize) -> bool { !tkeep(r, lane) && tstrb(r, lane) }
 fn has_reserved_lane(r: &[u8], w: usize) -> bool { (0..w).any(|lane| is_reserved(r, lane)) }
 
-fn width_is_wrong(w: usize) -> bool { w == 0 || w > 16 }
+/// One bit of the user octets, low octet first. Those from w * m on are padding.
+fn user_bit(r: &[u8], w: usize, bit: usize) -> bool { r[7 + w + bit / 8] >> (bit % 8) & 1 != 0 }
+fn padding_is_set(r: &[u8], w: usize, m: usize) -> bool { (w * m..8 * user_octets(w, m)).any(|bit| user_bit(r, w, bit)) }
 
-fn length_is_wrong(w: usize, input: &[u8]) -> bool { input.len() > MOST_OCTETS || input.len() % record_octets(w) != 0 }
+/// The m bits of a lane stand from bit lane * m on; read, and set in a record that has none set there.
+fn user_bits(r: &[u8], w: usize, m: usize, lane: usize) -> u8 {
+    (0..m).filter(|i| user_bit(r, w, lane * m + i)).map(|i| 1 << i).sum()
+}
+fn set_user_bits(r: &mut [u8], w: usize, m: usize, lane: usize, bits: u8) {
+    for (i, bit) in (0..m).map(|i| (i, lane * m + i)) { r[7 + w + bit / 8] |= (bits >> i & 1) << (bit % 8); }
+}
 
-fn records(w: usize, input: &[u8]) -> Vec<&[u8]> { input.chunks(record_octets(w)).collect() }
+/// WIDTH of every width that the call gives, and straight after it USERBITS.
+fn check_widths(widths: &[usize], m: usize) -> Result<(), StreamAnswer> {
+    if widths.iter().any(|w| *w == 0 || *w > 16) { return Err(refused(WIDTH)); }
+    if m > 4 { return Err(refused(USERBITS)); }
+    Ok(())
+}
+
+fn check_length(w: usize, m: usize, input: &[u8]) -> Result<(), StreamAnswer> {
+    if input.len() > MOST_OCTETS || input.len() % record_octets(w, m) != 0 { return Err(refused(LENGTH)); }
+    Ok(())
+}
+
+fn records(w: usize, m: usize, input: &[u8]) -> Vec<&[u8]> { input.chunks(record_octets(w, m)).collect() }
 
 /// FIELD: `flags` are the bits of octet 0 that this sort of record may set.
-fn field_is_wrong(w: usize, r: &[u8], flags: u8) -> bool {
-    r[0] & !flags != 0 || r[2] > 15 || (w..16).any(|lane| tkeep(r, lane) || tstrb(r, lane))
+fn field_is_wrong(w: usize, m: usize, r: &[u8], flags: u8) -> bool {
+    let lanes = (w..16).any(|lane| tkeep(r, lane) || tstrb(r, lane));
+    r[0] & !flags != 0 || r[2] > 15 || lanes || padding_is_set(r, w, m)
 }
 
 /// Cycle records use all four flags. Judging and harvesting never give 4.
-fn check_cycles(w: usize, take: &[u8]) -> Result<(), StreamAnswer> {
-    if width_is_wrong(w) { return Err(refused(WIDTH)); }
-    if length_is_wrong(w, take) { return Err(refused(LENGTH)); }
-    for (k, r) in records(w, take).into_iter().enumerate() {
-        if field_is_wrong(w, r, 0x0F) { return Err(refused_at(FIELD, k)); }
+fn check_cycles(w: usize, m: usize, take: &[u8]) -> Result<(), StreamAnswer> {
+    check_widths(&[w], m)?;
+    check_length(w, m, take)?;
+    for (k, r) in records(w, m, take).into_iter().enumerate() {
+        if field_is_wrong(w, m, r, 0x0F) { return Err(refused_at(FIELD, k)); }
     }
     Ok(())
 }
 
 /// Transfer records: octet 0 is 0 or 1. In each record 3 comes before 4.
-fn check_transfers(w: usize, input: &[u8]) -> Result<(), StreamAnswer> {
-    if length_is_wrong(w, input) { return Err(refused(LENGTH)); }
-    for (k, r) in records(w, input).into_iter().enumerate() {
-        if field_is_wrong(w, r, 0x01) { return Err(refused_at(FIELD, k)); }
+fn check_transfers(w: usize, m: usize, input: &[u8]) -> Result<(), StreamAnswer> {
+    check_length(w, m, input)?;
+    for (k, r) in records(w, m, input).into_iter().enumerate() {
+        if field_is_wrong(w, m, r, 0x01) { return Err(refused_at(FIELD, k)); }
         if has_reserved_lane(r, w) { return Err(refused_at(RESERVED, k)); }
     }
     Ok(())
@@ -205,6 +229,7 @@ fn waits(r: &[u8]) -> bool { aresetn(r) && tvalid(r) && !tready(r) }
 fn transfers(r: &[u8]) -> bool { aresetn(r) && tvalid(r) && tready(r) }
 
 /// The lowest rule that cycle `now` breaks, 0 for none. R1 is T-01's: also in the record after one with ARESETn low.
+/// R3 reads every octet from 1 on, the user octets too.
 fn broken_rule(w: usize, before: Option<&[u8]>, now: &[u8]) -> u32 {
     let after_reset = before.is_some_and(|before| !aresetn(before));
     if tvalid(now) && (!aresetn(now) || after_reset) { return 1; }
@@ -218,8 +243,8 @@ fn broken_rule(w: usize, before: Option<&[u8]>, now: &[u8]) -> u32 {
 }
 
 /// The earliest breaking cycle and its rule.
-fn first_break(w: usize, take: &[u8]) -> Option<(usize, u32)> {
-    let cycles = records(w, take);
+fn first_break(w: usize, m: usize, take: &[u8]) -> Option<(usize, u32)> {
+    let cycles = records(w, m, take);
     for k in 0..cycles.len() {
         let before = if k == 0 { None } else { Some(cycles[k - 1]) };
         let rule = broken_rule(w, before, cycles[k]);
@@ -228,22 +253,22 @@ fn first_break(w: usize, take: &[u8]) -> Option<(usize, u32)> {
     None
 }
 
-pub fn judge(w: usize, take: &[u8]) -> StreamAnswer {
-    if let Err(refusal) = check_cycles(w, take) { return refusal; }
-    match first_break(w, take) {
+pub fn judge(w: usize, m: usize, take: &[u8]) -> StreamAnswer {
+    if let Err(refusal) = check_cycles(w, m, take) { return refusal; }
+    match first_break(w, m, take) {
         Some((cycle, rule)) => StreamAnswer { rule, place: cycle as u64, ..StreamAnswer::default() },
-        None => counted(records(w, take).into_iter().filter(|r| transfers(r)).count()),
+        None => counted(records(w, m, take).into_iter().filter(|r| transfers(r)).count()),
     }
 }
 
 /// Harvesting, before the room is looked at: all octets it would write.
-pub fn harvest_plan(w: usize, take: &[u8]) -> Result<Vec<u8>, StreamAnswer> {
-    check_cycles(w, take)?;
-    if let Some((cycle, rule)) = first_break(w, take) {
+pub fn harvest_plan(w: usize, m: usize, take: &[u8]) -> Result<Vec<u8>, StreamAnswer> {
+    check_cycles(w, m, take)?;
+    if let Some((cycle, rule)) = first_break(w, m, take) {
         return Err(StreamAnswer { refusal: UNCLEAN, rule, place: cycle as u64, count: 0 });
     }
     let mut out = Vec::new();
-    for r in records(w, take).into_iter().filter(|r| transfers(r)) {
+    for r in records(w, m, take).into_iter().filter(|r| transfers(r)) {
         out.push(r[0] & 1);
         out.extend_from_slice(&r[1..]);
     }
@@ -251,56 +276,59 @@ pub fn harvest_plan(w: usize, take: &[u8]) -> Result<Vec<u8>, StreamAnswer> {
 }
 
 /// ROOM comes last; an accepted call leaves the room after its records alone.
-fn write(plan: Result<Vec<u8>, StreamAnswer>, width_out: usize, out: &mut [u8]) -> StreamAnswer {
+fn write(plan: Result<Vec<u8>, StreamAnswer>, width_out: usize, m: usize, out: &mut [u8]) -> StreamAnswer {
     match plan {
         Err(refusal) => refusal,
         Ok(octets) if octets.len() > out.len() => refused(ROOM),
         Ok(octets) => {
             out[..octets.len()].copy_from_slice(&octets);
-            counted(octets.len() / record_octets(width_out))
+            counted(octets.len() / record_octets(width_out, m))
         }
     }
 }
 
-pub fn harvest(w: usize, take: &[u8], out: &mut [u8]) -> StreamAnswer { write(harvest_plan(w, take), w, out) }
+pub fn harvest(w: usize, m: usize, take: &[u8], out: &mut [u8]) -> StreamAnswer { write(harvest_plan(w, m, take), w, m, out) }
 
 /// Fill-in with the level of T-03: TLAST of every record becomes high or low, and nothing else changes.
-pub fn fill_in(w: usize, take: &mut [u8], high: bool) -> StreamAnswer {
-    if width_is_wrong(w) { return refused(WIDTH); }
-    if length_is_wrong(w, take) { return refused(LENGTH); }
-    for r in take.chunks_mut(record_octets(w)) {
+pub fn fill_in(w: usize, m: usize, take: &mut [u8], high: bool) -> StreamAnswer {
+    if let Err(refusal) = check_widths(&[w], m).and_then(|()| check_length(w, m, take)) { return refusal; }
+    for r in take.chunks_mut(record_octets(w, m)) {
         r[0] = (r[0] & 0xFE) | u8::from(high);
     }
-    counted(take.len() / record_octets(w))
+    counted(take.len() / record_octets(w, m))
 }
 
-/// The data octets of record k: [offset into the take, length].
-pub fn data_octets(w: usize, take: &[u8], k: usize) -> (StreamAnswer, [u64; 2]) {
-    if width_is_wrong(w) { return (refused(WIDTH), [0, 0]); }
-    if length_is_wrong(w, take) { return (refused(LENGTH), [0, 0]); }
-    if k >= records(w, take).len() { return (refused(INDEX), [0, 0]); }
-    (StreamAnswer::default(), [(k * record_octets(w) + 7) as u64, w as u64])
+/// The data octets of record k, its w lanes and no user octets: [offset into the take, length].
+pub fn data_octets(w: usize, m: usize, take: &[u8], k: usize) -> (StreamAnswer, [u64; 2]) {
+    if let Err(refusal) = check_widths(&[w], m).and_then(|()| check_length(w, m, take)) { return (refusal, [0, 0]); }
+    if k >= records(w, m, take).len() { return (refused(INDEX), [0, 0]); }
+    (StreamAnswer::default(), [(k * record_octets(w, m) + 7) as u64, w as u64])
 }
 
 // ---- "What a stream carries" ----
+/// A data item has its octet and its user bits, a position item its user bits.
 #[derive(Clone, Copy, PartialEq, Eq, Debug)]
-pub enum What { Data(u8), Position, End }
+pub enum What { Data(u8, u8), Position(u8), End }
 
 #[derive(Clone, Copy, PartialEq, Eq, Debug)]
 pub struct Item { pub what: What, pub pair: (u8, u8) }
 
+/// What a lane carries, with its user bits; a null one carries nothing, and its bits go (reserved ones were refused before).
+fn carried(r: &[u8], w: usize, m: usize, lane: usize) -> Option<What> {
+    let user = user_bits(r, w, m, lane);
+    match (tkeep(r, lane), tstrb(r, lane)) {
+        (true, true) => Some(What::Data(r[7 + lane], user)),
+        (true, false) => Some(What::Position(user)),
+        _ => None,
+    }
+}
+
 /// All items of a legal stream of any length, lanes upwards, records onwards.
-pub fn items(w: usize, stream: &[u8]) -> Vec<Item> {
+pub fn items(w: usize, m: usize, stream: &[u8]) -> Vec<Item> {
     let mut list = Vec::new();
-    for r in records(w, stream) {
+    for r in records(w, m, stream) {
         let pair = (r[1], r[2]);
-        for lane in 0..w {
-            match (tkeep(r, lane), tstrb(r, lane)) {
-                (true, true) => list.push(Item { what: What::Data(r[7 + lane]), pair }),
-                (true, false) => list.push(Item { what: What::Position, pair }),
-                _ => {} // null: no item (reserved lanes were refused before)
-            }
-        }
+        list.extend((0..w).filter_map(|lane| carried(r, w, m, lane)).map(|what| Item { what, pair }));
         if tlast(r) { list.push(Item { what: What::End, pair }); }
     }
     list
@@ -318,63 +346,65 @@ fn stretches(list: &[Item]) -> Vec<Vec<Item>> {
     cut
 }
 
+/// A lane of a record that is all null so far becomes this item's; a null lane keeps its zero bits.
+fn put_lane(r: &mut [u8], v: usize, m: usize, lane: usize, what: What) {
+    let user = match what { What::Data(_, user) | What::Position(user) => user, What::End => return };
+    r[3 + lane / 8] |= 1 << (lane % 8);
+    set_user_bits(r, v, m, lane, user);
+    if let What::Data(octet, _) = what {
+        r[5 + lane / 8] |= 1 << (lane % 8);
+        r[7 + lane] = octet;
+    }
+}
+
 /// One record of width v from at most v data and position items.
-fn record_of(v: usize, pair: (u8, u8), lanes: &[Item], last: bool) -> Vec<u8> {
-    let mut r = vec![0u8; record_octets(v)];
+fn record_of(v: usize, m: usize, pair: (u8, u8), lanes: &[Item], last: bool) -> Vec<u8> {
+    let mut r = vec![0u8; record_octets(v, m)];
     r[0] = u8::from(last);
     r[1] = pair.0;
     r[2] = pair.1;
-    for (lane, item) in lanes.iter().enumerate() {
-        r[3 + lane / 8] |= 1 << (lane % 8);
-        if let What::Data(octet) = item.what {
-            r[5 + lane / 8] |= 1 << (lane % 8);
-            r[7 + lane] = octet;
-        }
-    }
+    for (lane, item) in lanes.iter().enumerate() { put_lane(&mut r, v, m, lane, item.what); }
     r
 }
 
 /// "Packed form at width v" of a list of items.
-pub fn packed(v: usize, list: &[Item]) -> Vec<u8> {
+pub fn packed(v: usize, m: usize, list: &[Item]) -> Vec<u8> {
     let mut out = Vec::new();
     for stretch in stretches(list) {
         let pair = stretch[0].pair;
         let ends = stretch.iter().any(|i| i.what == What::End);
         let bytes: Vec<Item> = stretch.into_iter().filter(|i| i.what != What::End).collect();
-        if bytes.is_empty() { out.extend(record_of(v, pair, &[], true)); }
+        if bytes.is_empty() { out.extend(record_of(v, m, pair, &[], true)); }
         let full: Vec<&[Item]> = bytes.chunks(v).collect();
         for (i, lanes) in full.iter().enumerate() {
-            out.extend(record_of(v, pair, lanes, ends && i + 1 == full.len()));
+            out.extend(record_of(v, m, pair, lanes, ends && i + 1 == full.len()));
         }
     }
     out
 }
 
-pub fn repack_plan(w: usize, v: usize, input: &[u8]) -> Result<Vec<u8>, StreamAnswer> {
-    if width_is_wrong(w) || width_is_wrong(v) { return Err(refused(WIDTH)); }
-    check_transfers(w, input)?;
-    Ok(packed(v, &items(w, input)))
+pub fn repack_plan(w: usize, m: usize, v: usize, input: &[u8]) -> Result<Vec<u8>, StreamAnswer> {
+    check_widths(&[w, v], m)?;
+    check_transfers(w, m, input)?;
+    Ok(packed(v, m, &items(w, m, input)))
 }
 
-pub fn repack(w: usize, v: usize, input: &[u8], out: &mut [u8]) -> StreamAnswer { write(repack_plan(w, v, input), v, out) }
+pub fn repack(w: usize, m: usize, v: usize, input: &[u8], out: &mut [u8]) -> StreamAnswer { write(repack_plan(w, m, v, input), v, m, out) }
 
 /// "Lane-keeping downsizing": w/v slices of each record.
-pub fn downsize_plan(w: usize, v: usize, input: &[u8]) -> Result<Vec<u8>, StreamAnswer> {
-    if width_is_wrong(w) || width_is_wrong(v) { return Err(refused(WIDTH)); }
+pub fn downsize_plan(w: usize, m: usize, v: usize, input: &[u8]) -> Result<Vec<u8>, StreamAnswer> {
+    check_widths(&[w, v], m)?;
     if w % v != 0 { return Err(refused(RATIO)); }
-    check_transfers(w, input)?;
+    check_transfers(w, m, input)?;
     let mut out = Vec::new();
-    for r in records(w, input) {
+    for r in records(w, m, input) {
         for slice in 0..w / v {
-            let mut s = vec![0u8; record_octets(v)];
+            let mut s = vec![0u8; record_octets(v, m)];
             s[0] = u8::from(tlast(r) && slice == w / v - 1);
             s[1] = r[1];
             s[2] = r[2];
             for lane in 0..v {
-                let from = slice * v + lane;
-                s[3 + lane / 8] |= u8::from(tkeep(r, from)) << (lane % 8);
-                s[5 + lane / 8] |= u8::from(tstrb(r, from)) << (lane % 8);
-                if tkeep(r, from) && tstrb(r, from) { s[7 + lane] = r[7 + from]; }
+                if let Some(what) = carried(r, w, m, slice * v + lane) { put_lane(&mut s, v, m, lane, what); }
             }
             out.extend(s);
         }
@@ -382,4 +412,4 @@ pub fn downsize_plan(w: usize, v: usize, input: &[u8]) -> Result<Vec<u8>, Stream
     Ok(out)
 }
 
-pub fn downsize(w: usize, v: usize, input: &[u8], out: &mut [u8]) -> StreamAnswer { write(downsize_plan(w, v, input), v, out) }
+pub fn downsize(w: usize, m: usize, v: usize, input: &[u8], out: &mut [u8]) -> StreamAnswer { write(downsize_plan(w, m, v, input), v, m, out) }
