@@ -1,17 +1,16 @@
--- A record's octets as its parts are written: the items from the last one down, the user bits from the lowest octet up, and all
--- parts one after the other. Assumes nothing.
+-- A record's octets as its parts are written: the items from the last one down, and all parts one after the other. Assumes nothing.
 use mathlib.Core.Path.{_≡_, refl, sym, ap, _∙_}
 use mathlib.Core.Bool.{Bool, true, false}
 use mathlib.Core.List.{List, [], _∷_, _++_, map}
 use mathlib.Core.Option.{Option, some}
 use Prim.Native.Nat.{ℕ, zero, suc, _+_, _-_, _*_, _/_, _%_, _^_, _≤_, _<_}
-use native.Mathlib.Nat.{add-zero, mul-comm, mul-le-mul, mod-eq-of-lt}
+use native.Mathlib.Nat.{mul-comm, mul-le-mul, mod-eq-of-lt}
 use native.Mathlib.Omega.{arith}
 use borrow.Author.Tests.{eqb-true, eqb-false}
 use lib.Dec.{eqb}
 use lib.Pow.{pow-mono}
 use lib.ListN.{length, getD, take, drop, set, replicate, length-map, length-drop, length-append, length-set, length-replicate, take-append-drop}
-use lib.Seq.{drop-cons, drop-length, drop-at, length-take-le, getD-take, getD-drop, set-split}
+use lib.Seq.{drop-cons, drop-length, drop-at, length-take-le, getD-take, getD-drop}
 use Rattle.words.specs.Splice.{splice}
 use Rattle.words.specs.Words.{octetsOfWord}
 use Rattle.words.proofs.Splice.{splice-splice}
@@ -138,54 +137,6 @@ module _ (m : ℕ) (items : List ℕ) (from n : ℕ) (before : List ℕ) (held :
         let strb : t ≡ maskOf (map strbBit (lanesWith codes)) = p .strb ∙ rw e refl in
         let user : u ≡ usersOf m (lanesWith codes) = p .user ∙ rw e refl in
         (λ i. record { strb = strb i; user = user i }, p .is ∙ rw (e, length-octs codes, long) refl)
-
--- ---- user bits, from the lowest octet up
-
--- j octets are done, and u has those that are left
-pub record Storing (at user k : ℕ) (before out : List ℕ) (u j : ℕ) : Type 0 where
-  pub done : j ≤ k
-  pub same : length out ≡ length before
-  pub rest : splice (at + j) (octetsOfWord (k - j) u) out ≡ splice at (octetsOfWord k user) before
-
--- one octet, and others behind it
-octet-on : (a x : ℕ) (ys out : List ℕ) → a + suc (length ys) ≤ length out → splice (a + 1) ys (set out a x) ≡ splice a (x ∷ ys) out
-octet-on a x ys out h =
-    let past : suc a ≡ a + 1 = omega arith in
-    ap (splice (a + 1) ys) (set-split out a x (omega arith) ∙ rw past refl) ∙ splice-splice a (x ∷ []) ys out (omega arith)
-
-octets-first : (k u : ℕ) → 0 < k → octetsOfWord k u ≡ u % 256 ∷ octetsOfWord (k - 1) (u / 256)
-octets-first zero u h = absurd (omega arith)
-octets-first (suc k) u h = let one : suc k - 1 ≡ k = omega arith in rw one refl
-
-module _ (at user k : ℕ) (before : List ℕ) where
-  pub storing-starts : Storing at user k before before user 0
-  storing-starts =
-      let all : k - 0 ≡ k = omega arith in
-      record { done = omega arith; same = refl; rest = rw (add-zero at, all) refl }
-
-  module _ (out : List ℕ) (u j : ℕ) (s : Storing at user k before out u j) where
-    pub storing-octet : j < k → at + k ≤ length before → Storing at user k before (set out (at + j) (u % 256)) (u / 256) (j + 1)
-    storing-octet h room =
-        let left : k - j - 1 ≡ k - (j + 1) = omega arith in
-        let there : at + (j + 1) ≡ at + j + 1 = omega arith in
-        let first : octetsOfWord (k - j) u ≡ u % 256 ∷ octetsOfWord (k - (j + 1)) (u / 256) =
-        octets-first (k - j) u (omega arith) ∙ rw left refl in
-        record {
-          done = omega arith;
-          same = length-set out (at + j) (u % 256) ∙ s .same;
-          rest =
-              rw there
-              (octet-on (at + j) (u % 256) (octetsOfWord (k - (j + 1)) (u / 256)) out (omega (arith, length-octets (k - (j + 1)) (u / 256), s .same))
-              ∙ ap (λ (l : List ℕ). splice (at + j) l out) (sym first) ∙ s .rest);
-        }
-
-    pub storing-done : k ≤ j → out ≡ splice at (octetsOfWord k user) before
-    storing-done h =
-        let none : k - j ≡ 0 = omega arith in
-        sym (take-append-drop (at + j) out)
-        ∙ ap (λ (n : ℕ). take (at + j) out ++ drop n out) (sym (add-zero (at + j)))
-        ∙ ap (λ (n : ℕ). splice (at + j) (octetsOfWord n u) out) (sym none)
-        ∙ s .rest
 
 -- ---- all parts of a record
 

@@ -1,5 +1,4 @@
--- A record's user bits as they are loaded, and its kept lanes, one lane after the other: what is left to keep gets shorter as the
--- codes get more. Assumes nothing.
+-- A record's kept lanes with their user bits, one lane after the other: what is left to keep gets shorter as the codes get more. Assumes nothing.
 use mathlib.Core.Path.{_≡_, refl, sym, ap, _∙_}
 use mathlib.Core.Bool.{Bool, true, false}
 use mathlib.Core.List.{List, [], _∷_, _++_, append-assoc, append-nil}
@@ -12,37 +11,8 @@ use lib.Dec.{eqb}
 use lib.Pow.{pow-pos, pow-mono}
 use lib.ListN.{length, getD, take, drop, set, length-set}
 use lib.Seq.{take-suc-set, take-set-le, getD-drop, drop-drop}
-use Rattle.words.specs.Words.{wordAt}
-use Rattle.words.proofs.Words.{word-split, word-fits}
-use Rattle.stream_spec.specs.declared.Shape.{Shape}
-use Rattle.stream_spec.specs.Layout.{headOctets, userOctets, userNumber, size}
-use Rattle.stream_spec.proofs.Size.{size-is}
-use Rattle.stream_spec.proofs.Users.{users-high}
 use Rattle.repack_scratch.specs.Codes.{taggedCode, tagged}
 use Rattle.repack_tags.specs.Tags.{Gathered}
-
--- ---- the user bits of a record
-
-module _ (s : Shape) (r : List ℕ) (k : ℕ) (is : k ≡ userOctets (s .width) (s .user)) where
-  -- there are none
-  pub none-loaded : k ≡ 0 → 0 ≡ userNumber s r
-  none-loaded e = ap (λ (n : ℕ). wordAt n r (headOctets + s .width)) (sym e ∙ is)
-
-  -- eight octets lie before the record's end
-  pub eight-before : (k ≡ 0 → ⊥) → length r ≡ size s → 8 ≤ length r
-  eight-before some long = omega (arith, is, some, long, size-is s)
-
-  -- the octets before the user bits are shifted out
-  pub user-loaded : (x : ℕ) → ((i : ℕ) → getD r i 0 < 256) → k ≤ 8 → 8 ≤ length r → length r ≡ size s → x ≡ wordAt 8 r (length r - 8)
-      → x / 2 ^ (8 * (8 - k)) ≡ userNumber s r
-  user-loaded x octets few least long e =
-      let all : 8 - k + k ≡ 8 = omega arith in
-      let there : length r - 8 + (8 - k) ≡ headOctets + s .width = omega (arith, is, long, size-is s) in
-      let parts : x ≡ wordAt (8 - k) r (length r - 8) + 2 ^ (8 * (8 - k)) * wordAt k r (length r - 8 + (8 - k)) =
-      e ∙ ap (λ (n : ℕ). wordAt n r (length r - 8)) (sym all) ∙ word-split (8 - k) k r (length r - 8) in
-      ap (λ (n : ℕ). n / 2 ^ (8 * (8 - k))) parts
-      ∙ users-high (8 * (8 - k)) (wordAt (8 - k) r (length r - 8)) (wordAt k r (length r - 8 + (8 - k))) (word-fits (8 - k) r (length r - 8) octets)
-      ∙ ap (wordAt k r) there ∙ ap (λ (n : ℕ). wordAt n r (headOctets + s .width)) is
 
 -- ---- the user bits of a lane
 

@@ -1,16 +1,13 @@
 // Items with user bits, which repack_scratch holds as one code each: reading a record's kept lanes, and writing a record. Which
 // records are read and written, and when, is not here. Helpers for the crates above, which have tested and made room.
 use stream_record::layout::HEAD_OCTETS;
-use stream_spec::Shape;
 ghost use mathlib.Core.Path.{_≡_};
 ghost use mathlib.Core.List.{_++_, map};
 ghost use Prim.Native.Nat.{_+_, _%_, _≤_, _<_};
 ghost use lib.ListN.{length, take, drop, set};
 ghost use Rattle.words.specs.Splice.{splice};
-ghost use Rattle.words.specs.Words.{octetsOfWord};
-ghost use Rattle.stream_spec.specs.Layout.{headOctets, userNumber, size, shaped, odd, laneOctet, octetsOf};
+ghost use Rattle.stream_spec.specs.Layout.{headOctets, size, shaped, odd, laneOctet, octetsOf};
 ghost use Rattle.stream_spec.specs.Packed.{fitted};
-ghost use Rattle.stream_spec.specs.Walk.{Narrow};
 ghost use Rattle.repack_scratch.specs.Codes.{taggedCode, pairFrom};
 ghost use Rattle.repack_tags.specs.Tags.{Gathered, TagsFit, itemLanes, tagsOf, RecordFits};
 
@@ -18,19 +15,6 @@ ghost use Rattle.repack_tags.specs.Tags.{Gathered, TagsFit, itemLanes, t
 pub struct Tags {
     pub strb: u32,
     pub user: u64,
-}
-
-// The user bits of all lanes of a record as one number. Eight octets that end with the record's last one are read, header
-// octets among them where it has fewer than eight of user bits, and shifted down.
-pub fn load_user(rec: &[u8], s: Shape) -> u64
-    requires { ⌜ Narrow s × (length (now rec) ≡ size s) ⌝ }
-    ensures { λ r. ⌜ r ≡ userNumber s (now (rec .entry)) ⌝ }
-{
-    let k = stream_record::user_octets(s);
-    if k == 0 {
-        return 0;
-    }
-    words::load8(rec, rec.len() - 8) >> (8 * (8 - k))
 }
 
 // One lane with its user bits, at place n. Where TKEEP's lowest bit is 0 the place stays, and the next lane is stored over
@@ -93,20 +77,6 @@ fn put_items(out: &mut [u8], items: &[u16], from: usize, n: usize, m: usize) -> 
     Tags { strb, user }
 }
 
-// The k low octets of a number at place `at`, the low octet first. Nothing else of `out` is touched.
-fn put_user(out: &mut [u8], at: usize, user: u64, k: usize)
-    requires { ⌜ at + k ≤ length (now out) ⌝ }
-    ensures { λ _. ⌜ now (out .exit) ≡ splice at (octetsOfWord k user) (now (out .entry)) ⌝ }
-{
-    let mut u = user;
-    let mut j = 0;
-    while j < k {
-        out[at + j] = (u % 0x100) as u8;
-        u = u / 0x100;
-        j += 1;
-    }
-}
-
 // A record of v lanes with the n items from item `from` on, lane by lane, at the front of `out`.
 pub fn put_record(
     out: &mut [u8],
@@ -123,7 +93,7 @@ pub fn put_record(
 {
     let tags = put_items(out, items, from, n, m);
     stream_write::write_nulls(out, n, v);
-    put_user(
+    stream_write::write_user(
         out,
         HEAD_OCTETS + v,
         tags.user,

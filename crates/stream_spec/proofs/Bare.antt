@@ -10,7 +10,6 @@ use native.Mathlib.Omega.{arith}
 use lib.ListN.{length, take, drop}
 use borrow.Author.Tests.{lt-leb}
 use Rattle.words.specs.Words.{wordAt, octetsOfWord}
-use Rattle.stream_spec.specs.Items.{Transfer}
 use Rattle.stream_spec.specs.Layout.{headOctets, flags, pairOf, tkeep, tstrb, userNumber, ofWidth, laneTypes, LaneType, lanesOf, Kept, laneOctet, usersOf, laneOctets}
 use Rattle.stream_spec.specs.Checks.{headFault, userFault, fieldFault}
 use Rattle.stream_spec.specs.Promises.{bareLanes, WithoutUserBits}

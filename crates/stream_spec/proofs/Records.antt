@@ -2,14 +2,13 @@
 -- stand for that transfer. Assumes nothing.
 use mathlib.Core.Path.{_≡_, refl, sym, ap, ap₂, _∙_}
 use mathlib.Core.List.{List, [], _∷_, _++_, map, append-assoc, append-nil}
-use mathlib.Core.Option.{Option, none, some}
 use Prim.Native.Nat.{ℕ, zero, suc, _+_, _-_, _*_, _/_, _%_, _≤_, _<_}
 use native.Mathlib.Numerals.{add-one}
 use native.Mathlib.Nat.{div-eq-sub-div, mod-eq-sub-mod, mod-eq-of-lt, zero-add, suc-add, div-mul-le-self, suc-mul, zero-mul, div-add-mod', mul-div-cancel, mul-add-div-right}
 use native.Mathlib.Decide.{decLe}
 use native.Mathlib.Omega.{arith}
 use lib.ListN.{length, take, drop, length-map, length-append, length-drop}
-use lib.Seq.{length-take-le, take-all, take-at, drop-at, take-append-le, drop-append-le}
+use lib.Seq.{length-take-le, take-at, drop-at, take-append-le, drop-append-le}
 use Rattle.words.specs.Words.{octetsOfWord}
 use Rattle.stream_spec.specs.declared.Shape.{Shape}
 use Rattle.stream_spec.specs.Items.{Transfer, items}

@@ -2,7 +2,7 @@
 -- come back from their octets. Assumes nothing.
 use mathlib.Core.Path.{_≡_, refl, sym, ap, _∙_}
 use mathlib.Core.Bool.{Bool, true, false}
-use mathlib.Core.List.{List, [], _∷_, _++_, map}
+use mathlib.Core.List.{List, [], _∷_, map}
 use mathlib.Core.Option.{Option, none, some}
 use Prim.Native.Nat.{ℕ, suc, _+_, _-_, _*_, _/_, _%_, _^_, _≤_, _<_}
 use native.Mathlib.Nat.{add-zero, zero-mul, suc-mul, mul-comm, mul-add, mul-le-mul-left, div-eq-of-lt, mod-eq-of-lt, zero-add, add-mul-div-left, add-mul-mod-self-left, mod-lt}

@@ -19,7 +19,7 @@ use Rattle.repack_tags.proofs.put_record.Tie as tie
 use Rattle.repack_tags.proofs.put_record.Reads as reads
 use Rattle.repack_tags.proofs.put_record.Lts as lts
 use Rattle.repack_tags.proofs.put_items.Reads as put-items-reads
-use Rattle.repack_tags.proofs.put_user.Reads as put-user-reads
+use Rattle.stream_write.proofs.write_user.Reads as write-user-reads
 use Rattle.stream_record.proofs.shape_of.Reads as shape-of-reads
 use Rattle.stream_record.proofs.user_octets.Reads as user-octets-reads
 use Rattle.stream_write.proofs.write_header.Reads as write-header-reads
@@ -45,8 +45,8 @@ write-nulls-requires c κs =
     let s = c .before .before .before .before .before .before .before in
     (s .pre .0 .few, omega (arith, size-is (shaped (s .args .v) (s .args .m)), s .pre .1, c .before .before .before .put-items .kept .0))
 
-add-put-user : tie.Need-add-put-user
-add-put-user c = search needs
+add-write-user : tie.Need-add-write-user
+add-write-user c = search needs
 
 shape-of-requires : tie.Need-shape-of-requires
 shape-of-requires c κs = search needs
@@ -56,8 +56,8 @@ user-octets-requires c κs =
     let s = c .before .before .before .before .before .before .before .before .before .before .before .before in
     narrow (c .shape-of .result) (s .args .v) (s .args .m) (s .pre .0 .high) (s .pre .0 .user) (c .shape-of .ensures)
 
-put-user-requires : tie.Need-put-user-requires
-put-user-requires c κs =
+write-user-requires : tie.Need-write-user-requires
+write-user-requires c κs =
     let nulls = c .before .before .before .before .before in
     let items = nulls .before .before .before .before in
     let s = items .before .before .before .before in
@@ -102,7 +102,7 @@ write-header-requires c κs =
     let p = s .pre .0 in
     let most : a .n ≤ 16 = omega (arith, p .few, p .high) in
     let codes = take (a .n) (drop (a .from) (a .items .now)) in (
-      omega (arith, size-is (shaped (a .v) (a .m)), s .pre .1, items .put-items .kept .0, nulls .write-nulls .kept .0, user .put-user .kept .0),
+      omega (arith, size-is (shaped (a .v) (a .m)), s .pre .1, items .put-items .kept .0, nulls .write-nulls .kept .0, user .write-user .kept .0),
       omega (arith, shifted (a .n) most, pow-mono most),
       omega (arith, ap (λ (t : Tags). t .strb) (items .put-items .ensures .0), strobes-small codes (omega (arith, most, few (a .items .now) (a .from) (a .n) (p .held)))),
     )
@@ -122,11 +122,11 @@ returns c =
     let most : a .n ≤ 16 = omega (arith, p .few, p .high) in
     let k = user .before .user-octets in
     let shape = user .before .before .shape-of in
-    record-written (a .m) (a .v) (a .out .now) (items .put-items .last .0) (nulls .write-nulls .last .0) (user .put-user .last .0) (header .write-header .last .0) (take (a .n) (drop (a .from) (a .items .now)))
+    record-written (a .m) (a .v) (a .out .now) (items .put-items .last .0) (nulls .write-nulls .last .0) (user .write-user .last .0) (header .write-header .last .0) (take (a .n) (drop (a .from) (a .items .now)))
     (a .n) (a .pair) (a .last) (1 * 2 ^ a .n % 0x1_0000_0000 - 1) (k .result) (items .put-items .result)
     (few (a .items .now) (a .from) (a .n) (p .held)) (p .few) (s .pre .1) (p .headed .0) (p .headed .1) (rw (shifted (a .n) most) refl)
     (octets-of (shape .result) (k .result) (a .v) (a .m) (shape .ensures) (k .ensures .0))
-    (items .put-items .ensures .0) (items .put-items .ensures .1) (nulls .write-nulls .ensures) (user .put-user .ensures) (header .write-header .ensures)
+    (items .put-items .ensures .0) (items .put-items .ensures .1) (nulls .write-nulls .ensures) (user .write-user .ensures) (header .write-header .ensures)
 
 pub put-record-spec : {M : Type 1} → statement M
 put-record-spec =
@@ -134,10 +134,10 @@ put-record-spec =
     (tie.spec
     put-items-requires
     write-nulls-requires
-    add-put-user
+    add-write-user
     shape-of-requires
     user-octets-requires
-    put-user-requires
+    write-user-requires
     cast-write-header
     cast-write-header-2
     cast-write-header-3
