@@ -4,19 +4,18 @@ use mathlib.Core.Bool.{Bool, true, false, cond}
 use mathlib.Core.List.{List, [], _∷_, _++_, map}
 use mathlib.Core.Option.{Option, some}
 use Prim.Native.Nat.{ℕ, zero, suc, _+_, _-_, _*_, _/_, _%_, _^_, _≤_, _<_}
-use native.Mathlib.Nat.{pow-suc, mul-zero, mod-lt}
+use native.Mathlib.Nat.{pow-suc, mul-zero}
 use native.Mathlib.Omega.{arith}
 use borrow.Author.Tests.{eqb-true, eqb-false}
 use lib.Dec.{eqb}
 use lib.Pow.{pow-pos}
-use lib.ListN.{length, getD, take, drop, replicate}
+use lib.ListN.{length, take, drop, replicate}
 use lib.Seq.{take-take, take-nil}
-use Rattle.stream_spec.specs.Legal.{Octets}
 use Rattle.stream_spec.specs.Packed.{fitted}
-use Rattle.stream_spec.specs.Layout.{odd, bitOf, maskOf, Kept, octet, position, keepBit, strbBit, laneOctet, laneUser, usersOf}
+use Rattle.stream_spec.specs.Layout.{bitOf, maskOf, Kept, octet, position, keepBit, strbBit, laneOctet, laneUser, usersOf}
 use Rattle.stream_spec.proofs.Users.{BitsFit, LanesTagged}
-use Rattle.repack_scratch.specs.Codes.{keptOf, taggedCode, tagged}
-use Rattle.repack_tags.specs.Tags.{Gathered, TagsFit}
+use Rattle.repack_scratch.specs.Codes.{keptOf}
+use Rattle.repack_tags.specs.Tags.{TagsFit}
 
 -- ---- an item
 
@@ -82,34 +81,9 @@ fit-part m a (suc from) n [] h f = rw (take-nil {A = ℕ} n) tt
 fit-part m zero (suc from) n (x ∷ xs) h f = absurd (omega arith)
 fit-part m (suc a) (suc from) n (x ∷ xs) h f = fit-part m a from n xs (omega arith) (f .1)
 
-fit-append : (m : ℕ) (xs ys : List ℕ) → TagsFit m xs → TagsFit m ys → TagsFit m (xs ++ ys)
+pub fit-append : (m : ℕ) (xs ys : List ℕ) → TagsFit m xs → TagsFit m ys → TagsFit m (xs ++ ys)
 fit-append m [] ys h k = k
 fit-append m (x ∷ xs) ys h k = (h .0, fit-append m xs ys (h .1) k)
-
--- what is gathered of a record
-fit-tagged : (m w k t u : ℕ) (ds : List ℕ) → Octets ds → TagsFit m (tagged m w k t u ds)
-fit-tagged m zero k t u ds h = tt
-fit-tagged m (suc w) k t u ds h = go (fit-tagged m w (k / 2) (t / 2) (u / 2 ^ m) (drop 1 ds) (rest ds h)) (odd k) refl
-  where
-    rest : (xs : List ℕ) → Octets xs → Octets (drop 1 xs)
-    rest [] o = tt
-    rest (x ∷ xs) o = o .1
-
-    first : (xs : List ℕ) → Octets xs → getD xs 0 0 < 256
-    first [] o = omega arith
-    first (x ∷ xs) o = o .0
-
-    bits : taggedCode t (u % 2 ^ m) (getD ds 0 0) / 512 < 2 ^ m
-    bits = omega (arith, first ds h, mod-lt u (pow-pos m))
-
-    go : TagsFit m (tagged m w (k / 2) (t / 2) (u / 2 ^ m) (drop 1 ds)) → (b : Bool) → odd k ≡ b → TagsFit m (tagged m (suc w) k t u ds)
-    go ih true e = rw e (bits, ih)
-    go ih false e = rw e ih
-
-pub fit-gathered : (m keep strb user : ℕ) (lanes items : List ℕ) (at : ℕ) (after : List ℕ) (r : ℕ) → Octets lanes → TagsFit m (take at items)
-    → Gathered m keep strb user lanes items at after r → TagsFit m (take r after)
-fit-gathered m keep strb user lanes items at after r o f g =
-    rw (g .is) (fit-append m (take at items) (tagged m (length lanes) keep strb user lanes) f (fit-tagged m (length lanes) keep strb user lanes o))
 
 -- ---- the lanes of a record: its items, then nulls
 

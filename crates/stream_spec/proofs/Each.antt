@@ -31,7 +31,7 @@ module _ {A : Type 0} (P : Pair → Type 0) (Q : A → Type 0) where
   EachItem [] = Unit {0}
   EachItem (i ∷ is) = OfItem i × EachItem is
 
-  abbrev EachStretch : List (Stretch A) → Type 0
+  abbrev pub EachStretch : List (Stretch A) → Type 0
   EachStretch [] = Unit {0}
   EachStretch (s ∷ ss) = P (s .pair) × EachByte (s .bytes) × EachStretch ss
 
@@ -94,7 +94,7 @@ module _ {A : Type 0} (P : Pair → Type 0) (Q : A → Type 0) where
       go true e = rw e (h .0, (h .1, k .1), k .2)
       go false e = rw e (h .0, (h .1, tt), k)
 
-  each-cut : (is : List (Item A)) → EachItem is → EachStretch (cut is)
+  pub each-cut : (is : List (Item A)) → EachItem is → EachStretch (cut is)
   each-cut [] h = tt
   each-cut (i ∷ is) h = each-attach i (cut is) (h .0) (each-cut is (h .1))
 
