@@ -3,12 +3,10 @@ use mathlib.Core.Path.{_≡_}
 use mathlib.Core.List.{List, _++_}
 use Prim.Native.Nat.{ℕ, _+_, _*_, _≤_}
 use lib.ListN.{length, take, drop}
-use Rattle.stream_spec.specs.Layout.{headOctets, size, ofWidth}
+use Rattle.stream_spec.specs.Layout.{headOctets}
 use Rattle.repack_scratch.specs.Codes.{codesIn}
-use Rattle.repack_plain.specs.declared.Cursor.{Cursor}
 use Rattle.repack_plain.specs.declared.Head.{Head}
-use Rattle.stream_spec.specs.Memory.{Writes}
-use Rattle.repack_plain.specs.Write.{recordAt, HeadFits}
+use Rattle.repack_plain.specs.Write.{HeadFits}
 
 -- the codes of n items, from item `from` on
 abbrev pub itemsFrom : List ℕ → List ℕ → ℕ → ℕ → List ℕ
@@ -26,9 +24,3 @@ pub record RecordFits (v : ℕ) (head : Head) (octets marks : List ℕ) (from n 
   pub held : from + 32 ≤ length octets
   pub marked : length octets ≡ 8 * length marks
   pub headed : HeadFits head
-
--- the record of the items that are left at a cursor is written, up to octet r
-pub record RecordPut (v : ℕ) (head : Head) (codes out : List ℕ) (c : Cursor) (after : List ℕ) (r : ℕ) : Type 0 where
-  pub next : r ≡ c .to + size (ofWidth v)
-  pub same : length after ≡ length out
-  pub writes : Writes (recordAt 0 v (head .pair) (head .last) codes (c .from) (c .left)) out (c .to) after r

@@ -11,8 +11,8 @@ ghost use Prim.Native.Nat.{ℕ, _+_, _*_, _-_, _≤_, _<_};
 ghost use lib.ListN.{length, getD, drop};
 ghost use Rattle.stream_spec.specs.Layout.{headOctets, size, maskOf, ofWidth};
 ghost use Rattle.repack_scratch.specs.Codes.{codesIn, markBits};
-ghost use Rattle.repack_plain.specs.Write.{itemOctet, itemStrobe, recordAt, HeadFits, StretchFits, StretchPut};
-ghost use Rattle.repack_marked.specs.Marked.{itemsFrom, lanesPut, RecordFits, RecordPut};
+ghost use Rattle.repack_plain.specs.Write.{itemOctet, itemStrobe, recordAt, HeadFits, RecordPut, StretchFits, StretchPut};
+ghost use Rattle.repack_marked.specs.Marked.{itemsFrom, lanesPut, RecordFits};
 
 // The mark of item i.
 fn mark(marks: &[u8], i: usize) -> u8
@@ -107,7 +107,7 @@ fn put_record(
 // place after it.
 fn put_at(out: &mut [u8], octets: &[u8], marks: &[u8], c: Cursor, v: usize, head: Head) -> usize
     requires { ⌜ RecordFits v head (now octets) (now marks) (c .from) (c .left) × (c .to + size (ofWidth v) ≤ length (now out)) ⌝ }
-    ensures { λ r. ⌜ RecordPut v head (codesIn (now (octets .entry)) (now (marks .entry))) (now (out .entry)) c (now (out .exit)) r ⌝ }
+    ensures { λ r. ⌜ RecordPut 0 v head (codesIn (now (octets .entry)) (now (marks .entry))) (now (out .entry)) c (now (out .exit)) r ⌝ }
 {
     let to = c.to;
     put_record(&mut out[to..], octets, marks, c.from, c.left, v, head);

@@ -7,7 +7,7 @@ use Prim.Native.Nat.{ℕ, _+_, _-_, _/_, _≤_, _<_}
 use lib.ListN.{length, take, drop}
 use Rattle.stream_spec.specs.Items.{Pair, Transfer}
 use Rattle.stream_spec.specs.Packed.{fitted, spread}
-use Rattle.stream_spec.specs.Layout.{odd, Kept, strbBit, laneOctet, octetsOf, octets}
+use Rattle.stream_spec.specs.Layout.{size, shaped, odd, Kept, strbBit, laneOctet, octetsOf, octets}
 use Rattle.stream_spec.specs.Memory.{Writing, Writes}
 use Rattle.repack_scratch.specs.Codes.{dataCode, keptOf, pairFrom}
 use Rattle.repack_plain.specs.declared.Cursor.{Cursor}
@@ -44,6 +44,12 @@ leftOctets m v head codes c = stretchOctets m v (pairFrom (head .pair)) (take (c
 pub record HeadFits (head : Head) : Type 0 where
   pub pair : head .pair < 0x10000
   pub last : head .last ≤ 1
+
+-- the record of the items that are left at a cursor is written, up to octet r
+pub record RecordPut (m v : ℕ) (head : Head) (codes out : List ℕ) (c : Cursor) (after : List ℕ) (r : ℕ) : Type 0 where
+  pub next : r ≡ c .to + size (shaped v m)
+  pub same : length after ≡ length out
+  pub writes : Writes (recordAt m v (head .pair) (head .last) codes (c .from) (c .left)) out (c .to) after r
 
 -- What is left of a stretch can be written: the arrays hold its items and 32 more, and there is room for its octets.
 pub record StretchFits (m v : ℕ) (head : Head) (octets codes out : List ℕ) (c : Cursor) : Type 0 where
