@@ -13,7 +13,7 @@ use Rattle.refusal.proofs.First.{append-found, append-passed}
 use Rattle.stream_spec.specs.declared.Shape.{Shape}
 use Rattle.stream_spec.specs.declared.Written.{Written}
 use Rattle.stream_spec.specs.declared.Written.the-variants.{Refused}
-use Rattle.stream_spec.specs.Layout.{ofWidth, records, packedTransfers, packed}
+use Rattle.stream_spec.specs.Layout.{ofWidth, atWidth, records, packedTransfers, packed}
 use Rattle.stream_spec.specs.Checks.{transferChecks, roomCheck}
 use Rattle.stream_spec.specs.Answers.{Repacked, written, lentAfter, repackRefusal, repackAnswer, repackAfter}
 use Rattle.stream_spec.specs.Walk.{Passed}
@@ -23,6 +23,8 @@ use Rattle.stream_record.proofs.Tests.{input-passed}
 use Rattle.repack_scratch.specs.Codes.{stretchRoom}
 use Rattle.repack_parse.specs.Read.{TakenAs, Taken}
 use Rattle.repack_emit.specs.Emit.{TableFits, Emitted}
+use Rattle.repack_tagged_parse.specs.Read.{Taken as TagsTaken}
+use Rattle.repack_tagged_emit.specs.Tagged as TagsFit
 use Rattle.stream_repack.specs.Tests.{inputChecks}
 
 module _ (s : Shape) (v : ℕ) (transfers out : List ℕ) where
@@ -85,6 +87,12 @@ marks-ready w v transfers octets marks table n plain f t =
       room = t .room;
       held = record { same = t .sameOctets ∙ sym (t .sameMarks); unmarked = t .unmarked };
     }
+
+-- and so can codes
+pub codes-ready : (s : Shape) (v : ℕ) (transfers items table : List ℕ) (n : ℕ) → Passed s transfers → WidthFits v → TagsTaken s transfers items table n
+    → TagsFit.TableFits (atWidth s v) items (take n table)
+codes-ready s v transfers items table n p f t =
+    record { low = f .low; high = f .high; user = p .user; room = t .room; fits = t .fits }
 
 -- a shape without user bits is known by its width
 pub bare-shape : (s : Shape) → s .user ≡ 0 → ofWidth (s .width) ≡ s

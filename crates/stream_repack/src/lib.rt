@@ -34,13 +34,41 @@ fn convert_bare(w: usize, v: usize, transfers: &[u8], out: &mut [u8]) -> Written
     }
 }
 
+// Records with user bits; the tests in front have passed. Two arrays hold what the take carries: a code for each item, which has
+// its octet, its strobe and its user bits, and an entry for each stretch.
+fn convert_tagged(s: Shape, v: usize, transfers: &[u8], out: &mut [u8]) -> Written
+    requires { ⌜ first (inputChecks s v (now transfers)) ≡ none ⌝ }
+    ensures { λ r. ⌜ Repacked s v (now (transfers .entry)) (now (out .entry)) (now (out .exit)) r ⌝ }
+{
+    let mut items = [0u16; ITEM_ROOM];
+    let mut table = [0u32; STRETCH_ROOM];
+    let p = repack_tagged_parse::parse(s, transfers, &mut items, &mut table);
+    match p {
+        repack_tagged_parse::Parsed::Refused(r) => Written::Refused(r),
+        repack_tagged_parse::Parsed::Stretches(n) => {
+            repack_tagged_emit::emit(out, &items, &table[..n], stream_record::at_width(s, v))
+        }
+    }
+}
+
+// The tests in front have passed: each kind of record has its own converter.
+fn convert(s: Shape, v: usize, transfers: &[u8], out: &mut [u8]) -> Written
+    requires { ⌜ first (inputChecks s v (now transfers)) ≡ none ⌝ }
+    ensures { λ r. ⌜ Repacked s v (now (transfers .entry)) (now (out .entry)) (now (out .exit)) r ⌝ }
+{
+    if s.user == 0 {
+        return convert_bare(s.width, v, transfers, out);
+    }
+    convert_tagged(s, v, transfers, out)
+}
+
 // Repacks the take `transfers` of shape s to width v into `out`. Answers the number of records written, or refuses: 1 for
-// either width, 2, then record by record 3 before 4, then 5. Refused, `out` keeps its content.
+// either width, 16, 2, then record by record 3 before 4, then 5. Refused, `out` keeps its content.
 pub fn repack(s: Shape, v: usize, transfers: &[u8], out: &mut [u8]) -> Written
     ensures { λ r. ⌜ Repacked s v (now (transfers .entry)) (now (out .entry)) (now (out .exit)) r ⌝ }
 {
     match stream_record::check_input(s, v, transfers) {
         Checked::Refused(f) => Written::Refused(f),
-        Checked::Passed => convert_bare(s.width, v, transfers, out),
+        Checked::Passed => convert(s, v, transfers, out),
     }
 }
