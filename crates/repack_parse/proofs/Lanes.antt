@@ -5,6 +5,7 @@ use mathlib.Core.List.{List, map}
 use Prim.Native.Nat.{ℕ, _+_, _≤_, _<_}
 use native.Mathlib.Omega.{arith}
 use lib.ListN.{length, getD}
+use Rattle.stream_spec.proofs.Legal.{octets-of}
 use Rattle.stream_spec.specs.Items.{kept}
 use Rattle.stream_spec.specs.Layout.{size, ofWidth, flags, pairOf, tkeep, tstrb, dataOctets, userNumber, transferOf}
 use Rattle.stream_spec.specs.Legal.{Octets}
@@ -18,7 +19,7 @@ use Rattle.repack_sieve.specs.Kept.{Collected}
 use Rattle.repack_gather.specs.Gather.{Clear, Marks}
 use Rattle.repack_gather.proofs.Lanes.{collected-codes}
 use Rattle.repack_parse.specs.Read.{Turned, Ended, Carries, AddedData, AddedMarked, Ready}
-use Rattle.repack_parse.proofs.Records.{octets-of, Paired, lanes-long, codes-kept, add-some, turned-paired, added-codes, lane-count, tagged-lanes}
+use Rattle.repack_parse.proofs.Records.{Paired, lanes-long, codes-kept, add-some, turned-paired, added-codes, lane-count, tagged-lanes}
 
 -- where each kept lane is data
 module _ (w : ℕ) (rec : List ℕ) (oct : Octets rec) (long : length rec ≡ size (ofWidth w)) where

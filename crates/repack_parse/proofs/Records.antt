@@ -16,7 +16,7 @@ use Rattle.stream_spec.specs.Packed.{Stretch}
 use Rattle.stream_spec.specs.Layout.{widthMost, size, flags, pairOf, tkeep, tstrb, tlast, dataOctets, userNumber, Kept, transferOf}
 use Rattle.stream_spec.specs.Legal.{Octets}
 use Rattle.stream_spec.specs.Checks.{HeadFits, transferFlags}
-use Rattle.stream_spec.proofs.Legal.{octets-take, octets-drop, octet-at}
+use Rattle.stream_spec.proofs.Legal.{octets-of, octets-take, octets-drop, octet-at}
 use Rattle.stream_spec.proofs.Size.{data-long}
 use Rattle.stream_record.specs.declared.Header.{Header}
 use Rattle.stream_record.specs.Header.{headerOf}
@@ -26,10 +26,6 @@ use Rattle.repack_scratch.specs.Stands.{keptAt, Gathered, Stands}
 use Rattle.repack_scratch.proofs.Codes.{tagged-kept}
 use Rattle.repack_scratch.proofs.Stands.{gather-stands}
 use Rattle.repack_parse.specs.Read.{Few, Closable, Turned, Ended, Carries, Added, Ready}
-
-pub octets-of : (xs : List ℕ) → ((i : ℕ) → getD xs i 0 < 256) → Octets xs
-octets-of [] h = tt
-octets-of (x ∷ xs) h = (h 0, octets-of xs (λ i. h (suc i)))
 
 -- ---- whether a record has an item
 

@@ -13,7 +13,7 @@ use Rattle.refusal.specs.Checks.{first}
 use Rattle.stream_spec.specs.Layout.{size, ofWidth, dataOctets, flags, pairOf, tkeep, tstrb}
 use Rattle.stream_spec.specs.Legal.{Octets}
 use Rattle.stream_spec.specs.Checks.{HeadFits, transferFlags, transferFaults}
-use Rattle.stream_spec.proofs.Legal.{octets-take, octets-drop}
+use Rattle.stream_spec.proofs.Legal.{octets-of, octets-take, octets-drop}
 use Rattle.stream_spec.proofs.Size.{size-holds, data-inside}
 use Rattle.words.specs.Words.{wordAt}
 use Rattle.words.proofs.Words.{word-drop}
@@ -28,7 +28,7 @@ use Rattle.repack_gather.specs.Gather.{Clear}
 use Rattle.repack_parse.specs.Read.{Ready, Ended, AddedData}
 use Rattle.repack_parse.specs.Reading.{recordFrom, UsualAt, Reading, Skimmed}
 use Rattle.repack_parse.proofs.Faults.{data-faultless}
-use Rattle.repack_parse.proofs.Records.{octets-of, lanes-long, paired-same}
+use Rattle.repack_parse.proofs.Records.{lanes-long, paired-same}
 use Rattle.repack_parse.proofs.Lanes.{add-collected}
 use Rattle.repack_parse.proofs.Take.{reading-next}
 use Rattle.repack_parse.proofs.Parsing.{holding-next}

@@ -1,25 +1,22 @@
--- The bits of a record that must be zero, tested in two words and an octet: a mask's test of a word is the tests of its parts.
+-- The bits of a header that must be zero, tested in two words at once: a mask's test of a word is the tests of its parts.
 -- Assumes nothing.
 use mathlib.Core.Path.{_≡_, refl, sym, ap, ap₂, _∙_, subst}
-use mathlib.Core.Bool.{Bool, true, false, not, _||_, cond, or-assoc}
+use mathlib.Core.Bool.{Bool, true, false, not, _||_}
 use mathlib.Core.List.{List}
 use Prim.Native.Nat.{ℕ, zero, suc, _+_, _-_, _*_, _/_, _%_, _^_, _≤_, _<_}
 use native.Mathlib.Nat.{suc-mul, mod-lt, zero-add}
 use native.Mathlib.Omega.{arith}
-use borrow.Author.Tests.{le-leb, lt-leb, eq-eqb, ne-eqb, eqb-true, eqb-false}
+use borrow.Author.Tests.{le-leb, lt-leb, eq-eqb, ne-eqb}
 use lib.Bits.{bitAnd, and-block, and-high, and-zero-r}
 use lib.Dec.{leb, ltb, eqb}
-use lib.ListN.{length, getD}
+use lib.ListN.{getD}
 use lib.Pow.{pow-pos, pow-mono, split, shr-mod}
 use Rattle.stream_spec.specs.declared.Shape.{Shape}
-use Rattle.stream_spec.specs.Layout.{size}
-use Rattle.stream_spec.specs.Checks.{headFault, userFault, fieldFault}
-use Rattle.stream_spec.specs.Walk.{Narrow}
-use Rattle.stream_spec.proofs.Users.{padding-none, padding-told}
+use Rattle.stream_spec.specs.Layout.{widthMost}
 use Rattle.words.specs.Words.{wordAt}
 use Rattle.stream_head.specs.declared.Zeros.{Zeros}
-use Rattle.stream_record.specs.Header.{headerOf}
-use Rattle.stream_head.specs.Zeros.{paddingOf, zerosOf}
+use Rattle.stream_record.specs.Header.{headerOf, headerFault}
+use Rattle.stream_head.specs.Zeros.{zerosOf}
 
 -- some bit is set
 abbrev set : ℕ → Bool
@@ -86,61 +83,24 @@ high-set w keep strb x u hk hs e =
     ∙ set-parts (bitAnd strb (0x10000 - 2 ^ w)) (bitAnd keep (0x10000 - 2 ^ w)) 0x10000 (omega arith)
     ∙ ap₂ (λ (x y : Bool). x || y) (set-from keep 16 w u hk) (set-from strb 16 w u hs)
 
--- the last octet: its padding, where it has any
-last-set : (s : Shape) (rec : List ℕ) → ((i : ℕ) → getD rec i 0 < 256) → length rec ≡ size s
-    → set (bitAnd (getD rec (length rec - 1) 0) (paddingOf s)) ≡ userFault s rec
-last-set s rec oct long = go (eqb (s .width * s .user % 8) 0) refl
-  where
-    rest : ℕ
-    rest = s .width * s .user % 8
-
-    last : ℕ
-    last = getD rec (length rec - 1) 0
-
-    go : (b : Bool) → eqb rest 0 ≡ b → set (bitAnd last (cond b 0 (0x100 - 2 ^ rest))) ≡ userFault s rec
-    go true e = set-none (bitAnd last 0) (and-zero-r last) ∙ sym (padding-none s rec oct (eqb-true rest 0 e))
-    go false e =
-        let some : rest ≡ 0 → ⊥ = eqb-false rest 0 e in
-        set-from last 8 rest (omega arith) (oct (length rec - 1))
-        ∙ rw long (sym (padding-told s rec oct (omega (arith, some))))
-
--- a record's fault, by its two words and its last octet
-module _ (used : ℕ) (s : Shape) (rec : List ℕ) (z : Zeros) (few : used ≤ 8) (narrow : Narrow s) (long : length rec ≡ size s)
-    (is : z ≡ zerosOf used s) (oct : (i : ℕ) → getD rec i 0 < 256) (lo hi : ℕ) (l : lo ≡ wordAt 4 rec 0) where
-  abbrev low : Bool
-  low = leb (2 ^ used) (headerOf rec .flags) || ltb 15 (headerOf rec .tdest)
-
-  abbrev high : Bool
-  high = leb (2 ^ s .width) (headerOf rec .keep) || leb (2 ^ s .width) (headerOf rec .strb)
-
-  low-is : set (bitAnd lo (z .low)) ≡ low
+-- a header's fault, by its two words
+module _ (used : ℕ) (s : Shape) (rec : List ℕ) (z : Zeros) (few : used ≤ 8) (wide : s .width ≤ widthMost) (is : z ≡ zerosOf used s)
+    (oct : (i : ℕ) → getD rec i 0 < 256) (lo hi : ℕ) (l : lo ≡ wordAt 4 rec 0) where
+  low-is : set (bitAnd lo (z .low)) ≡ (leb (2 ^ used) (headerOf rec .flags) || ltb 15 (headerOf rec .tdest))
   low-is =
       ap₂ (λ (x : ℕ) (y : Zeros). set (bitAnd x (y .low))) l is
       ∙ low-set used (getD rec 0 0) (getD rec 1 0) (getD rec 2 0) (getD rec 3 0) few (oct 0) (oct 1) (oct 2)
 
-  head-is : headFault used s (headerOf rec .flags) (headerOf rec .tdest) (headerOf rec .keep) (headerOf rec .strb) ≡ (low || high)
-  head-is = or-assoc low (leb (2 ^ s .width) (headerOf rec .keep)) (leb (2 ^ s .width) (headerOf rec .strb))
+  pub breaks-low : (bitAnd lo (z .low) ≡ 0 → ⊥) → true ≡ headerFault used s (headerOf rec)
+  breaks-low h = let yes' : (leb (2 ^ used) (headerOf rec .flags) || ltb 15 (headerOf rec .tdest)) ≡ true = sym low-is ∙ ap not (ne-eqb (bitAnd lo (z .low)) 0 h) in rw yes' refl
 
-  pub breaks-low : (bitAnd lo (z .low) ≡ 0 → ⊥) → true ≡ fieldFault used s rec
-  breaks-low h = let yes' : low ≡ true = sym low-is ∙ ap not (ne-eqb (bitAnd lo (z .low)) 0 h) in rw (head-is, yes') refl
-
-  module _ (e : hi ≡ wordAt 4 rec 3) (clear : bitAnd lo (z .low) ≡ 0) where
-    no-low : low ≡ false
-    no-low = sym low-is ∙ set-none (bitAnd lo (z .low)) clear
-
-    high-is : set (bitAnd hi (z .high)) ≡ high
-    high-is =
-        let b3 = oct 3 in
-        let b4 = oct 4 in
-        let b5 = oct 5 in
-        let b6 = oct 6 in
-        ap (λ (y : Zeros). set (bitAnd hi (y .high))) is
-        ∙ high-set (s .width) (headerOf rec .keep) (headerOf rec .strb) hi (narrow .width) (omega arith) (omega arith) (omega arith)
-
-    pub breaks-high : (bitAnd hi (z .high) ≡ 0 → ⊥) → true ≡ fieldFault used s rec
-    breaks-high h = let yes' : high ≡ true = sym high-is ∙ ap not (ne-eqb (bitAnd hi (z .high)) 0 h) in rw (head-is, no-low, yes') refl
-
-    pub breaks-last : bitAnd hi (z .high) ≡ 0 → set (bitAnd (getD rec (length rec - 1) 0) (z .last)) ≡ fieldFault used s rec
-    breaks-last h =
-        let no-high : high ≡ false = sym high-is ∙ set-none (bitAnd hi (z .high)) h in
-        ap (λ (y : Zeros). set (bitAnd (getD rec (length rec - 1) 0) (y .last))) is ∙ last-set s rec oct long ∙ rw (head-is, no-low, no-high) refl
+  pub breaks-high : hi ≡ wordAt 4 rec 3 → bitAnd lo (z .low) ≡ 0 → set (bitAnd hi (z .high)) ≡ headerFault used s (headerOf rec)
+  breaks-high e h =
+      let no : (leb (2 ^ used) (headerOf rec .flags) || ltb 15 (headerOf rec .tdest)) ≡ false = sym low-is ∙ set-none (bitAnd lo (z .low)) h in
+      let b3 = oct 3 in
+      let b4 = oct 4 in
+      let b5 = oct 5 in
+      let b6 = oct 6 in
+      rw no
+      (ap (λ (y : Zeros). set (bitAnd hi (y .high))) is
+      ∙ high-set (s .width) (headerOf rec .keep) (headerOf rec .strb) hi wide (omega arith) (omega arith) (omega arith))

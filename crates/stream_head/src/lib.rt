@@ -1,5 +1,5 @@
-// A record's header read as two overlapping words, octets 0 to 3 and octets 3 to 6: a field fault told by masks, with the padding
-// in the record's last octet, and the usual record. What the octets are is stream_spec's Layout; who needs single fields reads them with stream_record::read_header.
+// A record's header read as two overlapping words, octets 0 to 3 and octets 3 to 6: a field fault told by masks, and the usual
+// record. What the octets are is stream_spec's Layout; who needs single fields reads them with stream_record::read_header.
 mod masks;
 mod usual;
 
@@ -7,11 +7,10 @@ pub use masks::breaks;
 pub use masks::must_be_zero;
 pub use usual::is_usual;
 
-// The bits of a record that must be zero: in octets 0 to 3, in octets 3 to 6, and in the last octet.
+// The bits of a header that must be zero: in octets 0 to 3, and in octets 3 to 6.
 pub struct Zeros {
     pub low: u32,
     pub high: u32,
-    pub last: u8,
 }
 
 // Octets 0 to 3 as one number: TID and TDEST stand from bit 8 on, the low octet of TKEEP from bit 24 on.

@@ -1,10 +1,10 @@
 -- The pass over the cycles: what is known at its start, what one cycle more leaves known, and what is told at its end; and
 -- the pass behind a finding, which looks for a bad field only. Assumes nothing.
-use mathlib.Core.Path.{_≡_, refl, sym, ap, ap₂, _∙_}
-use mathlib.Core.Bool.{Bool, true, false, cond}
+use mathlib.Core.Path.{_≡_, refl, sym, ap, ap₂, _∙_, subst}
+use mathlib.Core.Bool.{Bool, true, false, cond, _||_, or-true, or-false}
 use mathlib.Core.List.{List, [], _∷_, _++_}
 use mathlib.Core.Option.{Option, none, some}
-use Prim.Native.Nat.{ℕ, suc, _+_, _-_, _≤_, _<_}
+use Prim.Native.Nat.{ℕ, suc, _+_, _-_, _*_, _%_, _≤_, _<_}
 use native.Mathlib.Nat.{add-zero, zero-add}
 use native.Mathlib.Numerals.{add-one}
 use native.Mathlib.Omega.{arith}
@@ -17,24 +17,29 @@ use Rattle.refusal.specs.declared.Refusal.the-variants.{Field}
 use Rattle.stream_spec.specs.declared.Shape.{Shape}
 use Rattle.stream_spec.specs.declared.Verdict.{Verdict}
 use Rattle.stream_spec.specs.declared.Verdict.the-variants.{Clean, Broken, Refused}
-use Rattle.stream_spec.specs.Layout.{bitOf, size, records}
-use Rattle.refusal.specs.Checks.{Check, first}
-use Rattle.stream_spec.specs.Checks.{fieldFault, cycleFlags, cycleChecks, takeChecks}
+use Rattle.stream_spec.specs.Layout.{bitOf, widthMost, size, records}
+use Rattle.refusal.specs.Checks.{Check, check, first}
+use Rattle.refusal.proofs.First.{first-none}
+use Rattle.stream_spec.specs.Checks.{userFault, fieldFault, cycleFlags, cycleFaults, cycleChecks, takeChecks}
 use Rattle.stream_spec.specs.Handshake.{r1, r2, r3, r4, transferred, handshakes, Finding, finding, ruleChecks, findings}
 use Rattle.stream_spec.specs.Answers.{verdict, verdictValues, judgeAnswer, Judged}
-use Rattle.stream_spec.specs.Walk.{Narrow, Passed, recordAt}
+use Rattle.stream_spec.specs.Walk.{Passed, recordAt}
+use Rattle.stream_spec.proofs.Bools.{neither}
 use Rattle.stream_spec.proofs.Bits.{bit-one}
+use Rattle.stream_spec.proofs.Users.{padding-none}
+use Rattle.stream_spec.proofs.Legal.{octet-at, EachOctets}
+use Rattle.stream_spec.proofs.RecordChecks.{each-none}
 use Rattle.stream_spec.proofs.Size.{size-pos}
 use Rattle.stream_spec.proofs.Walk.{left-start, record-long, left-next, records-next, few-next, no-records}
 use Rattle.stream_record.specs.declared.Checked.{Checked}
 use Rattle.stream_record.specs.declared.Checked.the-variants.{Passed as Yes, Refused as Not}
 use Rattle.stream_record.specs.declared.Header.{Header}
 use Rattle.stream_head.specs.declared.Zeros.{Zeros}
-use Rattle.stream_record.specs.Header.{headerOf}
+use Rattle.stream_record.specs.Header.{headerOf, headerFault}
 use Rattle.stream_record.specs.Checked.{checkedOf}
 use Rattle.stream_head.specs.Zeros.{zerosOf, TellsFault}
 use Rattle.stream_record.proofs.Tests.{refused-front, passed-front}
-use Rattle.stream_judge.specs.Scan.{transfersBy, beforeOf, flagsBefore, lowestRule, CycleAt, verdictFrom, Turning, verdictBehind, Behind, Looking}
+use Rattle.stream_judge.specs.Scan.{Unpadded, Padding, transfersBy, beforeOf, flagsBefore, lowestRule, CycleAt, verdictFrom, Turning, verdictBehind, Behind, Looking}
 
 -- ---- one cycle more of a verdict
 
@@ -91,14 +96,16 @@ module _ (s : Shape) (k : ℕ) (c : List ℕ) (cs : List (List ℕ)) where
 -- ---- the record at `at`
 
 -- what the test of the bits that must be zero found, of a record
-pub fault-is : (s : Shape) (c : List ℕ) (z : Zeros) (r t : Bool) → Narrow s → length c ≡ size s → z ≡ zerosOf cycleFlags s
+pub fault-is : (s : Shape) (c : List ℕ) (z : Zeros) (r t : Bool) → s .width ≤ widthMost → z ≡ zerosOf cycleFlags s → userFault s c ≡ false
     → TellsFault z c r → r ≡ t → fieldFault cycleFlags s c ≡ t
-fault-is s c z r t n l e f g = sym (f cycleFlags s (omega arith) n l e) ∙ g
+fault-is s c z r t w e u f g =
+    let head = headerFault cycleFlags s (headerOf c) in
+    ap (λ (b : Bool). head || b) u ∙ or-false head ∙ sym (f cycleFlags s (omega arith) w e) ∙ g
 
 -- ---- behind a finding
 
 pub looking-start : (s : Shape) (z : Zeros) (xs : List ℕ) (from j : ℕ) (w : Finding) → Behind s z xs from j → Looking s xs from j from j w
-looking-start s z xs from j w b = record { left = b .left; few = b .few; same = refl }
+looking-start s z xs from j w b = record { left = b .left; few = b .few; clear = b .clear; same = refl }
 
 module _ (s : Shape) (xs : List ℕ) (from j at k : ℕ) (w : Finding) (h : Looking s xs from j at k w) where
   -- no cycle is left
@@ -106,6 +113,9 @@ module _ (s : Shape) (xs : List ℕ) (from j at k : ℕ) (w : Finding) (h : Look
   looks-end l = sym (ap (λ (cs : List (List ℕ)). verdictBehind s k cs w) (no-records s xs at l)) ∙ h .same
 
   module _ (l : at < length xs) (z : ℕ) (q : z ≡ size s) where
+    pub looks-clear : Unpadded s (recordAt xs at z ∷ records s (drop (at + z) xs))
+    looks-clear = subst (Unpadded s) (records-next s xs at (h .left) l z q) (h .clear)
+
     left-behind : verdictBehind s k (recordAt xs at z ∷ records s (drop (at + z) xs)) w ≡ verdictBehind s j (records s (drop from xs)) w
     left-behind = sym (ap (λ (cs : List (List ℕ)). verdictBehind s k cs w) (records-next s xs at (h .left) l z q)) ∙ h .same
 
@@ -117,6 +127,7 @@ module _ (s : Shape) (xs : List ℕ) (from j at k : ℕ) (w : Finding) (h : Look
         record {
           left = left-next s xs at (h .left) l z q;
           few = few-next s xs at (h .left) l z q k (h .few);
+          clear = looks-clear .1;
           same =
               ap (λ (i : ℕ). verdictBehind s i (records s (drop (at + z) xs)) w) (add-one k)
               ∙ behind-on s k (recordAt xs at z) (records s (drop (at + z) xs)) f w
@@ -128,8 +139,8 @@ module _ (s : Shape) (xs : List ℕ) (from j at k : ℕ) (w : Finding) (h : Look
 pub at-most-one : (n f : ℕ) → n ≡ bitOf (transfersBy f) → n ≤ 1
 at-most-one n f e = rw e (bit-one (transfersBy f))
 
-pub turning-start : (s : Shape) (xs : List ℕ) → Passed s xs → Turning s xs 0 0 0 0 (flagsBefore none)
-turning-start s xs p =
+pub turning-start : (s : Shape) (xs : List ℕ) → Passed s xs → Unpadded s (records s xs) → Turning s xs 0 0 0 0 (flagsBefore none)
+turning-start s xs p u =
     record {
       left = left-start s xs (p .whole);
       behind = omega arith;
@@ -137,6 +148,7 @@ turning-start s xs p =
       counted = omega arith;
       few = omega arith;
       flagged = refl;
+      clear = u;
       same = refl;
     }
 
@@ -167,6 +179,9 @@ module _ (s : Shape) (xs : List ℕ) (from at k count prevFlags : ℕ) (h : Turn
     abbrev later : List (List ℕ)
     later = records s (drop (at + z) xs)
 
+    pub turn-clear : Unpadded s (rec ∷ later)
+    turn-clear = subst (Unpadded s) (records-next s xs at (h .left) l z q) (h .clear)
+
     left-from : verdictFrom s (beforeOf prev) k (rec ∷ later) count ≡ verdictFrom s none 0 (records s xs) 0
     left-from = sym (ap (λ (cs : List (List ℕ)). verdictFrom s (beforeOf prev) k cs count) (records-next s xs at (h .left) l z q)) ∙ h .same
 
@@ -196,6 +211,7 @@ module _ (s : Shape) (xs : List ℕ) (from at k count prevFlags : ℕ) (h : Turn
           zeros = y;
           left = left-next s xs at (h .left) l z q;
           few = few-next s xs at (h .left) l z q k (h .few);
+          clear = turn-clear .1;
         }
 
     module _ (f : fieldFault cycleFlags s rec ≡ false) (rule : ℕ) (e : rule ≡ lowestRule s (beforeOf prev) rec) where
@@ -221,12 +237,54 @@ module _ (s : Shape) (xs : List ℕ) (from at k count prevFlags : ℕ) (h : Turn
             counted = omega (arith, h .counted, at-most-one n (d .flags) counted);
             few = few-next s xs at (h .left) l z q k (h .few);
             flagged = ap (λ (g : Header). g .flags) is ∙ sym (ap flagsBefore (before-some rec some-rec));
+            clear = turn-clear .1;
             same =
                 ap₂ (λ (b : Option (List ℕ)) (i : ℕ). verdictFrom s b i later (count + n)) (before-some rec some-rec) (add-one k)
                 ∙ ap (λ (m : ℕ). verdictFrom s (some rec) (suc k) later (count + m)) same-count
                 ∙ from-clean s k rec later f (beforeOf prev) count (sym e ∙ none')
                 ∙ left-from;
           }
+
+-- ---- padding: none where the user bits fill their octets, and none where no record has a bad field
+
+pub full-unpadded : (s : Shape) (rs : List (List ℕ)) → s .width * s .user % 8 ≡ 0 → EachOctets rs → Unpadded s rs
+full-unpadded s [] e o = tt
+full-unpadded s (r ∷ rs) e o = (padding-none s r (λ i. octet-at r i (o .0)) e, full-unpadded s rs e (o .1))
+
+pub found-unpadded : (s : Shape) (k : ℕ) (rs : List (List ℕ)) → first (cycleChecks s k rs) ≡ none → Unpadded s rs
+found-unpadded s k [] e = tt
+found-unpadded s k (r ∷ rs) e =
+    let h = each-none (cycleFaults s) k r rs e in
+    let field = first-none (check (fieldFault cycleFlags s r) (Field k)) [] (h .0) in
+    (neither (headerFault cycleFlags s (headerOf r)) (userFault s r) (field .0) .1, found-unpadded s (suc k) rs (h .1))
+
+-- a cycle record's FIELD: in its head, in its padding, or nowhere
+module _ (s : Shape) (r : List ℕ) (k : ℕ) {a : Bool} (head : a ≡ headerFault cycleFlags s (headerOf r)) where
+  pub cycle-head : a ≡ true → some (Field k) ≡ first (cycleFaults s k r)
+  cycle-head e = rw (sym head ∙ e) refl
+
+  module _ {b : Bool} (pad : b ≡ userFault s r) where
+    pub cycle-padding : b ≡ true → some (Field k) ≡ first (cycleFaults s k r)
+    cycle-padding e = rw (sym pad ∙ e, or-true (headerFault cycleFlags s (headerOf r))) refl
+
+    pub cycle-sound : a ≡ false → b ≡ false → none ≡ first (cycleFaults s k r)
+    cycle-sound e f = rw (sym head ∙ e, sym pad ∙ f) refl
+
+-- what was told, of an answer in code
+module _ (s : Shape) (rs : List (List ℕ)) where
+  pub told-padding : (r : Checked) → checkedOf r ≡ first (cycleChecks s 0 rs) → Padding s rs (checkedOf r)
+  told-padding Yes e = found-unpadded s 0 rs (sym e)
+  told-padding (Not f) e = sym e
+
+  pub padding-passed : (r : Checked) → Padding s rs (checkedOf r) → r ≡ Yes → Unpadded s rs
+  padding-passed r p e = rw e at p
+
+  pub padding-refused : (r : Checked) → Padding s rs (checkedOf r) → (f : Refusal) → r ≡ Not f → first (cycleChecks s 0 rs) ≡ some f
+  padding-refused r p f e = rw e at p
+
+-- a bad field is the verdict
+pub field-refused : (s : Shape) (rs : List (List ℕ)) (f : Refusal) → first (cycleChecks s 0 rs) ≡ some f → Refused f ≡ verdictFrom s none 0 rs 0
+field-refused s rs f e = rw e refl
 
 -- ---- judging, from what the tests of shape and length told
 

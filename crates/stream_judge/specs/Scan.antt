@@ -6,11 +6,12 @@ use mathlib.Core.Option.{Option, none, some}
 use Prim.Native.Nat.{ℕ, _+_, _-_, _^_, _≤_, _<_}
 use mathlib.Core.Path.{_≡_}
 use lib.ListN.{length, take, drop}
+use Rattle.refusal.specs.declared.Refusal.{Refusal}
 use Rattle.refusal.specs.Checks.{first}
 use Rattle.stream_spec.specs.declared.Shape.{Shape}
 use Rattle.stream_spec.specs.declared.Verdict.{Verdict}
 use Rattle.stream_spec.specs.Layout.{bit, tvalidBit, treadyBit, aresetnBit, flags, widthMost, userMost, size, sizeLeast, sizeMost, records}
-use Rattle.stream_spec.specs.Checks.{fieldFault, cycleFlags, cycleChecks}
+use Rattle.stream_spec.specs.Checks.{userFault, fieldFault, cycleFlags, cycleChecks}
 use Rattle.stream_spec.specs.Handshake.{r1, r2, r3, r4, handshakes, Finding, findings}
 use Rattle.stream_spec.specs.Answers.{verdict}
 use Rattle.stream_spec.specs.Walk.{Passed, Left}
@@ -18,6 +19,18 @@ use Rattle.stream_record.specs.declared.Header.{Header}
 use Rattle.stream_head.specs.declared.Zeros.{Zeros}
 use Rattle.stream_record.specs.Header.{headerOf}
 use Rattle.stream_head.specs.Zeros.{zerosOf}
+
+-- ---- padding
+
+-- no record of these has a bit of its padding set: FIELD is then told by the head alone
+abbrev pub Unpadded : Shape → List (List ℕ) → Type 0
+Unpadded s [] = Unit {0}
+Unpadded s (r ∷ rs) = (userFault s r ≡ false) × Unpadded s rs
+
+-- what looking for it tells: a refusal is the first bad field of all, and else no padding is set
+abbrev pub Padding : Shape → List (List ℕ) → Option Refusal → Type 0
+Padding s rs none = Unpadded s rs
+Padding s rs (some f) = first (cycleChecks s 0 rs) ≡ some f
 
 -- ---- one cycle
 
@@ -76,6 +89,7 @@ pub record Turning (s : Shape) (xs : List ℕ) (from at k count prevFlags : ℕ)
   pub counted : count ≤ k
   pub few : k ≤ at
   pub flagged : prevFlags ≡ flagsBefore (beforeOf (take (at - from) (drop from xs)))
+  pub clear : Unpadded s (records s (drop at xs))
   pub same :
       verdictFrom s (beforeOf (take (at - from) (drop from xs))) k (records s (drop at xs)) count
       ≡ verdictFrom s none 0 (records s xs) 0
@@ -92,9 +106,11 @@ pub record Behind (s : Shape) (z : Zeros) (xs : List ℕ) (from j : ℕ) : Type 
   pub zeros : z ≡ zerosOf cycleFlags s
   pub left : Left s xs from
   pub few : j ≤ from
+  pub clear : Unpadded s (records s (drop from xs))
 
 -- what is known at the start of each turn: cycle j begins at `from`, cycle k at `at`
 pub record Looking (s : Shape) (xs : List ℕ) (from j at k : ℕ) (f : Finding) : Type 0 where
   pub left : Left s xs at
   pub few : k ≤ at
+  pub clear : Unpadded s (records s (drop at xs))
   pub same : verdictBehind s k (records s (drop at xs)) f ≡ verdictBehind s j (records s (drop from xs)) f

@@ -19,11 +19,15 @@ ghost use Prim.Native.Nat.{_+_, _≤_};
 ghost use lib.ListN.{length, take, drop};
 ghost use mathlib.Core.Bool.{_&&_, not, true};
 ghost use mathlib.Core.Option.{none, some};
-ghost use Rattle.stream_spec.specs.Layout.{bit, aresetnBit, records, bitOf};
+ghost use Rattle.stream_spec.specs.Layout.{bit, aresetnBit, size, records, bitOf};
 ghost use Rattle.stream_spec.specs.Handshake.{sameOctets, differs, finding};
 ghost use Rattle.stream_spec.specs.Answers.{Judged};
-ghost use Rattle.stream_spec.specs.Walk.{Passed};
-ghost use Rattle.stream_judge.specs.Scan.{waitsBy, transfersBy, Alike, beforeOf, lowestRule, CycleAt};
+ghost use Rattle.stream_spec.specs.Checks.{cycleFlags, cycleFaults, cycleChecks};
+ghost use Rattle.stream_spec.specs.Walk.{Narrow, Passed};
+ghost use Rattle.refusal.specs.Checks.{first};
+ghost use Rattle.stream_record.specs.Checked.{checkedOf};
+ghost use Rattle.stream_head.specs.Zeros.{zerosOf};
+ghost use Rattle.stream_judge.specs.Scan.{Unpadded, Padding, waitsBy, transfersBy, Alike, beforeOf, lowestRule, CycleAt};
 ghost use Rattle.stream_judge.specs.Scan.{verdictFrom, Behind, verdictBehind};
 
 // Whether some of the four octets from octet i on differ between two records.
@@ -182,9 +186,58 @@ fn broken(
     Verdict::Broken(cycle, rule)
 }
 
-// Judges the cycles of a take whose width and length have passed their tests, the first as if behind an idle cycle.
-fn judge_cycles(s: Shape, capture: &[u8]) -> Verdict
+// The refusal for cycle record k: FIELD, by its head or by its padding.
+fn cycle_fault(s: Shape, z: Zeros, rec: &[u8], k: usize) -> Checked
+    requires { ⌜ Narrow s × (length (now rec) ≡ size s) × (z ≡ zerosOf cycleFlags s) ⌝ }
+    ensures { λ r. ⌜ checkedOf r ≡ first (cycleFaults s k (now (rec .entry))) ⌝ }
+{
+    if stream_head::breaks(rec, z) {
+        return Checked::Refused(Refusal::Field(k));
+    }
+    if stream_record::bad_padding(s, rec) {
+        return Checked::Refused(Refusal::Field(k));
+    }
+    Checked::Passed
+}
+
+// The first refusal for the records of a take: its padding is looked at before anything is judged.
+fn find_field(s: Shape, capture: &[u8]) -> Checked
     requires { ⌜ Passed s (now capture) ⌝ }
+    ensures { λ r. ⌜ checkedOf r ≡ first (cycleChecks s 0 (records s (now (capture .entry)))) ⌝ }
+{
+    let size = stream_record::record_size(s);
+    let z = stream_head::must_be_zero(CYCLE_FLAGS, s);
+    let mut at = 0;
+    let mut k = 0;
+    while at < capture.len() {
+        let next = at + size;
+        match cycle_fault(s, z, &capture[at..next], k) {
+            Checked::Refused(why) => {
+                return Checked::Refused(why);
+            }
+            Checked::Passed => {}
+        }
+        at = next;
+        k += 1;
+    }
+    Checked::Passed
+}
+
+// The same, but of records without padding nothing is looked at.
+fn find_padding(s: Shape, capture: &[u8]) -> Checked
+    requires { ⌜ Passed s (now capture) ⌝ }
+    ensures { λ r. ⌜ Padding s (records s (now (capture .entry))) (checkedOf r) ⌝ }
+{
+    if stream_record::user_rest(s) == 0 {
+        return Checked::Passed;
+    }
+    find_field(s, capture)
+}
+
+// Judges the cycles of a take whose width and length have passed their tests, the first as if behind an idle cycle. No padding
+// is set in it.
+fn judge_cycles(s: Shape, capture: &[u8]) -> Verdict
+    requires { ⌜ Passed s (now capture) × Unpadded s (records s (now capture)) ⌝ }
     ensures { λ r. ⌜ r ≡ verdictFrom s none 0 (records s (now (capture .entry))) 0 ⌝ }
 {
     let size = stream_record::record_size(s);
@@ -213,6 +266,18 @@ fn judge_cycles(s: Shape, capture: &[u8]) -> Verdict
     Verdict::Clean(count)
 }
 
+// Judges a take whose width and length have passed their tests. Where records have padding, a pass of its own finds FIELD first,
+// so that the pass over the cycles has no test for it.
+fn judge_passed(s: Shape, capture: &[u8]) -> Verdict
+    requires { ⌜ Passed s (now capture) ⌝ }
+    ensures { λ r. ⌜ r ≡ verdictFrom s none 0 (records s (now (capture .entry))) 0 ⌝ }
+{
+    match find_padding(s, capture) {
+        Checked::Refused(why) => Verdict::Refused(why),
+        Checked::Passed => judge_cycles(s, capture),
+    }
+}
+
 // Judges a take of cycle records: clean with the count of its transfers, or broken with the earliest cycle that breaks a
 // rule and the lowest rule it breaks, or refused.
 pub fn judge(s: Shape, capture: &[u8]) -> Verdict
@@ -220,6 +285,6 @@ pub fn judge(s: Shape, capture: &[u8]) -> Verdict
 {
     match stream_record::check_take(s, capture) {
         Checked::Refused(why) => Verdict::Refused(why),
-        Checked::Passed => judge_cycles(s, capture),
+        Checked::Passed => judge_passed(s, capture),
     }
 }

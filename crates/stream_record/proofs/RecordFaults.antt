@@ -4,16 +4,16 @@ use mathlib.Core.Path.{_≡_, refl, sym, ap, _∙_}
 use mathlib.Core.Bool.{Bool, true, false, cond, or-true, or-false}
 use mathlib.Core.List.{List, [], _∷_}
 use mathlib.Core.Option.{Option, none, some}
-use Prim.Native.Nat.{ℕ, _+_, _^_, _≤_, _<_}
+use Prim.Native.Nat.{ℕ, _+_, _%_, _^_, _≤_, _<_}
 use native.Mathlib.Numerals.{add-one}
 use native.Mathlib.Omega.{arith}
 use lib.ListN.{length, drop}
 use Rattle.refusal.specs.declared.Refusal.{Refusal}
 use Rattle.refusal.specs.declared.Refusal.the-variants.{Field as FieldAt, Reserved as ReservedAt}
-use Rattle.refusal.specs.Checks.{first}
+use Rattle.refusal.specs.Checks.{Check, first}
 use Rattle.stream_spec.specs.declared.Shape.{Shape}
 use Rattle.stream_spec.specs.Layout.{size, typesOf, anyReserved, records}
-use Rattle.stream_spec.specs.Checks.{Fields, transferFlags, transferFaults, transferChecks, userFault, fieldFault, reservedFault}
+use Rattle.stream_spec.specs.Checks.{Fields, transferFlags, each, transferFaults, userFault, fieldFault, reservedFault}
 use Rattle.stream_spec.specs.Walk.{Left, recordAt}
 use Rattle.stream_spec.proofs.Fields.{head-fits, fields-of}
 use Rattle.stream_spec.proofs.RecordChecks.{each-found, each-passed}
@@ -91,35 +91,37 @@ padding-tells s rec u = rw (u, or-true (headerFault transferFlags s (headerOf re
 pub head-tells : (s : Shape) (rec : List ℕ) (h : Header) → h ≡ headerOf rec → userFault s rec ≡ false → faultOf s h ≡ recordFault s rec
 head-tells s rec h e u = rw (e, u, or-false (headerFault transferFlags s (headerOf rec))) refl
 
--- ---- the first fault of a take
+-- ---- the first fault of a take, whatever is checked of each record
 
 -- k records, up to octet `at`, have no fault
-pub record Judging (s : Shape) (xs : List ℕ) (at k : ℕ) : Type 0 where
+pub record Judging (checks : ℕ → List ℕ → List (Check Refusal)) (s : Shape) (xs : List ℕ) (at k : ℕ) : Type 0 where
   pub left : Left s xs at
   pub few : k ≤ at
-  pub faults : first (transferChecks s 0 (records s xs)) ≡ first (transferChecks s k (records s (drop at xs)))
+  pub faults : first (each checks 0 (records s xs)) ≡ first (each checks k (records s (drop at xs)))
 
-module _ (s : Shape) (xs : List ℕ) (at k : ℕ) (j : Judging s xs at k) where
+pub judging-starts : (checks : ℕ → List ℕ → List (Check Refusal)) (s : Shape) (xs : List ℕ) → length xs % size s ≡ 0 → Judging checks s xs 0 0
+judging-starts checks s xs w = record { left = left-start s xs w; few = omega arith; faults = refl }
+
+module _ (checks : ℕ → List ℕ → List (Check Refusal)) (s : Shape) (xs : List ℕ) (at k : ℕ) (j : Judging checks s xs at k) where
   module _ (more : at < length xs) (z : ℕ) (q : z ≡ size s) where
-    here : first (transferChecks s 0 (records s xs)) ≡ first (transferChecks s k (recordAt xs at z ∷ records s (drop (at + z) xs)))
-    here = j .faults ∙ ap (λ (rs : List (List ℕ)). first (transferChecks s k rs)) (records-next s xs at (j .left) more z q)
+    here : first (each checks 0 (records s xs)) ≡ first (each checks k (recordAt xs at z ∷ records s (drop (at + z) xs)))
+    here = j .faults ∙ ap (λ (rs : List (List ℕ)). first (each checks k rs)) (records-next s xs at (j .left) more z q)
 
     -- a record's fault is the take's
-    pub judging-found : (r : Checked) (f : Refusal) → checkedOf r ≡ first (transferFaults s k (recordAt xs at z)) → r ≡ Refused f
-        → some f ≡ first (transferChecks s 0 (records s xs))
-    judging-found r f c e =
-        sym (here ∙ each-found (transferFaults s) k (recordAt xs at z) (records s (drop (at + z) xs)) f (sym c ∙ ap checkedOf e))
+    pub judging-found : (r : Checked) (f : Refusal) → checkedOf r ≡ first (checks k (recordAt xs at z)) → r ≡ Refused f
+        → some f ≡ first (each checks 0 (records s xs))
+    judging-found r f c e = sym (here ∙ each-found checks k (recordAt xs at z) (records s (drop (at + z) xs)) f (sym c ∙ ap checkedOf e))
 
-    pub judging-next : (r : Checked) → checkedOf r ≡ first (transferFaults s k (recordAt xs at z)) → r ≡ Passed → Judging s xs (at + z) (k + 1)
+    pub judging-next : (r : Checked) → checkedOf r ≡ first (checks k (recordAt xs at z)) → r ≡ Passed → Judging checks s xs (at + z) (k + 1)
     judging-next r c e =
         record {
           left = left-next s xs at (j .left) more z q;
           few = few-next s xs at (j .left) more z q k (j .few);
           faults =
               here
-              ∙ each-passed (transferFaults s) k (recordAt xs at z) (records s (drop (at + z) xs)) (sym c ∙ ap checkedOf e)
+              ∙ each-passed checks k (recordAt xs at z) (records s (drop (at + z) xs)) (sym c ∙ ap checkedOf e)
               ∙ rw (add-one k) refl;
         }
 
-  pub judging-done : length xs ≤ at → none ≡ first (transferChecks s 0 (records s xs))
-  judging-done h = sym (j .faults ∙ ap (λ (rs : List (List ℕ)). first (transferChecks s k rs)) (no-records s xs at h))
+  pub judging-done : length xs ≤ at → none ≡ first (each checks 0 (records s xs))
+  judging-done h = sym (j .faults ∙ ap (λ (rs : List (List ℕ)). first (each checks k rs)) (no-records s xs at h))

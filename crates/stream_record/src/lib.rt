@@ -125,7 +125,7 @@ pub fn user_rest(s: Shape) -> usize
 }
 
 // Whether a bit of a record's padding is set.
-fn bad_padding(s: Shape, rec: &[u8]) -> bool
+pub fn bad_padding(s: Shape, rec: &[u8]) -> bool
     requires { ⌜ Narrow s × (length (now rec) ≡ size s) ⌝ }
     ensures { λ r. ⌜ r ≡ userFault s (now (rec .entry)) ⌝ }
 {

@@ -58,6 +58,11 @@ octet-at [] i h = omega arith
 octet-at (x ∷ xs) zero h = h .0
 octet-at (x ∷ xs) (suc i) h = octet-at xs i (h .1)
 
+-- and the other way round, as code knows it of a slice
+pub octets-of : (xs : List ℕ) → ((i : ℕ) → getD xs i 0 < octetValues) → Octets xs
+octets-of [] h = tt
+octets-of (x ∷ xs) h = (h 0, octets-of xs (λ i. h (suc i)))
+
 pub octets-append : (xs ys : List ℕ) → Octets xs → Octets ys → Octets (xs ++ ys)
 octets-append [] ys h k = k
 octets-append (x ∷ xs) ys h k = (h .0, octets-append xs ys (h .1) k)

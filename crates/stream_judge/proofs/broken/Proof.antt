@@ -15,7 +15,7 @@ use Rattle.stream_spec.proofs.Passed.{passed-narrow}
 use Rattle.stream_spec.proofs.Size.{size-pos, size-holds}
 use Rattle.stream_spec.proofs.Walk.{record-fits, record-long}
 use Rattle.stream_judge.specs.Scan.{Looking, Behind}
-use Rattle.stream_judge.proofs.Turns.{fault-is, looking-start, looks-bad, looks-on, looks-end}
+use Rattle.stream_judge.proofs.Turns.{fault-is, looks-clear, looking-start, looks-bad, looks-on, looks-end}
 use Rattle.stream_judge.proofs.broken.Statement.{statement}
 use Rattle.stream_judge.proofs.broken.Tie as tie
 
@@ -73,9 +73,8 @@ fault-told : (c : tie.After-breaks Inv-loop μ-loop) (s : Shape) → Fits (turn-
     → c .breaks .result ≡ r → fieldFault cycleFlags s (rec (turn-of c)) ≡ r
 fault-told c s b z r e =
     let t = turn-of c .before in
-    let whole = record-long s (octets t) (t .loop .at) (t .loop .inv s b z .left) (turn-of c .loop-test .taken) (long t) z in
-    fault-is s (rec (turn-of c)) (entry t .args .z) (c .breaks .result) r (passed-narrow s (octets t) (b .passed)) whole (b .zeros)
-    (c .breaks .ensures) e
+    let clear = looks-clear s (octets t) (entry t .args .from) (entry t .args .j) (t .loop .at) (t .loop .k) (found t) (t .loop .inv s b z) (turn-of c .loop-test .taken) (long t) z in
+    fault-is s (rec (turn-of c)) (entry t .args .z) (c .breaks .result) r (b .passed .high) (b .zeros) (clear .0) (c .breaks .ensures) e
 
 -- ---- the needs
 

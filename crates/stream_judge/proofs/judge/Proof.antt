@@ -1,4 +1,4 @@
--- `stream_judge::judge` meets its contract: the tests in paper 01's order, then the pass over the cycles. Assumes nothing.
+-- `stream_judge::judge` meets its contract: the tests in paper 01's order, then padding and the cycles. Assumes nothing.
 use Rattle.stream_record.proofs.Tests.{take-passed}
 use Rattle.stream_judge.proofs.Turns.{judged-refused, judged-cycles}
 use borrow.Author.Needs.{needs}
@@ -17,8 +17,8 @@ enum-known-why c = search needs
 enum-told : tie.Need-enum-told
 enum-told c = search needs
 
-judge-cycles-requires : tie.Need-judge-cycles-requires
-judge-cycles-requires c κs =
+judge-passed-requires : tie.Need-judge-passed-requires
+judge-passed-requires c κs =
     let t = c .before .before in
     let e = entry t in
     take-passed (t .check-take .result) (c .enum-told .given .1) (e .args .s) (e .args .capture .now) (t .check-take .ensures)
@@ -35,9 +35,9 @@ returns-2 c =
     let t = c .before .before .before in
     let e = entry t in
     judged-cycles (e .args .s) (e .args .capture .now) (t .check-take .result) (t .check-take .ensures) (c .before .enum-told .given .1)
-    (c .judge-cycles .result) (c .judge-cycles .ensures)
+    (c .judge-passed .result) (c .judge-passed .ensures)
 
 pub judge-spec : {M : Type 1} → statement M
 judge-spec =
     tie.close
-    (tie.spec check-take-requires enum-known-why enum-told judge-cycles-requires returns returns-2)
+    (tie.spec check-take-requires enum-known-why enum-told judge-passed-requires returns returns-2)

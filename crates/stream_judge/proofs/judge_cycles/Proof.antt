@@ -8,14 +8,14 @@ use native.Mathlib.Omega.{arith}
 use lib.ListN.{length}
 use borrow.Author.Needs.{needs}
 use Rattle.stream_spec.specs.declared.Shape.{Shape}
-use Rattle.stream_spec.specs.Layout.{headOctets, size as recordSize}
+use Rattle.stream_spec.specs.Layout.{headOctets}
 use Rattle.stream_spec.specs.Checks.{captureMost, fieldFault, cycleFlags}
 use Rattle.stream_spec.specs.Walk.{recordAt}
 use Rattle.stream_spec.proofs.Passed.{passed-narrow}
 use Rattle.stream_spec.proofs.Size.{size-pos, size-holds}
 use Rattle.stream_spec.proofs.Walk.{record-fits, record-long}
 use Rattle.stream_judge.specs.Scan.{Turning}
-use Rattle.stream_judge.proofs.Turns.{fault-is, at-most-one, turning-start, turn-bad, asks, asks-behind, finds, goes-on, turns-end}
+use Rattle.stream_judge.proofs.Turns.{fault-is, turn-clear, at-most-one, turning-start, turn-bad, asks, asks-behind, finds, goes-on, turns-end}
 use Rattle.stream_judge.proofs.judge_cycles.Statement.{statement}
 use Rattle.stream_judge.proofs.judge_cycles.Tie as tie
 
@@ -53,24 +53,24 @@ fits c =
     let t = c .before in
     record-fits (shape t) (octets t) (t .loop .at) (t .loop .inv .left) (c .loop-test .taken) (long t) (t .before .before .record-size .ensures)
 
-whole : (c : Turn) → length (rec c) ≡ recordSize (shape (c .before))
-whole c =
-    let t = c .before in
-    record-long (shape t) (octets t) (t .loop .at) (t .loop .inv .left) (c .loop-test .taken) (long t) (t .before .before .record-size .ensures)
-
 header-fits : (c : Turn) → headOctets ≤ length (rec c)
-header-fits c = omega (arith, whole c, size-holds (shape (c .before)))
+header-fits c =
+    let t = c .before in
+    let whole = record-long (shape t) (octets t) (t .loop .at) (t .loop .inv .left) (c .loop-test .taken) (long t) (t .before .before .record-size .ensures) in
+    omega (arith, whole, size-holds (shape t))
 
 counts : (t : Turns) → t .loop .k ≤ captureMost
-counts t = omega (arith, t .loop .inv .few, t .loop .inv .left .within, entry t .pre .short)
+counts t = omega (arith, t .loop .inv .few, t .loop .inv .left .within, entry t .pre .0 .short)
 
 -- what the test told of the record
 fault-told : (c : tie.After-breaks Inv-loop μ-loop) (r : Bool) → c .breaks .result ≡ r
     → fieldFault cycleFlags (shape (c .before .before .before)) (rec (c .before .before)) ≡ r
 fault-told c r e =
     let t = c .before .before .before in
-    fault-is (shape t) (rec (c .before .before)) (t .before .must-be-zero .result) (c .breaks .result) r
-    (passed-narrow (shape t) (octets t) (entry t .pre)) (whole (c .before .before)) (t .before .must-be-zero .ensures) (c .breaks .ensures) e
+    let clear = turn-clear (shape t) (octets t) (t .loop .from) (t .loop .at) (t .loop .k) (t .loop .count) (t .loop .prev-flags) (t .loop .inv)
+    (c .before .before .loop-test .taken) (long t) (t .before .before .record-size .ensures) in
+    fault-is (shape t) (rec (c .before .before)) (t .before .must-be-zero .result) (c .breaks .result) r (entry t .pre .0 .high)
+    (t .before .must-be-zero .ensures) (clear .0) (c .breaks .ensures) e
 
 -- a turn whose record is sound, from where its header is read
 abbrev sound-turn : tie.After-read-header Inv-loop μ-loop → Turn
@@ -82,13 +82,13 @@ sound c = fault-told (c .before .before .before) false (c .before .before .if1 .
 -- ---- the needs
 
 record-size-requires : tie.Need-record-size-requires Inv-loop μ-loop
-record-size-requires c κs = passed-narrow (c .before .args .s) (c .before .args .capture .now) (c .before .pre)
+record-size-requires c κs = passed-narrow (c .before .args .s) (c .before .args .capture .now) (c .before .pre .0)
 
 must-be-zero-requires : tie.Need-must-be-zero-requires Inv-loop μ-loop
-must-be-zero-requires c κs = let e = c .before .before in (passed-narrow (e .args .s) (e .args .capture .now) (e .pre), omega arith)
+must-be-zero-requires c κs = (c .before .before .pre .0 .high, omega arith)
 
 loop-holds : tie.Need-loop-holds Inv-loop μ-loop
-loop-holds c = let e = c .before .before .before in turning-start (e .args .s) (e .args .capture .now) (e .pre)
+loop-holds c = let e = c .before .before .before in turning-start (e .args .s) (e .args .capture .now) (e .pre .0) (e .pre .1)
 
 add-next : tie.Need-add-next Inv-loop μ-loop
 add-next c = omega (arith, fits c)
@@ -149,7 +149,7 @@ rule-of-requires c κs =
     let t = turn .before in
     asks (shape t) (octets t) (t .loop .from) (t .loop .at) (t .loop .k) (t .loop .count) (t .loop .prev-flags) (t .loop .inv)
     (turn .loop-test .taken) (long t) (t .before .before .record-size .ensures)
-    (entry t .pre) (read .read-header .result) (read .read-header .ensures) (sound read)
+    (entry t .pre .0) (read .read-header .result) (read .read-header .ensures) (sound read)
 
 -- from where a rule is told, where the header was read
 abbrev read-of : tie.After-rule-of Inv-loop μ-loop → tie.After-read-header Inv-loop μ-loop
@@ -164,7 +164,7 @@ broken-requires c κs =
     let turn = sound-turn (read-of told) in
     let t = turn .before in
     asks-behind (shape t) (octets t) (t .loop .from) (t .loop .at) (t .loop .k) (t .loop .count) (t .loop .prev-flags) (t .loop .inv)
-    (turn .loop-test .taken) (long t) (t .before .before .record-size .ensures) (entry t .pre) (t .before .must-be-zero .result) (t .before .must-be-zero .ensures)
+    (turn .loop-test .taken) (long t) (t .before .before .record-size .ensures) (entry t .pre .0) (t .before .must-be-zero .result) (t .before .must-be-zero .ensures)
 
 returns-2 : tie.Need-returns-2 Inv-loop μ-loop
 returns-2 c =

@@ -1,7 +1,6 @@
--- `stream_head::breaks` meets its contract: each word's test is the tests of its octets, and the last octet's that of the padding.
--- Assumes nothing.
+-- `stream_head::breaks` meets its contract: each word's test is the tests of its octets. Assumes nothing.
 use native.Mathlib.Omega.{arith}
-use Rattle.stream_head.proofs.ZeroBits.{breaks-low, breaks-high, breaks-last}
+use Rattle.stream_head.proofs.ZeroBits.{breaks-low, breaks-high}
 use borrow.Author.Needs.{needs}
 use Rattle.stream_head.proofs.masks.breaks.Statement.{statement}
 use Rattle.stream_head.proofs.masks.breaks.Tie as tie
@@ -14,43 +13,19 @@ returns c =
     let a = c .before .before .before .before .args in
     let octets = c .before .before .before .shared-slice-known .given in
     let low = c .before .before .load4 in
-    λ used s u n long e. breaks-low used s (a .rec .now) (a .z) u n long e (λ j. omega (arith, octets j)) (low .result) 0 (low .ensures) (c .if1 .taken)
+    λ used s u w e. breaks-low used s (a .rec .now) (a .z) u w e (λ j. omega (arith, octets j)) (low .result) 0 (low .ensures) (c .if1 .taken)
 
 load4-requires-2 : tie.Need-load4-requires-2
 load4-requires-2 c κs = search needs
 
 returns-2 : tie.Need-returns-2
 returns-2 c =
-    let a = c .before .before .before .before .before .before .before .args in
-    let octets = c .before .before .before .before .before .before .shared-slice-known .given in
-    let low = c .before .before .before .before .before .load4 in
-    let high = c .before .before .load42 in
-    λ used s u n long e. breaks-high used s (a .rec .now) (a .z) u n long e (λ j. omega (arith, octets j)) (low .result) (high .result)
-    (low .ensures) (high .ensures) (c .before .before .before .if1 .left) (c .if2 .taken)
-
-sub-result : tie.Need-sub-result
-sub-result c = search needs
-
-shared-slice-read-result : tie.Need-shared-slice-read-result
-shared-slice-read-result c = search needs
-
-returns-3 : tie.Need-returns-3
-returns-3 c =
-    let a = c .before .before .before .before .before .before .before .before .before .args in
-    let octets = c .before .before .before .before .before .before .before .before .shared-slice-known .given in
-    let low = c .before .before .before .before .before .before .before .load4 in
-    let high = c .before .before .before .before .load42 in
-    λ used s u n long e. breaks-last used s (a .rec .now) (a .z) u n long e (λ j. omega (arith, octets j)) (low .result) (high .result)
-    (low .ensures) (high .ensures) (c .before .before .before .before .before .if1 .left) (c .before .before .if2 .left)
+    let a = c .before .before .before .before .before .before .args in
+    let octets = c .before .before .before .before .before .shared-slice-known .given in
+    let low = c .before .before .before .before .load4 in
+    let high = c .before .load42 in
+    λ used s u w e. breaks-high used s (a .rec .now) (a .z) u w e (λ j. omega (arith, octets j)) (low .result) (high .result) (low .ensures)
+    (high .ensures) (c .before .before .if1 .left)
 
 pub breaks-spec : {M : Type 1} → statement M
-breaks-spec =
-    tie.close
-    (tie.spec
-    load4-requires
-    returns
-    load4-requires-2
-    returns-2
-    sub-result
-    shared-slice-read-result
-    returns-3)
+breaks-spec = tie.close (tie.spec load4-requires returns load4-requires-2 returns-2)

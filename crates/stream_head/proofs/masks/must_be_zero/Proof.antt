@@ -20,20 +20,13 @@ shl-t6 : tie.Need-shl-t6
 shl-t6 c = search needs
 
 sub-t7 : tie.Need-sub-t7
-sub-t7 c = rw (shifted (c .before .args .s .width) (c .before .pre .0 .width)) (pow-mono (c .before .pre .0 .width))
+sub-t7 c = rw (shifted (c .before .args .s .width) (c .before .pre .0)) (pow-mono (c .before .pre .0))
 
 mul-t8 : tie.Need-mul-t8
-mul-t8 c =
-    rw (shifted (c .before .args .s .width) (c .before .pre .0 .width)) (record { fits = omega (arith, pow-pos (c .before .args .s .width)) })
-
-padding-requires : tie.Need-padding-requires
-padding-requires c κs = search needs
+mul-t8 c = rw (shifted (c .before .args .s .width) (c .before .pre .0)) (record { fits = omega (arith, pow-pos (c .before .args .s .width)) })
 
 returns : tie.Need-returns
-returns c =
-    let a = c .before .before .args in
-    rw (shifted (a .used) (omega arith), shifted (a .s .width) (c .before .before .pre .0 .width), c .padding .ensures) refl
+returns c = rw (shifted (c .before .args .used) (omega arith), shifted (c .before .args .s .width) (c .before .pre .0)) refl
 
 pub must-be-zero-spec : {M : Type 1} → statement M
-must-be-zero-spec =
-    tie.close (tie.spec shl-t3 sub-t4 cast-t5 shl-t6 sub-t7 mul-t8 padding-requires returns)
+must-be-zero-spec = tie.close (tie.spec shl-t3 sub-t4 cast-t5 shl-t6 sub-t7 mul-t8 returns)

@@ -1,19 +1,19 @@
 -- `stream_record::find_fault` meets its contract. The loop's invariant: the first fault of the records left is the first of
 -- all. Assumes nothing.
-use mathlib.Core.Path.{refl}
 use Prim.Native.Nat.{_-_}
 use native.Mathlib.Omega.{arith}
 use borrow.Author.Needs.{needs}
 use lib.ListN.{length}
 use Rattle.stream_spec.proofs.Size.{size-pos}
+use Rattle.stream_spec.specs.Checks.{transferFaults}
 use Rattle.stream_spec.proofs.Passed.{passed-narrow}
-use Rattle.stream_spec.proofs.Walk.{left-start, record-fits, record-long}
-use Rattle.stream_record.proofs.RecordFaults.{Judging, judging-found, judging-next, judging-done}
+use Rattle.stream_spec.proofs.Walk.{record-fits, record-long}
+use Rattle.stream_record.proofs.RecordFaults.{Judging, judging-starts, judging-found, judging-next, judging-done}
 use Rattle.stream_record.proofs.faults.find_fault.Statement.{statement}
 use Rattle.stream_record.proofs.faults.find_fault.Tie as tie
 
 abbrev Inv-loop : tie.InvT-loop
-Inv-loop s transfers z at₀ k₀ at k = Judging s transfers at k
+Inv-loop s transfers z at₀ k₀ at k = Judging (transferFaults s) s transfers at k
 
 abbrev μ-loop : tie.MeasureT-loop
 μ-loop s transfers z at₀ k₀ at k = length transfers - at
@@ -24,7 +24,7 @@ record-size-requires c κs = passed-narrow (c .before .args .s) (c .before .args
 loop-holds : tie.Need-loop-holds Inv-loop μ-loop
 loop-holds c =
     let a = c .before .before .args in
-    record { left = left-start (a .s) (a .transfers .now) (c .before .before .pre .whole); few = omega arith; faults = refl }
+    judging-starts (transferFaults (a .s)) (a .s) (a .transfers .now) (c .before .before .pre .whole)
 
 add-e : tie.Need-add-e Inv-loop μ-loop
 add-e c =
@@ -71,7 +71,7 @@ returns c =
     let z = c .before .before .before .before .before .before .before .record-size in
     let r = c .before .before .before .record-fault in
     let f = c .before .f .given in
-    judging-found (a .s) (a .transfers .now) (l .at) (l .k) (l .inv) (c .before .before .before .before .before .loop-test .taken) (z .result) (z .ensures)
+    judging-found (transferFaults (a .s)) (a .s) (a .transfers .now) (l .at) (l .k) (l .inv) (c .before .before .before .before .before .loop-test .taken) (z .result) (z .ensures)
     (r .result) (f .0 .0) (r .ensures) (f .1)
 
 enum-told : tie.Need-enum-told Inv-loop μ-loop
@@ -95,14 +95,14 @@ loop-again c =
     let l = c .before .before .before .before .before .loop in
     let z = c .before .before .before .before .before .before .record-size in
     let r = c .before .before .record-fault in
-    judging-next (a .s) (a .transfers .now) (l .at) (l .k) (l .inv) (c .before .before .before .before .loop-test .taken) (z .result) (z .ensures)
+    judging-next (transferFaults (a .s)) (a .s) (a .transfers .now) (l .at) (l .k) (l .inv) (c .before .before .before .before .loop-test .taken) (z .result) (z .ensures)
     (r .result) (r .ensures) (c .enum-told .given .1)
 
 returns-2 : tie.Need-returns-2 Inv-loop μ-loop
 returns-2 c =
     let a = c .before .before .before .before .args in
     let l = c .before .loop in
-    judging-done (a .s) (a .transfers .now) (l .at) (l .k) (l .inv) (c .loop-test .left)
+    judging-done (transferFaults (a .s)) (a .s) (a .transfers .now) (l .at) (l .k) (l .inv) (c .loop-test .left)
 
 pub find-fault-spec : {M : Type 1} → statement M
 find-fault-spec =
