@@ -206,12 +206,12 @@ fn find_field(s: Shape, capture: &[u8]) -> Checked
     ensures { λ r. ⌜ checkedOf r ≡ first (cycleChecks s 0 (records s (now (capture .entry)))) ⌝ }
 {
     let size = stream_record::record_size(s);
-    let z = stream_head::must_be_zero(CYCLE_FLAGS, s);
+    let zeros = stream_head::must_be_zero(CYCLE_FLAGS, s);
     let mut at = 0;
     let mut k = 0;
     while at < capture.len() {
         let next = at + size;
-        match cycle_fault(s, z, &capture[at..next], k) {
+        match cycle_fault(s, zeros, &capture[at..next], k) {
             Checked::Refused(why) => {
                 return Checked::Refused(why);
             }
@@ -273,7 +273,7 @@ fn judge_passed(s: Shape, capture: &[u8]) -> Verdict
     ensures { λ r. ⌜ r ≡ verdictFrom s none 0 (records s (now (capture .entry))) 0 ⌝ }
 {
     match find_padding(s, capture) {
-        Checked::Refused(why) => Verdict::Refused(why),
+        Checked::Refused(field) => Verdict::Refused(field),
         Checked::Passed => judge_cycles(s, capture),
     }
 }

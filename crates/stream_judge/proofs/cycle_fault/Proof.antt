@@ -1,6 +1,5 @@
 -- `stream_judge::cycle_fault` meets its contract: the head, then the padding. Assumes nothing.
 use mathlib.Core.Path.{_≡_}
-use mathlib.Core.Bool.{Bool}
 use native.Mathlib.Omega.{arith}
 use Rattle.stream_spec.specs.Checks.{cycleFlags}
 use Rattle.stream_spec.proofs.Size.{size-holds}

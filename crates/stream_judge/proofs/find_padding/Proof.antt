@@ -1,16 +1,9 @@
 -- `stream_judge::find_padding` meets its contract: no padding, or the first bad field. Assumes nothing.
-use mathlib.Core.Path.{_≡_, sym, _∙_}
-use mathlib.Core.List.{List}
-use mathlib.Core.Option.{Option, none, some}
+use mathlib.Core.Path.{sym, _∙_}
 use native.Mathlib.Omega.{arith}
-use Rattle.refusal.specs.declared.Refusal.{Refusal}
-use Rattle.refusal.specs.Checks.{first}
-use Rattle.stream_spec.specs.declared.Shape.{Shape}
 use Rattle.stream_spec.specs.Layout.{size, records, recordCount}
-use Rattle.stream_spec.specs.Checks.{cycleChecks}
 use Rattle.stream_spec.proofs.Passed.{passed-narrow}
 use Rattle.stream_spec.proofs.Legal.{octets-of, pieces-octets}
-use Rattle.stream_judge.specs.Scan.{Padding}
 use Rattle.stream_judge.proofs.Turns.{full-unpadded, told-padding}
 use borrow.Author.Needs.{needs}
 use Rattle.stream_judge.proofs.find_padding.Statement.{statement}

@@ -8,8 +8,8 @@ use Rattle.stream_judge.proofs.judge_passed.Tie as tie
 find-padding-requires : tie.Need-find-padding-requires
 find-padding-requires c κs = search needs
 
-enum-known-why : tie.Need-enum-known-why
-enum-known-why c = search needs
+enum-known-field : tie.Need-enum-known-field
+enum-known-field c = search needs
 
 enum-told : tie.Need-enum-told
 enum-told c = search needs
@@ -25,7 +25,7 @@ returns : tie.Need-returns
 returns c =
     let found = c .before .before .before .find-padding in
     let a = c .before .before .before .before .before .args in
-    let f = c .before .why .given in
+    let f = c .before .field .given in
     field-refused (a .s) (records (a .s) (a .capture .now)) (f .0 .0)
     (padding-refused (a .s) (records (a .s) (a .capture .now)) (found .result) (found .ensures) (f .0 .0) (f .1))
 
@@ -37,7 +37,7 @@ judge-passed-spec =
     tie.close
     (tie.spec
     find-padding-requires
-    enum-known-why
+    enum-known-field
     enum-told
     judge-cycles-requires
     returns
