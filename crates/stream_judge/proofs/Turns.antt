@@ -39,7 +39,7 @@ use Rattle.stream_record.specs.Header.{headerOf, headerFault}
 use Rattle.stream_record.specs.Checked.{checkedOf}
 use Rattle.stream_head.specs.Zeros.{zerosOf, TellsFault}
 use Rattle.stream_record.proofs.Tests.{refused-front, passed-front}
-use Rattle.stream_judge.specs.Scan.{Unpadded, Padding, transfersBy, beforeOf, flagsBefore, lowestRule, CycleAt, verdictFrom, Turning, verdictBehind, Behind, Looking}
+use Rattle.stream_judge.specs.Scan.{Unpadded, transfersBy, beforeOf, flagsBefore, lowestRule, CycleAt, verdictFrom, Turning, verdictBehind, Behind, Looking}
 
 -- ---- one cycle more of a verdict
 
@@ -269,18 +269,6 @@ module _ (s : Shape) (r : List ℕ) (k : ℕ) {a : Bool} (head : a ≡ headerFau
 
     pub cycle-sound : a ≡ false → b ≡ false → none ≡ first (cycleFaults s k r)
     cycle-sound e f = rw (sym head ∙ e, sym pad ∙ f) refl
-
--- what was told, of an answer in code
-module _ (s : Shape) (rs : List (List ℕ)) where
-  pub told-padding : (r : Checked) → checkedOf r ≡ first (cycleChecks s 0 rs) → Padding s rs (checkedOf r)
-  told-padding Yes e = found-unpadded s 0 rs (sym e)
-  told-padding (Not f) e = sym e
-
-  pub padding-passed : (r : Checked) → Padding s rs (checkedOf r) → r ≡ Yes → Unpadded s rs
-  padding-passed r p e = rw e at p
-
-  pub padding-refused : (r : Checked) → Padding s rs (checkedOf r) → (f : Refusal) → r ≡ Not f → first (cycleChecks s 0 rs) ≡ some f
-  padding-refused r p f e = rw e at p
 
 -- a bad field is the verdict
 pub field-refused : (s : Shape) (rs : List (List ℕ)) (f : Refusal) → first (cycleChecks s 0 rs) ≡ some f → Refused f ≡ verdictFrom s none 0 rs 0

@@ -6,7 +6,6 @@ use mathlib.Core.Option.{Option, none, some}
 use Prim.Native.Nat.{ℕ, _+_, _-_, _^_, _≤_, _<_}
 use mathlib.Core.Path.{_≡_}
 use lib.ListN.{length, take, drop}
-use Rattle.refusal.specs.declared.Refusal.{Refusal}
 use Rattle.refusal.specs.Checks.{first}
 use Rattle.stream_spec.specs.declared.Shape.{Shape}
 use Rattle.stream_spec.specs.declared.Verdict.{Verdict}
@@ -26,11 +25,6 @@ use Rattle.stream_head.specs.Zeros.{zerosOf}
 abbrev pub Unpadded : Shape → List (List ℕ) → Type 0
 Unpadded s [] = Unit {0}
 Unpadded s (r ∷ rs) = (userFault s r ≡ false) × Unpadded s rs
-
--- what looking for it tells: a refusal is the first bad field of all, and else no padding is set
-abbrev pub Padding : Shape → List (List ℕ) → Option Refusal → Type 0
-Padding s rs none = Unpadded s rs
-Padding s rs (some f) = first (cycleChecks s 0 rs) ≡ some f
 
 -- ---- one cycle
 

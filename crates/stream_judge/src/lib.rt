@@ -27,7 +27,7 @@ ghost use Rattle.stream_spec.specs.Walk.{Narrow, Passed};
 ghost use Rattle.refusal.specs.Checks.{first};
 ghost use Rattle.stream_record.specs.Checked.{checkedOf};
 ghost use Rattle.stream_head.specs.Zeros.{zerosOf};
-ghost use Rattle.stream_judge.specs.Scan.{Unpadded, Padding, waitsBy, transfersBy, Alike, beforeOf, lowestRule, CycleAt};
+ghost use Rattle.stream_judge.specs.Scan.{Unpadded, waitsBy, transfersBy, Alike, beforeOf, lowestRule, CycleAt};
 ghost use Rattle.stream_judge.specs.Scan.{verdictFrom, Behind, verdictBehind};
 
 // Whether some of the four octets from octet i on differ between two records.
@@ -223,17 +223,6 @@ fn find_field(s: Shape, capture: &[u8]) -> Checked
     Checked::Passed
 }
 
-// The same, but of records without padding nothing is looked at.
-fn find_padding(s: Shape, capture: &[u8]) -> Checked
-    requires { ⌜ Passed s (now capture) ⌝ }
-    ensures { λ r. ⌜ Padding s (records s (now (capture .entry))) (checkedOf r) ⌝ }
-{
-    if stream_record::user_rest(s) == 0 {
-        return Checked::Passed;
-    }
-    find_field(s, capture)
-}
-
 // Judges the cycles of a take whose width and length have passed their tests, the first as if behind an idle cycle. No padding
 // is set in it.
 fn judge_cycles(s: Shape, capture: &[u8]) -> Verdict
@@ -272,7 +261,10 @@ fn judge_passed(s: Shape, capture: &[u8]) -> Verdict
     requires { ⌜ Passed s (now capture) ⌝ }
     ensures { λ r. ⌜ r ≡ verdictFrom s none 0 (records s (now (capture .entry))) 0 ⌝ }
 {
-    match find_padding(s, capture) {
+    if stream_record::user_rest(s) == 0 {
+        return judge_cycles(s, capture);
+    }
+    match find_field(s, capture) {
         Checked::Refused(field) => Verdict::Refused(field),
         Checked::Passed => judge_cycles(s, capture),
     }
