@@ -1,79 +1,48 @@
 -- One record's octets: what the items' codes say of its lanes and masks. Assumes nothing.
 use mathlib.Core.Path.{_≡_, refl, sym, ap, _∙_}
-use mathlib.Core.Bool.{Bool, true, false, cond}
+use mathlib.Core.Bool.{Bool}
 use mathlib.Core.List.{List, [], _∷_, _++_, map}
 use mathlib.Core.Option.{some}
 use Prim.Native.Nat.{ℕ, zero, suc, _+_, _-_, _*_, _/_, _%_, _^_, _≤_, _<_}
 use native.Mathlib.Nat.{pow-suc, mul-one}
 use native.Mathlib.Omega.{arith}
-use borrow.Author.Tests.{eqb-true, eqb-false}
-use lib.Dec.{eqb}
 use lib.Pow.{pow-pos, pow-mono}
 use lib.ListN.{length, getD, take, drop, replicate, length-map}
 use lib.Seq.{slice, slice-cons, length-slice}
 use Rattle.stream_spec.specs.Packed.{fitted}
-use Rattle.stream_spec.specs.Layout.{bitOf, maskOf, Kept, octet, position, keepBit, strbBit, laneOctet}
+use Rattle.stream_spec.specs.Layout.{bitOf, maskOf, keepBit, strbBit, laneOctet}
 use Rattle.stream_spec.proofs.Bits.{mask-fits}
 use Rattle.words.specs.Words.{padded}
 use Rattle.repack_scratch.specs.Codes.{dataCode, heldCode, heldCodes, keptOf}
 use Rattle.repack_scratch.proofs.Held.{length-held}
+use Rattle.repack_scratch.proofs.Fitted.{octet-is, strobe-is, fitted-octets, fitted-strb, fitted-keep}
 use Rattle.repack_plain.specs.Write.{itemOctet, itemStrobe}
-
--- ---- an item
-
-pub octet-is : (x : ℕ) → x % 256 * (x / 256 % 2) ≡ itemOctet x
-unfolding keptOf
-octet-is x = go (eqb (x / 256 % 2) 1) refl
-  where
-    go : (b : Bool) → eqb (x / 256 % 2) 1 ≡ b → x % 256 * (x / 256 % 2) ≡ laneOctet (some (cond (eqb (x / 256 % 2) 1) (octet (x % 256) (x / 512)) (position (x / 512))))
-    go true e = rw e (let one : x / 256 % 2 ≡ 1 = eqb-true (x / 256 % 2) 1 e in rw one (omega arith))
-    go false e =
-        rw e
-        (let low : x / 256 % 2 ≡ 1 → ⊥ = eqb-false (x / 256 % 2) 1 e in
-        let zero : x / 256 % 2 ≡ 0 = omega arith in
-        rw zero (omega arith))
-
-pub strobe-is : (x : ℕ) → x / 256 % 2 ≡ bitOf (itemStrobe x)
-unfolding keptOf
-strobe-is x = go (eqb (x / 256 % 2) 1) refl
-  where
-    go : (b : Bool) → eqb (x / 256 % 2) 1 ≡ b → x / 256 % 2 ≡ bitOf (strbBit (some (cond (eqb (x / 256 % 2) 1) (octet (x % 256) (x / 512)) (position (x / 512)))))
-    go true e = rw e (eqb-true (x / 256 % 2) 1 e)
-    go false e = rw e (let low : x / 256 % 2 ≡ 1 → ⊥ = eqb-false (x / 256 % 2) 1 e in omega arith)
 
 -- ---- the lanes of a record: its items, then nulls
 
-nulls-octets : (v : ℕ) → map laneOctet (fitted v []) ≡ replicate {A = ℕ} v 0
-nulls-octets zero = refl
-nulls-octets (suc v) = ap {B = List ℕ} (λ l. 0 ∷ l) (nulls-octets v)
+items-long : (xs : List ℕ) → length (map some (map keptOf xs)) ≡ length xs
+items-long xs = length-map (map keptOf xs) some ∙ length-map xs keptOf
 
-nulls-strb : (v : ℕ) → maskOf (map strbBit (fitted v [])) ≡ 0
-nulls-strb zero = refl
-nulls-strb (suc v) = rw (nulls-strb v) refl
+items-octets : (xs : List ℕ) → map laneOctet (map some (map keptOf xs)) ≡ map itemOctet xs
+items-octets [] = refl
+items-octets (x ∷ xs) = ap {B = List ℕ} (λ l. itemOctet x ∷ l) (items-octets xs)
 
-nulls-keep : (v : ℕ) → maskOf (map keepBit (fitted {A = Kept} v [])) ≡ 0
-nulls-keep zero = refl
-nulls-keep (suc v) = rw (nulls-keep v) refl
+items-strobes : (xs : List ℕ) → map strbBit (map some (map keptOf xs)) ≡ map itemStrobe xs
+items-strobes [] = refl
+items-strobes (x ∷ xs) = ap {B = List Bool} (λ l. itemStrobe x ∷ l) (items-strobes xs)
 
 pub lanes-octets : (v : ℕ) (xs : List ℕ) → length xs ≤ v
     → map laneOctet (fitted v (map some (map keptOf xs))) ≡ map itemOctet xs ++ replicate {A = ℕ} (v - length xs) 0
-lanes-octets v [] h = nulls-octets v ∙ (let all : v - 0 ≡ v = omega arith in rw all refl)
-lanes-octets zero (x ∷ xs) h = absurd (omega arith)
-lanes-octets (suc v) (x ∷ xs) h =
-    let one : suc v - suc (length xs) ≡ v - length xs = omega arith in
-    rw one (ap {B = List ℕ} (λ l. itemOctet x ∷ l) (lanes-octets v xs (omega arith)))
+lanes-octets v xs h = fitted-octets v (map some (map keptOf xs)) (omega (arith, items-long xs)) ∙ rw (items-octets xs, items-long xs) refl
 
 pub lanes-strb : (v : ℕ) (xs : List ℕ) → length xs ≤ v
     → maskOf (map strbBit (fitted v (map some (map keptOf xs)))) ≡ maskOf (map itemStrobe xs)
-lanes-strb v [] h = nulls-strb v
-lanes-strb zero (x ∷ xs) h = absurd (omega arith)
-lanes-strb (suc v) (x ∷ xs) h = rw (lanes-strb v xs (omega arith)) refl
+lanes-strb v xs h = fitted-strb v (map some (map keptOf xs)) (omega (arith, items-long xs)) ∙ ap maskOf (items-strobes xs)
 
 pub lanes-keep : (v : ℕ) (xs : List ℕ) → length xs ≤ v
     → maskOf (map keepBit (fitted v (map some (map keptOf xs)))) ≡ 2 ^ length xs - 1
-lanes-keep v [] h = nulls-keep v
-lanes-keep zero (x ∷ xs) h = absurd (omega arith)
-lanes-keep (suc v) (x ∷ xs) h = rw (lanes-keep v xs (omega arith)) (omega (arith, pow-suc 2 (length xs), pow-pos (length xs)))
+lanes-keep v xs h =
+    fitted-keep v (map keptOf xs) (omega (arith, length-map xs keptOf)) ∙ ap (λ (n : ℕ). 2 ^ n - 1) (length-map xs keptOf)
 
 -- TSTRB has a bit for each item
 pub strb-fits : (xs : List ℕ) → maskOf (map itemStrobe xs) < 2 ^ length xs

@@ -1,4 +1,5 @@
 pub mod Codes
 pub mod Held
+pub mod Fitted
 pub mod Marks
 pub mod Stands

@@ -3,9 +3,9 @@
 use mathlib.Core.Path.{_≡_, refl, sym, ap, _∙_}
 use mathlib.Core.List.{List, [], _∷_, _++_}
 use Prim.Native.Nat.{ℕ, zero, suc, _+_, _-_, _*_, _/_, _%_, _^_, _≤_, _<_}
-use native.Mathlib.Nat.{pow-suc, mul-assoc, mul-comm, one-mul, mod-eq-of-lt}
+use native.Mathlib.Nat.{pow-suc, mul-assoc, mul-comm}
 use native.Mathlib.Omega.{arith}
-use lib.Pow.{pow-lt, shr-shr}
+use lib.Pow.{shr-shr}
 use lib.ListN.{length, getD, set, replicate, length-append, length-replicate, List·getD-append}
 use lib.Seq.{getD-append-add}
 use Rattle.repack_scratch.specs.Codes.{bitsOf, markBits, Unmarked}
@@ -51,10 +51,6 @@ bit-fits (suc k) zero x m h l b e = omega (arith, pow-suc 2 k)
 bit-fits (suc k) (suc j) x m h l b e =
     let clear : x / 2 / 2 ^ j % 2 ≡ 0 = ap (λ (y : ℕ). y % 2) (shr-shr x 1 j) ∙ ap (λ (i : ℕ). x / 2 ^ i % 2) (omega arith) ∙ e in
     omega (arith, pow-suc 2 k, doubled m j, bit-fits k j (x / 2) m (omega arith) l (omega (arith, pow-suc 2 k)) clear)
-
--- a one shifted to a place of an octet
-pub shifted-octet : (i : ℕ) → i < 8 → 1 * 2 ^ i % 256 ≡ 2 ^ i
-shifted-octet i h = rw (one-mul (2 ^ i)) (mod-eq-of-lt (pow-lt {j = 8} h))
 
 -- ---- two lists joined
 

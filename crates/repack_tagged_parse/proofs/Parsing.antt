@@ -16,7 +16,7 @@ use Rattle.stream_record.specs.declared.Header.{Header}
 use Rattle.repack_scratch.specs.declared.Open.{Open}
 use Rattle.repack_scratch.specs.Codes.{itemRoom, stretchRoom, tagged, pairCode}
 use Rattle.repack_scratch.specs.Stands.{keptAt}
-use Rattle.repack_tags.specs.Tags.{Gathered}
+use Rattle.repack_tags.specs.Tags.{GatheredTags}
 use Rattle.repack_parse.specs.Read.{Turned, Ended, Carries, Added, Ready, FinishIs}
 use Rattle.repack_parse.specs.Reading.{recordFrom, Reading, StandsAt}
 use Rattle.repack_parse.proofs.Records.{added-codes, lane-count, tagged-lanes}
@@ -31,11 +31,11 @@ module _ (s : Shape) (rec items table table1 : List ℕ) (h : Header) (st o : Op
     (carries : Carries s rec h) (ready : Ready s items table st) (p : ℕ) (pe : p ≡ pairCode (h .tid) (h .tdest))
     (turned : Turned p table st table1 o) (lanes : List ℕ) (le : lanes ≡ dataOctets s rec) where
   pub added-tagged : (items1 table2 : List ℕ) (r : Open) (n u : ℕ) → u ≡ userNumber s rec
-      → Gathered (s .user) (h .keep) (h .strb) u lanes items (o .items) items1 n → Ended (h .flags) table1 (keptAt o n) table2 r
+      → GatheredTags (s .user) (h .keep) (h .strb) u lanes items (o .items) items1 n → Ended (h .flags) table1 (keptAt o n) table2 r
       → Added s rec items table st items1 table2 r
   added-tagged items1 table2 r n u ue gathered ended =
       let count : length lanes ≡ s .width = lane-count s rec items table table1 h st o byte-at carries ready p pe turned lanes le in
-      let g : Gathered (s .user) (h .keep) (h .strb) (userNumber s rec) lanes items (o .items) items1 n = rw ue at gathered in
+      let g : GatheredTags (s .user) (h .keep) (h .strb) (userNumber s rec) lanes items (o .items) items1 n = rw ue at gathered in
       added-codes s rec items table table1 h st o byte-at carries ready p pe turned
       (tagged (s .user) (s .width) (h .keep) (h .strb) (userNumber s rec) lanes) items items1 table2 r n refl
       (tagged-lanes s rec items table table1 h st o byte-at carries ready p pe turned lanes le)

@@ -26,7 +26,8 @@ use Rattle.stream_write.proofs.Fill.{fill-down}
 use Rattle.repack_scratch.specs.Codes.{keptOf, pairFrom}
 use Rattle.repack_tags.specs.declared.Tags.{Tags}
 use Rattle.repack_tags.specs.Tags.{TagsFit, tagsOf}
-use Rattle.repack_tags.proofs.Lanes.{octet-is, strobe-is, user-is, lanes-fit, fit-drop, fitted-octets, fitted-strb, fitted-users, fitted-keep}
+use Rattle.repack_scratch.proofs.Fitted.{octet-is, strobe-is, user-is, fitted-octets, fitted-strb, fitted-users, fitted-keep}
+use Rattle.repack_tags.proofs.Lanes.{lanes-fit, fit-drop}
 
 -- ---- item by item, from the last one down
 

@@ -12,7 +12,7 @@ use lib.Pow.{pow-pos, pow-mono}
 use lib.ListN.{length, getD, take, drop, set, length-set}
 use lib.Seq.{take-suc-set, take-set-le, getD-drop, drop-drop}
 use Rattle.repack_scratch.specs.Codes.{taggedCode, tagged}
-use Rattle.repack_tags.specs.Tags.{Gathered}
+use Rattle.repack_tags.specs.Tags.{GatheredTags}
 
 -- ---- the user bits of a lane
 
@@ -106,7 +106,7 @@ module _ (m keep strb user : ℕ) (lanes before : List ℕ) (at : ℕ) where
         }
 
     -- no lane is left
-    pub sifting-done : length lanes ≤ j → Gathered m keep strb user lanes before at items n
+    pub sifting-done : length lanes ≤ j → GatheredTags m keep strb user lanes before at items n
     sifting-done h =
         let none : length lanes - j ≡ 0 = omega arith in
         record {

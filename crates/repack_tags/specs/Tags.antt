@@ -1,21 +1,19 @@
 -- Items with user bits: what is gathered of one record's lanes, and what is written of one record.
-use mathlib.Core.Path.{_≡_}
-use mathlib.Core.List.{List, [], _∷_, _++_, map}
+use mathlib.Core.List.{List, [], _∷_, map}
 use mathlib.Core.Option.{Option, some}
 use Prim.Native.Nat.{ℕ, _+_, _/_, _^_, _≤_, _<_}
 use lib.ListN.{length, take, drop}
 use Rattle.stream_spec.specs.Layout.{maskOf, Kept, strbBit, usersOf}
 use Rattle.repack_scratch.specs.Codes.{keptOf, tagged}
+use Rattle.repack_scratch.specs.Stands.{Gathered}
 use Rattle.repack_tags.specs.declared.Tags.{Tags}
 
 -- ---- reading
 
--- the codes of a record's kept lanes stand behind those before them, up to place r
-pub record Gathered (m keep strb user : ℕ) (lanes items : List ℕ) (at : ℕ) (after : List ℕ) (r : ℕ) : Type 0 where
-  pub same : length after ≡ length items
-  pub beyond : at ≤ r
-  pub within : r ≤ at + length lanes
-  pub is : take r after ≡ take at items ++ tagged m (length lanes) keep strb user lanes
+-- the codes of a record's kept lanes with their user bits stand behind those before them, up to place r
+abbrev pub GatheredTags : ℕ → ℕ → ℕ → ℕ → List ℕ → List ℕ → ℕ → List ℕ → ℕ → Type 0
+GatheredTags m keep strb user lanes items at after r =
+    Gathered (length lanes) (tagged m (length lanes) keep strb user lanes) items at after r
 
 -- ---- writing
 

@@ -9,7 +9,7 @@ ghost use Rattle.words.specs.Splice.{splice};
 ghost use Rattle.stream_spec.specs.Layout.{headOctets, size, shaped, odd, laneOctet, octetsOf};
 ghost use Rattle.stream_spec.specs.Packed.{fitted};
 ghost use Rattle.repack_scratch.specs.Codes.{taggedCode, pairFrom};
-ghost use Rattle.repack_tags.specs.Tags.{Gathered, TagsFit, itemLanes, tagsOf, RecordFits};
+ghost use Rattle.repack_tags.specs.Tags.{GatheredTags, TagsFit, itemLanes, tagsOf, RecordFits};
 
 // TSTRB and the user bits of a record's lanes, lane 0's bits the lowest.
 pub struct Tags {
@@ -40,7 +40,7 @@ pub fn sift_tagged(
     m: usize,
 ) -> usize
     requires { ⌜ (m ≤ 4) × (at + length (now lanes) ≤ length (now items)) ⌝ }
-    ensures { λ r. ⌜ Gathered m keep strb user (now (lanes .entry)) (now (items .entry)) at (now (items .exit)) r ⌝ }
+    ensures { λ r. ⌜ GatheredTags m keep strb user (now (lanes .entry)) (now (items .entry)) at (now (items .exit)) r ⌝ }
 {
     let mut n = at;
     let mut k = keep;

@@ -1,6 +1,7 @@
 -- `repack_gather::add_mark` meets its contract: no bit is carried. Assumes nothing.
 use mathlib.Core.Path.{refl}
-use Rattle.repack_scratch.proofs.Marks.{bit-fits, shifted-octet}
+use Rattle.repack_scratch.proofs.Marks.{bit-fits}
+use Rattle.stream_record.proofs.Padding.{shifted-octet}
 use Rattle.repack_gather.proofs.Marked.{mark-shifted}
 use borrow.Author.Needs.{needs}
 use Rattle.repack_gather.proofs.add_mark.Statement.{statement}

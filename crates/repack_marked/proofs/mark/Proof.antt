@@ -3,7 +3,8 @@ use mathlib.Core.Path.{_≡_, sym}
 use Prim.Native.Nat.{_*_, _%_, _^_}
 use native.Mathlib.Omega.{arith}
 use lib.Pow.{pow-pos}
-use Rattle.repack_scratch.proofs.Marks.{mark-at, shifted-octet}
+use Rattle.repack_scratch.proofs.Marks.{mark-at}
+use Rattle.stream_record.proofs.Padding.{shifted-octet}
 use borrow.Author.Needs.{needs}
 use Rattle.repack_marked.proofs.mark.Statement.{statement}
 use Rattle.repack_marked.proofs.mark.Tie as tie
