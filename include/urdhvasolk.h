@@ -10,7 +10,7 @@
  *     its length is 0;
  *   - `out` and `text` share no octet with each other, nor with the input of the same call;
  *   - nothing else writes those octets until the call has returned. Calls on other octets may run at the same time;
- *   - so much stack is free: 264 KB for urd_report, 136 KB for urd_repack, 2 KB for any other call. (tests/bindings
+ *   - so much stack is free: 260 KB for urd_report, 132 KB for urd_repack, 2 KB for any other call. (tests/bindings
  *     measures each of them; here they use 256.1, 127.8 and at most 1.2 KB, most of it arrays.)
  *
  * Octets. A capture (paper 01: a take) is records of 7 + width + width * user / 8 octets, the last number rounded up, width being
