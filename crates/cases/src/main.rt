@@ -13,8 +13,10 @@ fn main() {
     streams::resets();
     streams::levels();
     streams::bounds();
+    streams::fields();
     streams::user_bits();
     streams::user_bounds();
+    streams::user_takes();
     bursts::beats();
     bursts::wrap();
     bursts::boundary();

@@ -191,7 +191,7 @@ pub fn levels() {
     fill_in(17, 0, 0xEE, HIGH);
 }
 
-// A take of 65,536 octets at widths 1 and 9, and one record more; widths 0, 16 and 17; each field's bound.
+// A take of 65,536 octets at widths 1 and 9, and one record more.
 pub fn bounds() {
     let long = [0u8; 65552];
     judge(b"TAKE", 1, 0, &long[..65536]);
@@ -199,6 +199,10 @@ pub fn bounds() {
     judge(b"TAKE", 1, 0, &long[..65544]);
     judge(b"TAKE", 9, 0, &long[..65552]);
     judge(b"TAKE", 1, 0, &long[..65535]);
+}
+
+// Widths 0, 16 and 17; each field's bound.
+pub fn fields() {
     judge(b"WIDTH", 0, 0, b"");
     judge(b"WIDTH", 16, 0, b"");
     judge(b"WIDTH", 17, 0, b"");
@@ -246,10 +250,8 @@ pub fn user_bits() {
     );
 }
 
-// T-06: m of 4 and 5; 1 before 16, and 16 before 6; the bits of a null lane are free, the padding is not; a take of 65,536 octets at
-// width 8 with one user bit, and one record more.
+// T-06: m of 4 and 5; 1 before 16, and 16 before 6.
 pub fn user_bounds() {
-    let long = [0u8; 65552];
     judge(b"USER", 16, 4, b"");
     judge(b"USER", 16, 5, b"");
     judge(b"USER", 17, 5, b"");
@@ -257,6 +259,12 @@ pub fn user_bounds() {
     repack_to(b"USER", 1, 5, 16, b"\x00");
     downsize_to(b"USER", 4, 5, 3, b"");
     fill_in(4, 5, 0xEE, HIGH);
+}
+
+// T-06: the bits of a null lane are free, the padding is not; a take of 65,536 octets at width 8 with one user bit, and one record
+// more.
+pub fn user_takes() {
+    let long = [0u8; 65552];
     judge(b"USER", 1, 1, b"\x08\x00\x00\x00\x00\x00\x00\x00\x01");
     judge(b"USER", 1, 1, b"\x08\x00\x00\x00\x00\x00\x00\x00\x02");
     judge(b"TAKE", 8, 1, &long[..65536]);
