@@ -132,7 +132,7 @@ urd_write_answer urd_judge_writes(uint32_t start, uint32_t len, uint32_t size, u
 /* ---- streams ---- */
 
 /* width and user say what a record is, above; urd_repack and urd_downsize read and write records of the same user. The number `user`
- * is there since T-06: a program compiled before passes its other numbers in the wrong places, so compile it anew, with user 0. */
+ * is there since T-06: what a program compiled before asks is refused with 1 or 16, so compile it anew, with user 0. */
 
 /* What a stream call answers. */
 typedef struct urd_stream_answer {

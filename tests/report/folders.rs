@@ -365,10 +365,11 @@ fn rooms(m: &mut Maker) {
 
 /// The most transfers whose records fit where each is a packet of its own, and one more, with each word; all data, and all
 /// null. At width 16 a record has 23 octets, at 9 it has 16, and from 16 lanes to 3 a transfer has six records of 10 each.
-/// With user bits a record of one lane has 9 octets, of eight lanes with one bit 16, and of sixteen with four 31.
+/// With user bits a record of one lane has 9 octets: 7,281 fit, by threes, and by twos 7,282 do not. One of eight lanes with one
+/// bit has 16, of sixteen with four 31.
 fn rooms_of_words(m: &mut Maker) {
     for (w, v, user, most) in [(1, 16, 0, 2_849), (1, 9, 0, 4_096), (8, 9, 0, 4_096), (16, 3, 0, 1_092), (5, 2, 0, 2_427),
-        (3, 1, 1, 2_427), (1, 8, 1, 4_096), (1, 7, 2, 4_096), (1, 6, 3, 4_096), (1, 16, 4, 2_114)] {
+        (3, 1, 1, 2_427), (2, 1, 1, 3_640), (1, 8, 1, 4_096), (1, 7, 2, 4_096), (1, 6, 3, 4_096), (1, 16, 4, 2_114)] {
         for (n, null) in [(most, false), (most + 1, false), (most, true), (most + 1, true)] {
             for (tlast, last) in [("wired", false), ("wired", true), ("none", false), ("low", true)] {
                 let mut take = full(&mut m.r, w, user, n, last);

@@ -33,11 +33,13 @@ fn first_other(a: &[u8], b: &[u8]) -> isize {
     a.iter().zip(b).take_while(|(x, y)| x == y).count() as isize - GUARD as isize
 }
 
-fn note(t: &mut Tally, call: &str, a: StreamAnswer) {
+/// With 1 to 4 user bits a verdict is another one than without.
+fn note(t: &mut Tally, call: &str, m: usize, a: StreamAnswer) {
+    let with = if (1..=4).contains(&m) { WITH_USER_BITS } else { "" };
     t.verdict(match (a.refusal, a.rule) {
-        (0, 0) => format!("{call} accepted"),
-        (0, rule) => format!("{call} broken rule {rule}"),
-        (n, _) => format!("{call} refusal {n}"),
+        (0, 0) => format!("{call} accepted{with}"),
+        (0, rule) => format!("{call} broken rule {rule}{with}"),
+        (n, _) => format!("{call} refusal {n}{with}"),
     });
 }
 
@@ -50,7 +52,7 @@ pub fn write_into(t: &mut Tally, c: &Writer, w: usize, m: usize, v: usize, input
     let kept = input.to_vec();
     let answer = (c.library)(w, m, v, input, &mut lent[GUARD..GUARD + room]);
     let expected = (c.model)(w, m, v, &kept, &mut modelled[GUARD..GUARD + room]);
-    note(t, c.name, expected);
+    note(t, c.name, m, expected);
     let inputs = || format!("{} {w} to {v}, user bits {m}, room {room}, input {}", c.name, show(&kept));
     t.same(answer, expected, inputs);
     t.check(lent == modelled, || format!("{}\n    first other octet {}\n    library  {}\n    expected {}", inputs(), first_other(&lent, &modelled), show(&lent), show(&modelled)));
@@ -70,7 +72,7 @@ pub fn write_all(t: &mut Tally, c: &Writer, w: usize, m: usize, v: usize, input:
 pub fn compare_judge(t: &mut Tally, w: usize, m: usize, take: &[u8]) {
     let kept = take.to_vec();
     let expected = model::judge(w, m, take);
-    note(t, "judge", expected);
+    note(t, "judge", m, expected);
     t.same(library::judge(w, m, take), expected, || format!("judge {w}, user bits {m}, {}", show(&kept)));
     t.check(take == kept, || format!("judge {w}, user bits {m}, {}: take changed", show(&kept)));
 }
@@ -83,7 +85,7 @@ fn compare_fill_in(t: &mut Tally, w: usize, m: usize, take: &[u8], level: u32) {
     let mut modelled = lent.clone();
     let answer = library::fill_in(w, m, &mut lent[GUARD..GUARD + take.len()], level);
     let expected = model::fill_in(w, m, &mut modelled[GUARD..GUARD + take.len()], high);
-    note(t, if high { "fill-in high" } else { "fill-in low" }, expected);
+    note(t, if high { "fill-in high" } else { "fill-in low" }, m, expected);
     let inputs = || format!("fill-in {w}, user bits {m}, level {level:#x}, {}", show(take));
     t.same(answer, expected, inputs);
     t.check(lent == modelled, || format!("{}\n    first other octet {}\n    library  {}\n    expected {}", inputs(), first_other(&lent, &modelled), show(&lent), show(&modelled)));
@@ -94,7 +96,7 @@ fn compare_data_octets(t: &mut Tally, w: usize, m: usize, take: &[u8]) {
     let kept = take.to_vec();
     for k in (0..n.min(40)).chain([n.saturating_sub(1), n, n + 1, usize::MAX / 8 + 1, usize::MAX]) {
         let expected = model::data_octets(w, m, take, k);
-        note(t, "data octets", expected.0);
+        note(t, "data octets", m, expected.0);
         t.same(library::data_octets(w, m, take, k), expected, || format!("data octets {w}, user bits {m}, record {k}, {}", show(take)));
     }
     t.check(take == kept, || format!("data octets {w}, user bits {m}, {}: take changed", show(&kept)));
@@ -253,7 +255,7 @@ pub fn parts(t: &mut Tally, r: &mut Random, m: usize, n: usize, pairs: bool) {
     let expected = model::packed(v, m, &model::items(w, m, &whole));
     let good = joined == expected && count == expected.len() / size_out;
     t.check(!accepted || good, || format!("repack in parts {w} to {v}, user bits {m}, {}\n    library  {}\n    expected {}", show(&whole), show(&joined), show(&expected)));
-    if accepted { t.verdict("parts all accepted".to_string()); }
+    if accepted { t.verdict(format!("parts all accepted{}", if m > 0 { WITH_USER_BITS } else { "" })); }
 }
 
 /// As many records as fit into 65,536 octets, one less or more, and perhaps some octets of another.
@@ -323,15 +325,16 @@ pub fn change_bits(t: &mut Tally, r: &mut Random, w: usize, m: usize, bits: std:
     }
 }
 
-fn reserve_lanes(t: &mut Tally, r: &mut Random, w: usize) {
-    for (at, lane) in (0..3).flat_map(|record| (0..w).map(move |lane| (record * (7 + w), lane))) {
-        let (mut take, mut input) = (cycles(r, w, 0, 3), transfers(r, w, 0, 3));
+pub fn reserve_lanes(t: &mut Tally, r: &mut Random, w: usize, m: usize) {
+    let size = model::record_octets(w, m);
+    for (at, lane) in (0..3).flat_map(|record| (0..w).map(move |lane| (record * size, lane))) {
+        let (mut take, mut input) = (cycles(r, w, m, 3), transfers(r, w, m, 3));
         for octets in [&mut take, &mut input] {
             octets[at + 3 + lane / 8] &= !(1 << (lane % 8));
             octets[at + 5 + lane / 8] |= 1 << (lane % 8);
         }
-        cycle_calls(t, w, 0, &take);
-        transfer_calls(t, w, 0, w, &input);
+        cycle_calls(t, w, m, &take);
+        transfer_calls(t, w, m, w, &input);
     }
 }
 
@@ -342,7 +345,9 @@ pub fn each_bit_while_waiting(t: &mut Tally, r: &mut Random, w: usize, m: usize)
     for (bit, before) in (0..8 * wait.len()).flat_map(|bit| [0, 1, 5].map(|before| (bit, before))) {
         let mut next = wait.clone();
         next[bit / 8] ^= 1 << (bit % 8);
-        compare_judge(t, w, m, &[wait.repeat(before), wait.clone(), next].concat());
+        let take = [wait.repeat(before), wait.clone(), next].concat();
+        compare_judge(t, w, m, &take);
+        write_into(t, &HARVEST, w, m, w, &take, take.len());
     }
 }
 
@@ -375,7 +380,7 @@ pub fn all(t: &mut Tally) {
     // Each bit of octets 0 to 6 of each record flipped, and each lane reserved.
     t.seeded_group("each field bit", |t, r| for w in 1..=16 {
         change_bits(t, r, w, 0, 0..56);
-        reserve_lanes(t, r, w);
+        reserve_lanes(t, r, w, 0);
     });
     // All flags of three cycles, with payloads equal or different and the lane of
     // the middle one reserved or not: every rule, and every way into reset and out.
@@ -424,8 +429,15 @@ pub fn all(t: &mut Tally) {
     }
 }
 
-/// What must have occurred by then.
-pub const VERDICTS: [&str; 45] = [
+/// What must have occurred by then; each but 16, which comes with more than 4, also with 1 to 4 user bits.
+pub fn verdicts() -> Vec<String> {
+    let tagged = VERDICTS.iter().filter(|name| !name.ends_with(" 16")).map(|name| format!("{name}{WITH_USER_BITS}"));
+    VERDICTS.iter().map(|name| name.to_string()).chain(tagged).collect()
+}
+
+const WITH_USER_BITS: &str = ", with user bits";
+
+const VERDICTS: [&str; 45] = [
     "judge accepted", "judge broken rule 1", "judge broken rule 2", "judge broken rule 3", "judge broken rule 4",
     "judge refusal 1", "judge refusal 16", "judge refusal 2", "judge refusal 3",
     "harvest accepted", "harvest refusal 1", "harvest refusal 16", "harvest refusal 2", "harvest refusal 3", "harvest refusal 5", "harvest refusal 14",

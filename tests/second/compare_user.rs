@@ -68,6 +68,10 @@ pub fn all(t: &mut Tally) {
     t.group("T-06 user bits above four", above_four);
     t.seeded_group("T-06 longest takes", longest);
     t.seeded_group("T-06 wrong lengths", |t, r| for (w, m) in shapes() { streams::every_length(t, r, w, m, 2) });
+    t.seeded_group("T-06 each field bit", |t, r| for w in 1..=16 {
+        streams::change_bits(t, r, w, 1 + w % 4, 0..56);
+        streams::reserve_lanes(t, r, w, 1 + w % 4);
+    });
     t.seeded_group("T-06 each user and padding bit", |t, r| for (w, m) in shapes() {
         streams::change_bits(t, r, w, m, 8 * (7 + w)..8 * model::record_octets(w, m));
     });

@@ -48,8 +48,9 @@ fn gate(seed: u64, only: Option<String>) -> ! {
     calls::show();
     t.seed = None; // the last two groups are about the run as a whole
     let bursts = [&compare_bursts::VERDICTS[..], &compare_axi3::VERDICTS, &compare_writes::VERDICTS];
-    let streams = [&compare_streams::VERDICTS[..], &compare_report::VERDICTS];
-    t.show_verdicts(&[bursts.concat(), streams.concat()].concat());
+    let streams = compare_streams::verdicts();
+    let streams = streams.iter().map(String::as_str).chain(compare_report::VERDICTS).collect();
+    t.show_verdicts(&[bursts.concat(), streams].concat());
     t.every_group_ran();
     println!("{} calls in all", calls::all());
     t.finish()

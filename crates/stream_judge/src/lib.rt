@@ -223,7 +223,7 @@ fn find_field(s: Shape, capture: &[u8]) -> Checked
     Checked::Passed
 }
 
-// Judges the cycles of a take whose width and length have passed their tests, the first as if behind an idle cycle. No padding
+// Judges the cycles of a take whose shape and length have passed their tests, the first as if behind an idle cycle. No padding
 // is set in it.
 fn judge_cycles(s: Shape, capture: &[u8]) -> Verdict
     requires { ⌜ Passed s (now capture) × Unpadded s (records s (now capture)) ⌝ }
@@ -255,7 +255,7 @@ fn judge_cycles(s: Shape, capture: &[u8]) -> Verdict
     Verdict::Clean(count)
 }
 
-// Judges a take whose width and length have passed their tests. Where records have padding, a pass of its own finds FIELD first,
+// Judges a take whose shape and length have passed their tests. Where records have padding, a pass of its own finds FIELD first,
 // so that the pass over the cycles has no test for it.
 fn judge_passed(s: Shape, capture: &[u8]) -> Verdict
     requires { ⌜ Passed s (now capture) ⌝ }

@@ -7,12 +7,13 @@ use mathlib.Core.Option.{Option}
 use Prim.Native.Nat.{ℕ, _+_, _*_, _/_, _%_, _^_}
 use native.Mathlib.Nat.{mul-zero}
 use native.Mathlib.Omega.{arith}
-use lib.ListN.{length, take, drop}
+use lib.ListN.{length, getD, take, drop}
 use borrow.Author.Tests.{lt-leb}
 use Rattle.words.specs.Words.{wordAt, octetsOfWord}
-use Rattle.stream_spec.specs.Layout.{headOctets, flags, pairOf, tkeep, tstrb, userNumber, ofWidth, laneTypes, LaneType, lanesOf, Kept, laneOctet, usersOf, laneOctets}
+use Rattle.stream_spec.specs.Items.{Transfer}
+use Rattle.stream_spec.specs.Layout.{bit, headOctets, flags, pairOf, tkeep, tstrb, userNumber, ofWidth, LaneType, lanesOf, Kept, laneOctet, usersOf, laneOctets}
 use Rattle.stream_spec.specs.Checks.{headFault, userFault, fieldFault}
-use Rattle.stream_spec.specs.Promises.{bareLanes, WithoutUserBits}
+use Rattle.stream_spec.specs.Promises.{bareTypes, bareLanes, WithoutUserBits}
 use Rattle.stream_spec.proofs.Size.{no-users, size-bare}
 
 -- ---- no octet is read for them, and no padding is there
@@ -42,11 +43,16 @@ pub bare-octets : (ls : List (Option Kept)) → laneOctets 0 ls ≡ map laneOcte
 bare-octets ls =
     ap (λ (k : ℕ). map laneOctet ls ++ octetsOfWord k (usersOf 0 ls)) (no-users (length ls)) ∙ append-nil (map laneOctet ls)
 
+-- a transfer by its lanes, with 01's octets for the rest
+abbrev transferWith : List ℕ → List (Option Kept) → Transfer Kept
+transferWith r ls = record { pair = record { tid = getD r 1 0; tdest = getD r 2 0 }; lanes = ls; last = bit 0 (getD r 0 0) }
+
 pub without-user-bits : WithoutUserBits
 without-user-bits w =
     record {
       size = size-bare w;
       field = λ used r. bare-field used w r;
-      reads = λ r. bare-lanes (laneTypes (ofWidth w) r) (userNumber (ofWidth w) r) (take w (drop 7 r));
+      reserved = λ r. refl;
+      reads = λ r. ap (transferWith r) (bare-lanes (bareTypes w r) (userNumber (ofWidth w) r) (take w (drop 7 r)));
       writes = λ t. rw (bare-octets (t .lanes)) refl;
     }

@@ -1,4 +1,4 @@
--- What a clean verdict says of a take: width and length have passed, no rule is broken, its number counts the transfers, and
+-- What a clean verdict says of a take: shape and length have passed, no rule is broken, its number counts the transfers, and
 -- harvesting it is refused for want of room and for nothing else. Assumes nothing.
 use mathlib.Core.Path.{_≡_, refl, _∙_}
 use mathlib.Core.Bool.{Bool, true, false}
@@ -50,7 +50,7 @@ module _ (s : Shape) (xs : List ℕ) (n : ℕ) (clean : judgeAnswer s xs ≡ Cle
   pub clean-sound : firstFinding s xs ≡ none
   clean-sound = is .sound
 
-  -- width and length have passed their tests
+  -- shape and length have passed their tests
   pub clean-taken : first (takeChecks s xs) ≡ none
   clean-taken = append-none (takeChecks s xs) (cycleChecks s 0 (records s xs)) (is .accepted) .0
 

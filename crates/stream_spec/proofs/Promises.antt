@@ -20,9 +20,9 @@ use Rattle.stream_spec.specs.Checks.{takeChecks, indexCheck}
 use Rattle.stream_spec.specs.Handshake.{wasReset}
 use Rattle.stream_spec.specs.Walk.{Passed}
 use Rattle.stream_spec.specs.Answers.{judgeAnswer, dataRefusal, dataPart}
-use Rattle.stream_spec.specs.Promises.{SetAbove, cycleBefore, FieldBits, UserExactly, WithoutUserBits, LaneUserBits, PaddingExactly, NullsZero, NullLanesZero, DataHandedOut, WidthExactly, LengthExactly, ByteTypes, RepackingKeeps, PackedLegal, PackedLength, PackedFull, PackedOnly, Holds, Joins, Canonical, LaneKeeping, Findings, ResetQuiet, HarvestLegal, HarvestRepacks, FilledHarvest, JudgedAlike, EachItsPacket}
+use Rattle.stream_spec.specs.Promises.{SetAbove, cycleBefore, FieldBits, UserExactly, RecordGrows, WithoutUserBits, LaneUserBits, PaddingExactly, NullsZero, NullLanesZero, DataHandedOut, WidthExactly, LengthExactly, ByteTypes, RepackingKeeps, PackedLegal, PackedLength, PackedFull, PackedOnly, Holds, Joins, Canonical, LaneKeeping, Findings, ResetQuiet, HarvestLegal, HarvestRepacks, FilledHarvest, JudgedAlike, EachItsPacket}
 use Rattle.stream_spec.proofs.Bits.{bit-zero, bit-suc}
-use Rattle.stream_spec.proofs.Size.{data-long}
+use Rattle.stream_spec.proofs.Size.{size-is, data-long}
 use Rattle.stream_spec.proofs.Bools.{or-split, not-left}
 use Rattle.refusal.proofs.First.{first-none, append-none}
 use Rattle.stream_spec.proofs.Passed.{checks-passed}
@@ -93,6 +93,9 @@ fieldBits n m = (found, bounded)
         le-trans (pow-mono (s .above)) (rw (one-mul (2 ^ s .place)) at (le-div-iff-mul-le (pow-pos (s .place)) .0 up))
 
 -- ---- user bits
+
+pub recordGrows : RecordGrows
+recordGrows s = record { long = size-is s; enough = omega arith; least = omega arith }
 
 pub withoutUserBits : WithoutUserBits
 withoutUserBits = without-user-bits

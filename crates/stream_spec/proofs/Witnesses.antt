@@ -2,7 +2,7 @@
 -- says is what was typed by hand. Assumes nothing.
 use mathlib.Core.Path.{_≡_, refl}
 use mathlib.Core.Bool.{true, false}
-use mathlib.Core.List.{List, [], _++_}
+use mathlib.Core.List.{List, [], _∷_, _++_}
 use mathlib.Core.Logic.{_⊎_}
 use mathlib.Core.Option.{none, some}
 use Prim.Native.Nat.{ℕ, _≤_, _<_}
@@ -21,7 +21,7 @@ use Rattle.stream_spec.specs.Promises.{Width, SetAbove, laneBits, Paddin
 use Rattle.stream_spec.specs.Demand3.{acceptedAt, next, afterCalls, whole}
 use Rattle.stream_spec.specs.Tables.{lanes, stream, tagged, isLegal}
 use Rattle.stream_spec.specs.Cases.{p1, straddled}
-use Rattle.stream_spec.specs.Witnesses.{first, firstItems, atOne, atFour, atSixteen, endless, endlessItems, lends, refusedCalls, mixedCalls, someParts, someNumbers, someJoined, packedOnes, onesBytes, onesEnds, onesItems, p1Slices, p1Items, p1Packed, wide, brokenTake, cleanTake, resetTake, earlyTake, loudTake, harvest, harvestLow, harvestHigh, lastOnes, lastTwos, tags, tagsItems, tagsAtOne, tagsAtTwo, tagsSlices, tagsCalls, padded, twoTags, tagsTake, tagsHarvest}
+use Rattle.stream_spec.specs.Witnesses.{first, firstItems, atOne, atFour, atSixteen, endless, endlessItems, lends, refusedCalls, mixedCalls, someParts, someNumbers, someJoined, packedOnes, onesBytes, onesEnds, onesItems, p1Slices, p1Items, p1Packed, wide, brokenTake, cleanTake, resetTake, earlyTake, loudTake, harvest, harvestLow, harvestHigh, lastOnes, lastTwos, tags, tagsItems, tagsAtOne, tagsAtTwo, tagsAtThree, tagsSlices, tagsCalls, tagsParts, tagsJoined, padded, twoTags, tagsTake, tagsHarvest}
 use Rattle.stream_spec.proofs.Bools.{no-such}
 use Rattle.stream_spec.proofs.Promises.{fieldBits, userExactly, laneUserBits, paddingExactly, nullLanesZero, byteTypes, dataHandedOut, repackingKeeps, packedLegal, packedFull, packedOnly, holds, joins, canonical, laneKeeping, findings, resetQuiet, harvestLegal, harvestRepacks, filledHarvest, judgedAlike, eachItsPacket}
 use Rattle.stream_spec.proofs.Demand3.{calls, parts}
@@ -226,24 +226,46 @@ padding-nine =
       paddingExactly (shaped 3 3) padded o .1 (record { place = 9; above = lit≤ tt; within = lit< tt; high = refl }),
     )
 
--- the null lane of the second slice has no bits, though 7 was sampled there
-pub null-slice : (laneBits (shaped 3 3) straddled 1 ≡ 7) × (laneBits (shaped 1 3) (getD (records (shaped 1 3) tagsSlices) 1 []) 0 ≡ 0)
+-- 7 was sampled on the null lane; the null lane of the packed record has no bits, nor has that of the second slice
+pub null-sampled : laneBits (shaped 3 3) straddled 1 ≡ 7
+null-sampled = refl
+
+pub null-packed : laneBits (shaped 3 3) (getD (records (shaped 3 3) tagsAtThree) 0 []) 2 ≡ 0
 unfolding size
-null-slice = (refl, nullLanesZero (shaped 3 3) 1 straddled .1 1 0 (lit< tt) (lit< tt) refl)
+null-packed = nullLanesZero (shaped 3 3) 3 straddled .0 0 2 (lit< tt) (lit< tt) refl
+
+pub null-slice : laneBits (shaped 1 3) (getD (records (shaped 1 3) tagsSlices) 1 []) 0 ≡ 0
+unfolding size
+null-slice = nullLanesZero (shaped 3 3) 1 straddled .1 1 0 (lit< tt) (lit< tt) refl
 
 -- the items keep their bits, in the packed form and in slices
 pub tags-kept : streamItems (shaped 2 3) tagsAtTwo ≡ tagsItems
 unfolding size
 tags-kept = repackingKeeps (shaped 3 3) 2 straddled (width 2 refl)
 
+pub tags-legal : Legal (shaped 2 3) tagsAtTwo
+unfolding size
+tags-legal = packedLegal (shaped 3 3) 2 straddled (width 2 refl) legal-tags
+
 pub tags-sliced : (streamItems (shaped 1 3) tagsSlices ≡ tagsItems) × Legal (shaped 1 3) tagsSlices × (packed (shaped 1 3) 2 tagsSlices ≡ tagsAtTwo)
 unfolding size
 tags-sliced = let k = laneKeeping (shaped 3 3) 1 straddled (width 1 refl) refl legal-tags in (k .same, k .legal, k .packs 2)
 
--- demand 3 with one m in all the calls
+-- demand 3 with one m in all the calls, and straight there; and of parts
 pub tags-stand : afterCalls tags tagsCalls ≡ tagged 2 3 tagsAtTwo
 unfolding size repackAnswer repackAfter
 tags-stand = calls tags legal-tags tagsCalls .stands
+
+pub tags-straight : (acceptedAt tags (lends 2 10) ≡ some 1) × (next tags (lends 2 10) ≡ tagged 2 3 tagsAtTwo)
+unfolding size repackAnswer repackAfter
+tags-straight = calls tags legal-tags tagsCalls .straight (lends 2 10) refl (lit≤ tt)
+
+pub tags-joined : (tagsJoined ≡ packed (shaped 1 3) 2 (whole tagsParts)) × (2 ≡ length (packedTransfers (shaped 1 3) 2 (whole tagsParts)))
+unfolding size repackAnswer repackAfter
+tags-joined =
+    let l = legalTested (shaped 1 3) (whole tagsParts) .1 refl in
+    let j = parts (shaped 1 3) 2 tagsParts (1 ∷ 1 ∷ []) l refl (dividesTested (shaped 1 3) tagsParts .1 refl) in
+    (j .same, j .count)
 
 -- two widths of one m
 pub tags-same : tagsAtTwo ≡ packed (shaped 1 3) 2 tagsAtOne
@@ -256,6 +278,15 @@ pub other-m : (packed (shaped 2 1) 2 (twoTags 3) ≡ packed (shaped 2 2) 2 (twoT
 unfolding size
 other-m = (refl, λ e. let z : _≡_ {A = ℕ} 1 3 = cc in omega arith)
 
+-- All three are legal: it is the premise on m that keeps `Canonical` from them.
+pub other-legal : Legal (shaped 2 1) (twoTags 3) × Legal (shaped 2 2) (twoTags 3) × Legal (shaped 2 2) (twoTags 5)
+unfolding size
+other-legal = (
+  legalTested (shaped 2 1) (twoTags 3) .1 refl,
+  legalTested (shaped 2 2) (twoTags 3) .1 refl,
+  legalTested (shaped 2 2) (twoTags 5) .1 refl,
+)
+
 pub other-octets : (streamItems (shaped 2 1) (twoTags 3) ≡ streamItems (shaped 2 2) (twoTags 5)) × (packed (shaped 2 1) 2 (twoTags 3) ≡ packed (shaped 2 2) 2 (twoTags 5) → ⊥)
 unfolding size
 other-octets = (refl, λ e. let z : _≡_ {A = ℕ} 3 5 = cc in omega arith)
@@ -264,3 +295,11 @@ other-octets = (refl, λ e. let z : _≡_ {A = ℕ} 3 5 = cc in omega arith)
 pub tags-harvested : Legal (shaped 1 2) tagsHarvest × (9 ≤ 18)
 unfolding size
 tags-harvested = harvestLegal (shaped 1 2) tagsTake 9 (octets-tested tagsTake .1 refl) refl
+
+-- and repacked with one octet too few, and with exactly the room it needs
+pub tags-repacked : (repackRefusal (shaped 1 2) 2 tagsHarvest 9 ≡ some Room) × (repackRefusal (shaped 1 2) 2 tagsHarvest 10 ≡ none)
+unfolding size
+tags-repacked = (
+  harvestRepacks (shaped 1 2) tagsTake 9 2 9 (octets-tested tagsTake .1 refl) refl (width 2 refl),
+  harvestRepacks (shaped 1 2) tagsTake 9 2 10 (octets-tested tagsTake .1 refl) refl (width 2 refl),
+)

@@ -1,6 +1,7 @@
 -- What each stream call answers, over all its arguments, and every octet of lent memory afterwards (paper 01, 'Refusal
 -- numbers', 'How much each answer must say'). Order on streams: 1, 6, 2, 13, then records in order with 3 before 4 in
--- each, then 14, 5. Each call has its list of checks in that order; the contracts of the calls cite these definitions.
+-- each, then 14, 5; T-06's 16 is straight after 1. Each call has its list of checks in that order; the contracts of the calls
+-- cite these definitions.
 use mathlib.Core.Path.{_≡_}
 use mathlib.Core.Bool.{Bool}
 use mathlib.Core.List.{List, [], _∷_, _++_, map}
@@ -49,7 +50,7 @@ abbrev pub partFor : Option Refusal → List ℕ → List ℕ
 partFor (some r) part = []
 partFor none part = part
 
--- ---- judge: 1, 2, 3
+-- ---- judge: 1, 16, 2, 3
 
 abbrev pub judgeChecks : Shape → List ℕ → List (Check Refusal)
 judgeChecks s capture = takeChecks s capture ++ cycleChecks s 0 (records s capture)
@@ -57,7 +58,7 @@ judgeChecks s capture = takeChecks s capture ++ cycleChecks s 0 (records s captu
 unfoldable pub judgeAnswer : Shape → List ℕ → Verdict
 judgeAnswer s capture = verdict (first (judgeChecks s capture)) (firstFinding s capture) (transferCount s capture)
 
--- ---- harvest: 1, 2, 3, 14, 5
+-- ---- harvest: 1, 16, 2, 3, 14, 5
 
 -- 14: "harvest of a broken take", with the cycle and rule of its verdict
 abbrev pub uncleanCheck : Check Finding → Check Refusal
@@ -75,7 +76,7 @@ harvestAnswer s capture room = written (harvestRefusal s capture room) (transfer
 unfoldable pub harvestAfter : Shape → List ℕ → List ℕ → List ℕ
 harvestAfter s capture out = lentAfter (harvestRefusal s capture (length out)) (harvested s capture) out
 
--- ---- fill-in: 1, 2. The lent take is input and output; `level` is what TLAST becomes (T-03).
+-- ---- fill-in: 1, 16, 2. The lent take is input and output; `level` is what TLAST becomes (T-03).
 
 abbrev pub fillRefusal : Shape → List ℕ → Option Refusal
 fillRefusal s capture = first (takeChecks s capture)
@@ -86,7 +87,7 @@ fillAnswer s capture = written (fillRefusal s capture) (recordCount s capture)
 unfoldable pub fillAfter : Bool → Shape → List ℕ → List ℕ
 fillAfter level s capture = lentAfter (fillRefusal s capture) (filledIn level s capture) capture
 
--- ---- data octets of record k: 1, 2, 13
+-- ---- data octets of record k: 1, 16, 2, 13
 
 abbrev pub dataRefusal : Shape → List ℕ → ℕ → Option Refusal
 dataRefusal s capture k = first (takeChecks s capture ++ indexCheck s capture k ∷ [])
@@ -105,7 +106,7 @@ startFor none start = start
 unfoldable pub dataStart : Shape → List ℕ → ℕ → ℕ
 dataStart s capture k = startFor (dataRefusal s capture k) (k * size s + headOctets)
 
--- ---- repack to width v: 1, 2, records with 3 before 4, 5
+-- ---- repack to width v: 1, 16, 2, records with 3 before 4, 5
 
 abbrev pub repackRefusal : Shape → ℕ → List ℕ → ℕ → Option Refusal
 repackRefusal s v transfers room =
@@ -119,7 +120,7 @@ repackAnswer s v transfers room = written (repackRefusal s v transfers room) (le
 unfoldable pub repackAfter : Shape → ℕ → List ℕ → List ℕ → List ℕ
 repackAfter s v transfers out = lentAfter (repackRefusal s v transfers (length out)) (packed s v transfers) out
 
--- ---- lane-keeping downsizing to width v: 1, 6, 2, records with 3 before 4, 5
+-- ---- lane-keeping downsizing to width v: 1, 16, 6, 2, records with 3 before 4, 5
 
 abbrev pub downsizeRefusal : Shape → ℕ → List ℕ → ℕ → Option Refusal
 downsizeRefusal s v transfers room =

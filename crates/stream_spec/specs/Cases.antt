@@ -374,4 +374,6 @@ workedCases =
     -- W105: T-06: fill-in touches no user bit
     ∷ gives (fillIn high (shaped 1 1) (one 0xFE 0 0 0 0 0 ++ (0xFE ∷ []) ++ one 0x08 0 0 0 0 0 ++ (0 ∷ []))) 2
     (one 0xFF 0 0 0 0 0 ++ (0xFE ∷ []) ++ one 0x09 0 0 0 0 0 ++ (0 ∷ []))
+    -- W106: T-06: at its own width the null lane goes to the end, and gets zero bits
+    ∷ gives (repack (shaped 3 3) 3 straddled (eight ++ ee)) 1 (0x01 ∷ 1 ∷ 2 ∷ 0x03 ∷ 0 ∷ 0x01 ∷ 0 ∷ 17 ∷ 0 ∷ 0 ∷ 0x35 ∷ 0 ∷ [])
     ∷ []

@@ -1,4 +1,4 @@
--- The octets of a record (paper 01, 'One record of a take'; paper 02, T-06; Arm IHI 0051A 2.1, 2.4): which octet or bit is what, a name
+-- The octets of a record (paper 01, 'One record of a take'; paper 02, T-06; Arm IHI 0051A 2.1, 2.4, 2.8): which octet or bit is what, a name
 -- for each number of 01's table. Everything else in specs/ goes through the names below, or through transfers and items.
 use mathlib.Core.Bool.{Bool, true, false, _||_}
 use mathlib.Core.List.{List, [], _∷_, _++_, map}
@@ -78,7 +78,7 @@ headOctets = 7
 abbrev pub userMost : ℕ
 userMost = 4
 
--- "every record grows at its end by w*m/8 octets rounded up", in octets of 8 bits each
+-- "every record grows at its end by w*m/8 octets rounded up"
 abbrev pub userOctets : ℕ → ℕ → ℕ
 userOctets w m = (w * m + 7) / 8
 
@@ -93,7 +93,7 @@ octetValues = 256
 unfoldable pub size : Shape → ℕ
 size s = headOctets + s .width + userOctets (s .width) (s .user)
 
--- the sizes of the narrowest and the widest record
+-- the sizes of the shortest record, one lane without user bits, and of the longest, sixteen lanes with four bits each
 abbrev pub sizeLeast : ℕ
 sizeLeast = 8
 

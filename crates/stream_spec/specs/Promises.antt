@@ -14,8 +14,8 @@ use Rattle.stream_spec.specs.declared.Shape.{Shape}
 use Rattle.stream_spec.specs.declared.Verdict.the-variants.{Clean}
 use Rattle.stream_spec.specs.Items.{samePair, Transfer, Item, kept, items}
 use Rattle.stream_spec.specs.Packed.{fitted, pack, settled, held, parted}
-use Rattle.stream_spec.specs.Layout.{bit, bitOf, widthMost, userOctets, userNumber, dataOctets, tlast, tvalid, aresetn, tkeep, tstrb, size, ofWidth, atWidth, LaneType, dataLane, nullLane, laneType, laneTypes, laneOf, Kept, keepBit, strbBit, laneOctet, maskOctets, transferOf, octetsOf, records, joined, streamItems, packedTransfers, packed, slicedTransfers, sliced}
-use Rattle.stream_spec.specs.Checks.{widthCheck, userCheck, lengthCheck, userFault, fieldFault}
+use Rattle.stream_spec.specs.Layout.{bit, bitOf, maskOf, widthMost, userOctets, userNumber, dataOctets, tlast, tvalid, aresetn, tkeep, tstrb, size, ofWidth, atWidth, LaneType, dataLane, nullLane, laneType, typesOf, laneTypes, anyReserved, laneOf, Kept, keepBit, strbBit, laneOctet, transferOf, octetsOf, records, joined, streamItems, packedTransfers, packed, slicedTransfers, sliced}
+use Rattle.stream_spec.specs.Checks.{widthCheck, userCheck, lengthCheck, userFault, fieldFault, reservedFault}
 use Rattle.stream_spec.specs.Handshake.{r1, r2, r3, r4, Finding, firstFinding, handshakes, harvested, filledIn, asFilled}
 use Rattle.stream_spec.specs.Answers.{judgeAnswer, fillAfter, repackRefusal, harvestRefusal, dataRefusal, dataPart}
 use Rattle.stream_spec.specs.Legal.{Octets, Legal}
@@ -34,15 +34,15 @@ WidthExactly = (w : ℕ) → (widthCheck w .found ≡ true) ↔ ((w ≡ 0) ⊎ (
 abbrev pub LengthExactly : Type 0
 LengthExactly = (s : Shape) (xs : List ℕ) → (lengthCheck s xs .found ≡ true) ↔ ((65536 < length xs) ⊎ (length xs % size s ≢ 0))
 
--- 3: "a bit that must be zero is set". `fieldFault` asks it of octet 0 and of both masks as 2 ^ n ≤ m: that is so exactly
--- where some bit at or above n is set.
-pub record SetAbove (n m : ℕ) : Type 0 where
+-- 3: "a bit that must be zero is set". `fieldFault` asks it of octet 0, of both masks and of the user bits as 2 ^ n ≤ x: that is
+-- so exactly where some bit of x at or above n is set.
+pub record SetAbove (n x : ℕ) : Type 0 where
   pub place : ℕ
   pub above : n ≤ place
-  pub high : bit place m ≡ true
+  pub high : bit place x ≡ true
 
 abbrev pub FieldBits : Type 0
-FieldBits = (n m : ℕ) → (2 ^ n ≤ m) ↔ SetAbove n m
+FieldBits = (n x : ℕ) → (2 ^ n ≤ x) ↔ SetAbove n x
 
 -- 16 (T-06): "m above 4"
 abbrev pub UserExactly : Type 0
@@ -50,14 +50,27 @@ UserExactly = (s : Shape) → (userCheck s .found ≡ true) ↔ (4 < s .user)
 
 -- ---- user bits (T-06)
 
+-- "every record grows at its end by w*m/8 octets rounded up": n octets hold w*m bits, and n is the least that do
+pub record Grows (s : Shape) (n : ℕ) : Type 0 where
+  pub long : size s ≡ 7 + s .width + n
+  pub enough : s .width * s .user ≤ 8 * n
+  pub least : 8 * n < s .width * s .user + 8
+
+abbrev pub RecordGrows : Type 0
+RecordGrows = (s : Shape) → Grows s (userOctets (s .width) (s .user))
+
+-- the types of w lanes, by 01's octets of TKEEP and TSTRB
+abbrev pub bareTypes : ℕ → List ℕ → List LaneType
+bareTypes w r = typesOf w (getD r 3 0 + 256 * getD r 4 0) (getD r 5 0 + 256 * getD r 6 0)
+
 -- what lanes of these types with these data octets carry where there are no user bits
 abbrev pub bareLanes : List LaneType → List ℕ → List (Option Kept)
 bareLanes [] ds = []
 bareLanes (t ∷ ts) [] = laneOf t 0 0 ∷ bareLanes ts []
 bareLanes (t ∷ ts) (d ∷ ds) = laneOf t d 0 ∷ bareLanes ts ds
 
--- "With m = 0 all else in 01 stays octet for octet": a record's size, its FIELD, what is read of it and what is written are 01's
--- formulas, written out.
+-- "With m = 0 all else in 01 stays octet for octet": a record's size, its FIELD and RESERVED, what is read of it and what is
+-- written are 01's formulas, with its octets' numbers written out.
 pub record AsBefore (w : ℕ) : Type 0 where
   pub size : size (ofWidth w) ≡ 7 + w
   pub field :
@@ -65,12 +78,21 @@ pub record AsBefore (w : ℕ) : Type 0 where
       → fieldFault used (ofWidth w) r
       ≡ (leb (2 ^ used) (getD r 0 0) || ltb 15 (getD r 2 0)
       || leb (2 ^ w) (getD r 3 0 + 256 * getD r 4 0) || leb (2 ^ w) (getD r 5 0 + 256 * getD r 6 0))
-  pub reads : (r : List ℕ) → transferOf (ofWidth w) r .lanes ≡ bareLanes (laneTypes (ofWidth w) r) (take w (drop 7 r))
+  pub reserved : (r : List ℕ) → reservedFault (ofWidth w) r ≡ anyReserved (bareTypes w r)
+  pub reads :
+      (r : List ℕ)
+      → transferOf (ofWidth w) r
+      ≡ record {
+        pair = record { tid = getD r 1 0; tdest = getD r 2 0 };
+        lanes = bareLanes (bareTypes w r) (take w (drop 7 r));
+        last = bit 0 (getD r 0 0);
+      }
   pub writes :
       (t : Transfer Kept)
       → octetsOf 0 t
       ≡ bitOf (t .last) ∷ t .pair .tid ∷ t .pair .tdest
-      ∷ (maskOctets (map keepBit (t .lanes)) ++ (maskOctets (map strbBit (t .lanes)) ++ map laneOctet (t .lanes)))
+      ∷ maskOf (map keepBit (t .lanes)) % 256 ∷ maskOf (map keepBit (t .lanes)) / 256
+      ∷ maskOf (map strbBit (t .lanes)) % 256 ∷ maskOf (map strbBit (t .lanes)) / 256 ∷ map laneOctet (t .lanes)
 
 abbrev pub WithoutUserBits : Type 0
 WithoutUserBits = (w : ℕ) → AsBefore w
@@ -185,7 +207,7 @@ Joins = (v : ℕ) (is js : List (Item Kept)) → parted is js ≡ true → pack 
 
 -- The packed form is canonical: two legal streams of any two widths and of one m have equal packed forms at a width exactly when
 -- they carry the same items. So comparing two files of packed records octet by octet compares what the streams carry. Of two
--- different m it is false both ways (`other-m` of proofs/Witnesses).
+-- different m it is false both ways (`other-m` and `other-octets` of proofs/Witnesses).
 abbrev pub Canonical : Type 0
 Canonical =
     (s t : Shape) (v : ℕ) (xs ys : List ℕ) → s .user ≡ t .user → Width v → Legal s xs → Legal t ys

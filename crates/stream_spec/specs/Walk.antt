@@ -8,7 +8,7 @@ use Rattle.stream_spec.specs.declared.Shape.{Shape}
 use Rattle.stream_spec.specs.Layout.{widthMost, userMost, size}
 use Rattle.stream_spec.specs.Checks.{captureMost}
 
--- a shape whose records have a size that code can count: neither number is refused
+-- a shape whose records have a size that code can count: neither number is too large
 pub record Narrow (s : Shape) : Type 0 where
   pub width : s .width ≤ widthMost
   pub user : s .user ≤ userMost

@@ -149,8 +149,8 @@ lastOnes = one 1 1 2 1 1 7 ++ one 1 1 2 0 0 0
 abbrev pub lastTwos : List ℕ
 lastTwos = 1 ∷ 1 ∷ 2 ∷ 1 ∷ 0 ∷ 1 ∷ 0 ∷ 7 ∷ 0 ∷ 1 ∷ 1 ∷ 2 ∷ 0 ∷ 0 ∷ 0 ∷ 0 ∷ 0 ∷ 0 ∷ []
 
--- ---- user bits (T-06): the stream `straddled` of Cases, three lanes with three bits each; its items, its packed forms at widths 1 and
--- 2, and its slices of width 1
+-- ---- user bits (T-06): the stream `straddled` of Cases, three lanes with three bits each; its items, its packed forms at widths 1, 2
+-- and 3, and its slices of width 1
 
 abbrev pub tags : Standing
 tags = tagged 3 3 straddled
@@ -164,6 +164,9 @@ tagsAtOne = 0 ∷ 1 ∷ 2 ∷ 1 ∷ 0 ∷ 1 ∷ 0 ∷ 17 ∷ 5 ∷ 1 ∷ 1 ∷ 2
 abbrev pub tagsAtTwo : List ℕ
 tagsAtTwo = 1 ∷ 1 ∷ 2 ∷ 3 ∷ 0 ∷ 1 ∷ 0 ∷ 17 ∷ 0 ∷ 0x35 ∷ []
 
+abbrev pub tagsAtThree : List ℕ
+tagsAtThree = 1 ∷ 1 ∷ 2 ∷ 3 ∷ 0 ∷ 1 ∷ 0 ∷ 17 ∷ 0 ∷ 0 ∷ 0x35 ∷ 0 ∷ []
+
 abbrev pub tagsSlices : List ℕ
 tagsSlices = 0 ∷ 1 ∷ 2 ∷ 1 ∷ 0 ∷ 1 ∷ 0 ∷ 17 ∷ 5 ∷ 0 ∷ 1 ∷ 2 ∷ 0 ∷ 0 ∷ 0 ∷ 0 ∷ 0 ∷ 0 ∷ 1 ∷ 1 ∷ 2 ∷ 1 ∷ 0 ∷ 0 ∷ 0 ∷ 0 ∷ 6 ∷ []
 
@@ -171,7 +174,14 @@ tagsSlices = 0 ∷ 1 ∷ 2 ∷ 1 ∷ 0 ∷ 1 ∷ 0 ∷ 17 ∷ 5 ∷ 0 ∷ 1 ∷ 
 abbrev pub tagsCalls : List Call
 tagsCalls = lends 17 40 ∷ lends 1 18 ∷ lends 2 9 ∷ lends 2 10 ∷ []
 
--- the same with the lowest bit of its padding set
+-- two parts of width 1, an end between them; repacked to 2 they are a record each
+abbrev pub tagsParts : List Part
+tagsParts = part tagsAtOne ∷ part (0 ∷ 1 ∷ 2 ∷ 1 ∷ 0 ∷ 1 ∷ 0 ∷ 34 ∷ 7 ∷ []) ∷ []
+
+abbrev pub tagsJoined : List ℕ
+tagsJoined = tagsAtTwo ++ 0 ∷ 1 ∷ 2 ∷ 1 ∷ 0 ∷ 1 ∷ 0 ∷ 34 ∷ 0 ∷ 7 ∷ []
+
+-- `straddled` with the lowest bit of its padding set
 abbrev pub padded : List ℕ
 padded = 0x01 ∷ 1 ∷ 2 ∷ 0x05 ∷ 0 ∷ 0x01 ∷ 0 ∷ 17 ∷ 34 ∷ 51 ∷ 0xBD ∷ 0x03 ∷ []
 
