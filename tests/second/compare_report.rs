@@ -9,7 +9,7 @@ use std::fmt::Display;
 
 const GUARD: usize = 24; // octets before and after each lent room
 const READ: [u32; 6] = [1, 1, 2, 256, 0x8000_0000, u32::MAX]; // each says that a file was read
-const WORDS: [&str; 3] = ["wired", "none", "low"]; // T-03's
+pub const WORDS: [&str; 3] = ["wired", "none", "low"]; // T-03's
 const NO_WORDS: [&str; 9] = ["high", "Low", "LOW", "lows", "lo", "low ", "nonelow", "wire", ""];
 const NO_USERS: [&str; 9] = ["5", "9", "10", "00", "04", "", "a", " 0", "0 "]; // T-06's line: the first two are USERBITS, the rest SHEET
 
@@ -123,7 +123,7 @@ fn longest_report(t: &mut Tally, r: &mut Random) {
 }
 
 /// The library's report into the program's own room: its numbers, text and records.
-fn ask(sheet: File, take: File) -> (ReportAnswer, String, Vec<u8>) {
+pub fn ask(sheet: File, take: File) -> (ReportAnswer, String, Vec<u8>) {
     let (mut out, mut text) = (vec![0; MOST_OCTETS], vec![0; 200]);
     let answer = library::report(sheet, take, &mut out, &mut text);
     out.truncate(answer.octets as usize);

@@ -307,10 +307,10 @@ pub fn data_octets(w: usize, m: usize, take: &[u8], k: usize) -> (StreamAnswer, 
 
 // ---- "What a stream carries" ----
 /// A data item has its octet and its user bits, a position item its user bits.
-#[derive(Clone, Copy, PartialEq, Eq, Debug)]
+#[derive(Clone, Copy, PartialEq, Eq, Hash, Debug)]
 pub enum What { Data(u8, u8), Position(u8), End }
 
-#[derive(Clone, Copy, PartialEq, Eq, Debug)]
+#[derive(Clone, Copy, PartialEq, Eq, Hash, Debug)]
 pub struct Item { pub what: What, pub pair: (u8, u8) }
 
 /// What a lane carries, with its user bits; a null one carries nothing, and its bits go (reserved ones were refused before).

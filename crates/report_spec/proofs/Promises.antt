@@ -22,7 +22,7 @@ use Rattle.stream_spec.specs.Layout.{bitOf, size, atWidth, records, recordCount
 use Rattle.refusal.specs.Checks.{Check, first}
 use Rattle.stream_spec.specs.Checks.{ratioCheck, lengthCheck, cycleChecks, transferChecks, roomCheck}
 use Rattle.stream_spec.specs.Handshake.{Finding, firstFinding, handshakes, transferCount, low, high, harvested, asFilled}
-use Rattle.stream_spec.specs.Answers.{verdict, written, judgeChecks, judgeAnswer, harvestRefusal, fillAfter}
+use Rattle.stream_spec.specs.Answers.{verdict, written, judgeChecks, judgeAnswer, harvestRefusal, fillAfter, repackAnswer}
 use Rattle.stream_spec.specs.Memory.{inFront}
 use Rattle.stream_spec.specs.Legal.{Octets, Legal}
 use Rattle.refusal.proofs.First.{first-none, append-found, append-passed}
@@ -32,7 +32,7 @@ use Rattle.stream_spec.proofs.Records.{length-pieces, records-sized}
 use Rattle.stream_spec.proofs.Harvest.{harvested-count}
 use Rattle.stream_spec.proofs.Fill.{clean-filled, filled-octets, sized-filled, harvest-records, all-last}
 use Rattle.stream_spec.proofs.Clean.{clean-count, clean-passed, clean-harvested}
-use Rattle.stream_spec.proofs.Promises.{repackingKeeps, laneKeeping, harvestLegal, harvestRepacks, packedLegal, filledHarvest}
+use Rattle.stream_spec.proofs.Promises.{repackingKeeps, noShorter, laneKeeping, harvestLegal, harvestRepacks, packedLegal, filledHarvest}
 use Rattle.report_setup_spec.specs.declared.Setup.{Setup}
 use Rattle.report_setup_spec.specs.declared.Mode.{Mode}
 use Rattle.report_setup_spec.specs.declared.Mode.the-variants.{Pack, Lanes}
@@ -44,7 +44,7 @@ use Rattle.report_setup_spec.specs.Grammar.{sheetOf, text as ascii}
 use Rattle.report_spec.specs.declared.Tally.{Tally}
 use Rattle.report_spec.specs.declared.Verdict.the-variants.{Clean, Broken, Refused}
 use Rattle.report_spec.specs.Report.{Outcome, shapeOf, outShape, prepared, cyclesOf, transfersOf, lasts, packetCount, convertAnswer, convertResult, tally, converted, convertedTransfers, afterJudging, captureOutcome, ratioChecks, setupChecks, Passes, unless, setupOutcome, sheetOutcome, outcomeOf, Whole, whole, reportOf}
-use Rattle.report_spec.specs.Promises.{OctetsOf, ReportsSetup, isClean, OnlyWhenClean, CleanTally, CleanTallies, sampledAt, resultBy, TlastNone, TlastLow, mayShow, RefusalsShown, NeverReservedNorUnclean, PackNeverRatio, orderedChecks, convertedOf, tallyOf, inOrder, ReportInOrder, TextShort}
+use Rattle.report_spec.specs.Promises.{OctetsOf, ReportsSetup, isClean, OnlyWhenClean, CleanTally, CleanTallies, sampledAt, resultBy, TlastNone, TlastLow, LeastRecords, mayShow, RefusalsShown, NeverReservedNorUnclean, PackNeverRatio, orderedChecks, convertedOf, tallyOf, inOrder, ReportInOrder, TextShort}
 use Rattle.report_spec.proofs.Passes.{sound-in, sound-out, sound-user, sound-ratio, fits-out}
 use Rattle.report_spec.proofs.Convert.{convertRefusal, convertCount, answer-is, result-long, result-fits, each-converted, not-written, IsWritten, is-written}
 use Rattle.report_spec.proofs.Ends.{lasts-filled, same-ends}
@@ -414,6 +414,19 @@ tlastLow u capture room t w e =
       packets = sampled-ends u capture room t low word r ∙ zero-mul (transferCount (shapeOf u) capture);
       across = sampled-result u capture room t low word r;
     }
+
+-- ---- no shorter stream
+
+pub leastRecords : LeastRecords
+leastRecords u capture room t m e ys l same =
+    let r = reached u capture room t e in
+    let packs : repackAnswer (shapeOf u) (u .«width_out») (transfersOf u capture) room ≡ Records (r .number) =
+    sym (ap (λ (x : Mode). convertAnswer x (shapeOf u) (u .«width_out») (transfersOf u capture) room) m) ∙ r .wrote in
+    omega (
+      arith,
+      ap (λ (x : Tally). x .records) (r .is),
+      noShorter (shapeOf u) (u .«width_out») (transfersOf u capture) room (r .number) packs ys l same,
+    )
 
 -- ---- 01's order
 

@@ -12,15 +12,16 @@ use lib.ListN.{length}
 use Rattle.refusal.specs.Code.{codeOf}
 use Rattle.refusal.specs.declared.Refusal.{Refusal}
 use Rattle.refusal.specs.declared.Refusal.the-variants.{Field, Reserved, Room, Ratio, Unclean}
-use Rattle.stream_spec.specs.Layout.{size}
+use Rattle.stream_spec.specs.Layout.{size, shaped, records, streamItems}
 use Rattle.refusal.specs.Checks.{first}
 use Rattle.stream_spec.specs.Checks.{roomCheck}
 use Rattle.stream_spec.specs.Handshake.{Finding, firstFinding, transferCount}
 use Rattle.stream_spec.specs.Answers.{judgeAnswer, fillAfter, repackAnswer, downsizeAnswer}
 use Rattle.stream_spec.specs.Memory.{inFront}
-use Rattle.stream_spec.specs.Legal.{Octets}
-use Rattle.stream_spec.proofs.Tables.{octets-tested}
+use Rattle.stream_spec.specs.Legal.{Octets, Legal}
+use Rattle.stream_spec.proofs.Tables.{octets-tested, legalTested}
 use Rattle.report_setup_spec.specs.declared.Setup.{Setup}
+use Rattle.report_setup_spec.specs.declared.Mode.{Mode}
 use Rattle.report_setup_spec.specs.declared.Mode.the-variants.{Pack, Lanes}
 use Rattle.report_setup_spec.specs.declared.Tlast.{Tlast}
 use Rattle.report_setup_spec.specs.declared.Tlast.the-variants.{Wired, Absent, Low}
@@ -29,10 +30,10 @@ use Rattle.report_setup_spec.specs.Grammar.{sheetOf}
 use Rattle.report_setup_spec.specs.Answers.{sheetValues}
 use Rattle.report_spec.specs.declared.Tally.{Tally}
 use Rattle.report_spec.specs.declared.Verdict.the-variants.{Clean, Broken, Refused}
-use Rattle.report_spec.specs.Report.{shapeOf, cyclesOf, tally, setupOutcome, sheetOutcome, verdictValues, textOf, whole, reportOf}
+use Rattle.report_spec.specs.Report.{shapeOf, outShape, cyclesOf, transfersOf, tally, setupOutcome, sheetOutcome, verdictValues, textOf, whole, reportOf}
 use Rattle.report_spec.specs.Promises.{OctetsOf, isClean, CleanTally, OnePacketEach, NoPacketEnds, mayShow, orderedChecks, convertedOf, tallyOf, inOrder}
 use Rattle.report_spec.specs.Cases.{says, p1Sheet, p1Take, p1Result, p1Tagged, p1TaggedResult, p1Low, p1Slices, cycle}
-use Rattle.report_spec.proofs.Promises.{reportsSetup, onlyWhenClean, cleanTallies, tlastNone, tlastLow, refusalsShown, neverReservedNorUnclean, packNeverRatio, reportInOrder, textShort, no}
+use Rattle.report_spec.proofs.Promises.{reportsSetup, onlyWhenClean, cleanTallies, tlastNone, tlastLow, leastRecords, refusalsShown, neverReservedNorUnclean, packNeverRatio, reportInOrder, textShort, no}
 
 -- ---- what the promises ask
 
@@ -181,6 +182,30 @@ sliced-tallied = cleanTallies sliced p1Low 18 (tally 1 1 2) (octets-tested p1Low
 pub sliced-each : OnePacketEach sliced p1Low p1Slices (tally 1 1 2)
 unfolding size judgeAnswer fillAfter downsizeAnswer
 sliced-each = tlastNone sliced p1Low 18 (tally 1 1 2) refl refl
+
+-- T-07: P1's slices carry the same items in as many records as its packed form, and none has fewer
+pub p1-least : 2 ≤ 2
+unfolding size judgeAnswer repackAnswer
+p1-least = leastRecords p1 p1Take 18 (tally 1 1 2) refl refl p1Slices (legalTested (shaped 2 0) p1Slices .1 refl) refl
+
+-- P1's transfer as four slices of one lane, one of them all-null, and its three records
+abbrev narrowed : Mode → Setup
+narrowed mode = record { «width_in» = 4; «width_out» = 1; mode = mode; tlast = Wired; user = 0 }
+
+abbrev p1Ones : List ℕ
+p1Ones =
+    0x00 ∷ 0x01 ∷ 0x02 ∷ 0x01 ∷ 0x00 ∷ 0x01 ∷ 0x00 ∷ 0x11 ∷ 0x00 ∷ 0x01 ∷ 0x02 ∷ 0x01 ∷ 0x00 ∷ 0x00 ∷ 0x00 ∷ 0x00
+    ∷ 0x01 ∷ 0x01 ∷ 0x02 ∷ 0x01 ∷ 0x00 ∷ 0x01 ∷ 0x00 ∷ 0x44 ∷ []
+
+-- so with `mode=lanes` it is false
+pub not-in-lanes-mode : ((u : Setup) (capture : List ℕ) (room : ℕ) (t : Tally) → u .mode ≡ Lanes → setupOutcome u (some capture) room .verdict ≡ Clean t
+    → (ys : List ℕ) → Legal (outShape u) ys → streamItems (outShape u) ys ≡ streamItems (shapeOf u) (transfersOf u capture)
+    → t .records ≤ length (records (outShape u) ys)) → ⊥
+unfolding size judgeAnswer downsizeAnswer
+not-in-lanes-mode least =
+    let three : 4 ≤ 3 =
+    least (narrowed Lanes) p1Take 32 (tally 1 1 4) refl refl p1Ones (legalTested (shaped 1 0) p1Ones .1 refl) refl in
+    omega arith
 
 -- one octet short
 pub p1-unwritten : (out : List ℕ) → inFront (reportOf p1Sheet (some p1Take) 17 .result) out ≡ out

@@ -111,6 +111,15 @@ TlastLow =
     (u : Setup) (capture : List ℕ) (room : ℕ) (t : Tally) → u .tlast ≡ Low → setupOutcome u (some capture) room .verdict ≡ Clean t
     → NoPacketEnds u capture (setupOutcome u (some capture) room .result) t
 
+-- ---- T-07: no shorter stream. With `mode=pack` the number that a report shows as `records` is at most that of every legal stream of
+-- the result's width and user bits which carries the items of the harvested transfers, in their order.
+
+abbrev pub LeastRecords : Type 0
+LeastRecords =
+    (u : Setup) (capture : List ℕ) (room : ℕ) (t : Tally) → u .mode ≡ Pack → setupOutcome u (some capture) room .verdict ≡ Clean t
+    → (ys : List ℕ) → Legal (outShape u) ys → streamItems (outShape u) ys ≡ streamItems (shapeOf u) (transfersOf u capture)
+    → t .records ≤ length (records (outShape u) ys)
+
 -- ---- which refusals show once the sheet is read, by their numbers: 1, 2, 3, 5, since T-06 16, and 6 in lanes mode. So 4 and 14
 -- never do: a reserved lane is R4, and a broken take is a verdict of its own.
 

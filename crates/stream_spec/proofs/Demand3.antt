@@ -19,16 +19,19 @@ use Rattle.stream_spec.proofs.Pack.{pack-parted}
 use Rattle.stream_spec.proofs.Records.{packed-items, streamItems-append, octets-append}
 use Rattle.stream_spec.proofs.Legal.{packed-legal}
 use Rattle.stream_spec.proofs.Passed.{WidthFits}
-use Rattle.stream_spec.proofs.Repack.{Takes, takes-whole, accepted-of, of-accepted, result-packed}
+use Rattle.stream_spec.proofs.Repack.{Takes, takes-whole, Accepted, accepted-of, of-accepted, result-packed}
 
 -- ---- lists of calls
+
+accepted-at : (st : Standing) (c : Call) (n : ℕ) → acceptedAt st c ≡ some n → Accepted (st .shape) (c .width) (st .octets) (length (c .lent)) n
+accepted-at st c n e = accepted-of (st .shape) (c .width) (st .octets) (length (c .lent)) n e
 
 -- an accepted call leaves the packed form standing
 next-accepted : (st : Standing) (c : Call) (n : ℕ) → acceptedAt st c ≡ some n → next st c ≡ packedAt st (some (c .width))
 next-accepted st c n e =
     rw e
     (ap (λ (xs : List ℕ). record { shape = atWidth (st .shape) (c .width); octets = xs })
-    (result-packed (st .shape) (st .octets) c n (accepted-of (st .shape) (st .octets) c n e)))
+    (result-packed (st .shape) (st .octets) c n (accepted-at st c n e)))
 
 next-refused : (st : Standing) (c : Call) → acceptedAt st c ≡ none → next st c ≡ st
 next-refused st c e = rw e refl
@@ -70,7 +73,7 @@ known-accepted : (st : Standing) (c : Call) (cs : List Call) (n : ℕ) → accep
     → Known (packedAt st (some (c .width))) cs → Known st (c ∷ cs)
 known-accepted st c cs n e k =
     let q = next-accepted st c n e in
-    let a = accepted-of (st .shape) (st .octets) c n e in
+    let a = accepted-at st c n e in
     let l = last-is st c cs (packedAt st (some (c .width))) (some n) q e in
     record {
       stands =
@@ -140,7 +143,7 @@ join s v (p ∷ ps) [] a d = let z : _≡_ {A = ℕ} 0 1 = cc in absurd (omega a
 join s v (p ∷ ps) (n ∷ ns) a d =
     let first : accepted (answerTo s (p .octets) (partCall v p)) ≡ some n = cc in
     let others : AllAccepted s v ps ns = cc in
-    let h = accepted-of s (p .octets) (partCall v p) n first in
+    let h = accepted-of s v (p .octets) (length (p .lent)) n first in
     let w = takes-whole s (p .octets) (h .repacks .input) in
     let rest = join s v ps ns others (divides-rest s p ps w d) in
     let divided = packed-first s v p ps w d in

@@ -6,6 +6,7 @@ pub mod Bits
 pub mod Cut
 pub mod Pack
 pub mod Hold
+pub mod Least
 pub mod Each
 pub mod Size
 pub mod Users

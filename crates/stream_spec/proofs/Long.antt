@@ -1,10 +1,10 @@
--- "may be longer than a take": there are legal streams of any number of records, and demand 3 speaks of them, in calls and
--- in parts. Assumes nothing.
+-- "may be longer than a take": there are legal streams of any number of records; demand 3 speaks of them, in calls and in parts, and so
+-- does T-07 of the stream that a packed form is compared with. Assumes nothing.
 use mathlib.Core.Path.{_≡_, refl, ap, ap₂, _∙_}
 use mathlib.Core.Bool.{true, false}
 use mathlib.Core.List.{List, [], _∷_, _++_, head?, getLast?}
 use mathlib.Core.Option.{Option, none, some}
-use Prim.Native.Nat.{ℕ, zero, suc, _*_, _<_}
+use Prim.Native.Nat.{ℕ, zero, suc, _+_, _*_, _<_}
 use native.Mathlib.Omega.{arith}
 use lib.Dec.{lit≤}
 use lib.ListN.{length, replicate, length-replicate}
@@ -17,12 +17,13 @@ use Rattle.stream_spec.specs.Answers.{repackAnswer}
 use Rattle.stream_spec.specs.Legal.{Legal}
 use Rattle.stream_spec.specs.Demand3.{CallsKeep, Part, whole, AllAccepted, Divides}
 use Rattle.stream_spec.specs.Tables.{lanes, stream, pair, LegalLong, part, ended}
-use Rattle.stream_spec.specs.Witnesses.{mixedCalls, transfer, manyParts, ManyJoin}
+use Rattle.stream_spec.specs.Witnesses.{mixedCalls, transfer, packedOnes, onesItems, onesOctets, Behind, manyParts, ManyJoin}
 use Rattle.stream_spec.proofs.Pack.{Wide, length-fitted}
 use Rattle.stream_spec.proofs.Records.{length-octets, transfers-back}
 use Rattle.stream_spec.proofs.Users.{Tagged}
 use Rattle.stream_spec.proofs.Each.{EachLane}
 use Rattle.stream_spec.proofs.Legal.{PairFits, ByteFits, Sound, transfers-legal}
+use Rattle.stream_spec.proofs.Promises.{noShorter}
 use Rattle.stream_spec.proofs.Demand3.{calls, parts}
 use Rattle.stream_spec.proofs.Tables.{widthTested}
 
@@ -67,6 +68,47 @@ longer = let l = legalLong (lanes 1) 8193 (widthTested 1 .1 refl) (lit≤ tt) in
 -- calls on a first stream that is longer than a take
 pub long-calls : CallsKeep (stream 1 (longer .0)) mixedCalls
 long-calls = calls (stream 1 (longer .0)) (longer .1) mixedCalls
+
+-- ---- T-07: another stream that is longer than a take
+
+abbrev behindMany : ℕ → List (Transfer Kept)
+behindMany zero = packedOnes
+behindMany (suc k) = nowhere 1 ∷ behindMany k
+
+behind-wide : (k : ℕ) → Wide 1 (behindMany k)
+behind-wide zero = (refl, (refl, (refl, tt)))
+behind-wide (suc k) = (refl, behind-wide k)
+
+behind-tagged : (k : ℕ) → Tagged 0 (behindMany k)
+behind-tagged zero = (tt, (omega arith, tt), (tt, (omega arith, tt), (tt, tt, tt)))
+behind-tagged (suc k) = (tt, tt, behind-tagged k)
+
+behind-sound : (k : ℕ) → Sound 0 (behindMany k)
+behind-sound zero =
+    let fits : PairFits (pair 1 2) = record { tid = omega arith; tdest = omega arith } in
+    (fits, ((omega arith, omega arith), tt), (fits, (omega arith, tt), (fits, tt, tt)))
+behind-sound (suc k) = (record { tid = omega arith; tdest = omega arith }, tt, behind-sound k)
+
+behind-items : (k : ℕ) → items (behindMany k) ≡ onesItems
+behind-items zero = refl
+behind-items (suc k) = behind-items k
+
+behind-length : (k : ℕ) → length (behindMany k) ≡ k + 3
+behind-length zero = refl
+behind-length (suc k) = omega (arith, behind-length k)
+
+pub behind : (k : ℕ) → Behind k
+unfolding size repackAnswer
+behind k =
+    let ts = behindMany k in
+    let legal = transfers-legal (lanes 1) ts (record { low = lit≤ tt; high = lit≤ tt; user = lit≤ tt }) (behind-wide k) (behind-sound k) in
+    let same = ap items (transfers-back (lanes 1) ts (behind-wide k) (behind-tagged k)) ∙ behind-items k in
+    record {
+      other = octets 0 ts;
+      legal = legal;
+      octets = length-octets (lanes 1) ts (behind-wide k) ∙ ap (λ (n : ℕ). n * 8) (behind-length k);
+      least = noShorter (lanes 1) 1 onesOctets 24 3 refl (octets 0 ts) legal same;
+    }
 
 -- ---- any number of parts
 

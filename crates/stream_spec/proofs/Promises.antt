@@ -20,7 +20,8 @@ use Rattle.stream_spec.specs.Checks.{takeChecks, indexCheck}
 use Rattle.stream_spec.specs.Handshake.{wasReset}
 use Rattle.stream_spec.specs.Walk.{Passed}
 use Rattle.stream_spec.specs.Answers.{judgeAnswer, dataRefusal, dataPart}
-use Rattle.stream_spec.specs.Promises.{SetAbove, cycleBefore, FieldBits, UserExactly, RecordGrows, WithoutUserBits, LaneUserBits, PaddingExactly, NullsZero, NullLanesZero, DataHandedOut, WidthExactly, LengthExactly, ByteTypes, RepackingKeeps, PackedLegal, PackedLength, PackedFull, PackedOnly, Holds, Joins, Canonical, LaneKeeping, Findings, ResetQuiet, HarvestLegal, HarvestRepacks, FilledHarvest, JudgedAlike, EachItsPacket}
+use Rattle.stream_spec.specs.Demand3.{accepted}
+use Rattle.stream_spec.specs.Promises.{SetAbove, cycleBefore, FieldBits, UserExactly, RecordGrows, WithoutUserBits, LaneUserBits, PaddingExactly, NullsZero, NullLanesZero, DataHandedOut, WidthExactly, LengthExactly, ByteTypes, RepackingKeeps, PackedLegal, PackedLength, PackedFull, PackedOnly, Holds, Joins, Canonical, NoShorter, LaneKeeping, Findings, ResetQuiet, HarvestLegal, HarvestRepacks, FilledHarvest, JudgedAlike, EachItsPacket}
 use Rattle.stream_spec.proofs.Bits.{bit-zero, bit-suc}
 use Rattle.stream_spec.proofs.Size.{size-is, data-long}
 use Rattle.stream_spec.proofs.Bools.{or-split, not-left}
@@ -28,11 +29,13 @@ use Rattle.refusal.proofs.First.{first-none, append-none}
 use Rattle.stream_spec.proofs.Passed.{checks-passed}
 use Rattle.stream_spec.proofs.Pack.{Wide, pack-parted, length-spread, items-slices, wide-pack, wide-slices}
 use Rattle.stream_spec.proofs.Hold.{hold}
+use Rattle.stream_spec.proofs.Least.{pack-least}
 use Rattle.stream_spec.proofs.Records.{octets-sized, records-joined, packed-items, length-packed, transfers-back, packed-tagged, sliced-tagged}
 use Rattle.stream_spec.proofs.Users.{Tagged}
 use Rattle.stream_spec.proofs.Bare.{without-user-bits}
 use Rattle.stream_spec.proofs.UserBits.{lane-reads, padding-set, set-padding, transfers-nulls}
 use Rattle.stream_spec.proofs.Legal.{packed-legal, sliced-legal, wide-transfers}
+use Rattle.stream_spec.proofs.Repack.{accepted-of}
 use Rattle.stream_spec.proofs.Full.{packed-full}
 use Rattle.stream_spec.proofs.Only.{packed-only}
 use Rattle.stream_spec.proofs.Findings.{judges}
@@ -179,6 +182,19 @@ canonical s t v xs ys m w l k = (
       ∙ packed-items t v (w .0) ys),
   (λ e. ap₂ (λ (u : ℕ) (is : List (Item Kept)). octets u (pack v is)) m e),
 )
+
+-- the other stream's transfers have the input's items, and by the law over lists no fewer of them are possible
+pub noShorter : NoShorter
+noShorter s v xs room n e ys l same =
+    let a = accepted-of s v xs room n (ap accepted e) in
+    let t = atWidth s v in
+    omega (
+      arith,
+      a .number,
+      ap (λ (is : List (Item Kept)). length (pack v is)) same,
+      pack-least v (a .repacks .output .low) (transfers t ys) (wide-transfers t ys),
+      length-map (records t ys) (transferOf t),
+    )
 
 -- ---- lane-keeping downsizing
 

@@ -15,6 +15,7 @@ use Rattle.stream_spec.specs.Layout.{size, atWidth, records, packedTrans
 use Rattle.refusal.specs.Checks.{first}
 use Rattle.stream_spec.specs.Checks.{shapeChecks, lengthCheck, transferChecks, roomCheck}
 use Rattle.stream_spec.specs.Answers.{written, repackRefusal, repackAnswer, repackAfter}
+use Rattle.stream_spec.specs.Legal.{Octets, Legal}
 use Rattle.stream_spec.specs.Demand3.{Call, answerTo, accepted, resultOf}
 use Rattle.refusal.proofs.First.{first-none, none-first, append-none, none-append}
 use Rattle.stream_spec.proofs.Passed.{WidthFits, ShapeFits, shapes-fit, fits-shapes, length-fits}
@@ -58,20 +59,32 @@ of-repacks s v xs room h =
 pub takes-whole : (s : Shape) (xs : List ℕ) → Takes s xs → length xs % size s ≡ 0
 takes-whole s xs h = length-fits s xs (h .length) .1
 
+-- and a legal stream, where its numbers are octets
+pub takes-legal : (s : Shape) (xs : List ℕ) → Octets xs → Takes s xs → Legal s xs
+takes-legal s xs o h =
+    record {
+      widthLow = h .shape .low;
+      widthHigh = h .shape .high;
+      userHigh = h .shape .user;
+      octets = o;
+      whole = takes-whole s xs h;
+      faultless = h .faultless;
+    }
+
 -- ---- answers
 
 -- an accepted call answers the number of records of the packed form
-pub record Accepted (s : Shape) (xs : List ℕ) (c : Call) (n : ℕ) : Type 0 where
-  pub repacks : Repacks s (c .width) xs (length (c .lent))
-  pub number : n ≡ length (packedTransfers s (c .width) xs)
+pub record Accepted (s : Shape) (v : ℕ) (xs : List ℕ) (room n : ℕ) : Type 0 where
+  pub repacks : Repacks s v xs room
+  pub number : n ≡ length (packedTransfers s v xs)
 
-pub accepted-of : (s : Shape) (xs : List ℕ) (c : Call) (n : ℕ) → accepted (answerTo s xs c) ≡ some n → Accepted s xs c n
+pub accepted-of : (s : Shape) (v : ℕ) (xs : List ℕ) (room n : ℕ) → accepted (repackAnswer s v xs room) ≡ some n → Accepted s v xs room n
 unfolding repackAnswer
-accepted-of s xs c n e = go (repackRefusal s (c .width) xs (length (c .lent))) refl e
+accepted-of s v xs room n e = go (repackRefusal s v xs room) refl e
   where
-    go : (r : Option Refusal) → repackRefusal s (c .width) xs (length (c .lent)) ≡ r
-        → accepted (written r (length (packedTransfers s (c .width) xs))) ≡ some n → Accepted s xs c n
-    go none h k = record { repacks = repacks-of s (c .width) xs (length (c .lent)) h; number = cc }
+    go : (r : Option Refusal) → repackRefusal s v xs room ≡ r → accepted (written r (length (packedTransfers s v xs))) ≡ some n
+        → Accepted s v xs room n
+    go none h k = record { repacks = repacks-of s v xs room h; number = cc }
     go (some f) h k = let z : _≡_ {A = ℕ} 0 1 = cc in absurd (omega arith)
 
 pub of-accepted : (s : Shape) (xs : List ℕ) (c : Call) → Repacks s (c .width) xs (length (c .lent))
@@ -80,7 +93,7 @@ unfolding repackAnswer
 of-accepted s xs c h = rw (of-repacks s (c .width) xs (length (c .lent)) h) refl
 
 -- "The result of an accepted repacking call" is the packed form.
-pub result-packed : (s : Shape) (xs : List ℕ) (c : Call) (n : ℕ) → Accepted s xs c n → resultOf s xs c n ≡ packed s (c .width) xs
+pub result-packed : (s : Shape) (xs : List ℕ) (c : Call) (n : ℕ) → Accepted s (c .width) xs (length (c .lent)) n → resultOf s xs c n ≡ packed s (c .width) xs
 unfolding repackAfter
 result-packed s xs c n h =
     rw (of-repacks s (c .width) xs (length (c .lent)) (h .repacks), h .number)

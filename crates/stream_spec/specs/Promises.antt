@@ -12,12 +12,13 @@ use Rattle.refusal.specs.declared.Refusal.{Refusal}
 use Rattle.refusal.specs.declared.Refusal.the-variants.{Room}
 use Rattle.stream_spec.specs.declared.Shape.{Shape}
 use Rattle.stream_spec.specs.declared.Verdict.the-variants.{Clean}
+use Rattle.stream_spec.specs.declared.Written.the-variants.{Records}
 use Rattle.stream_spec.specs.Items.{samePair, Transfer, Item, kept, items}
 use Rattle.stream_spec.specs.Packed.{fitted, pack, settled, held, parted}
 use Rattle.stream_spec.specs.Layout.{bit, bitOf, maskOf, widthMost, userOctets, userNumber, dataOctets, tlast, tvalid, aresetn, tkeep, tstrb, size, ofWidth, atWidth, LaneType, dataLane, nullLane, laneType, typesOf, laneTypes, anyReserved, laneOf, Kept, keepBit, strbBit, laneOctet, transferOf, octetsOf, records, joined, streamItems, packedTransfers, packed, slicedTransfers, sliced}
 use Rattle.stream_spec.specs.Checks.{widthCheck, userCheck, lengthCheck, userFault, fieldFault, reservedFault}
 use Rattle.stream_spec.specs.Handshake.{r1, r2, r3, r4, Finding, firstFinding, handshakes, harvested, filledIn, asFilled}
-use Rattle.stream_spec.specs.Answers.{judgeAnswer, fillAfter, repackRefusal, harvestRefusal, dataRefusal, dataPart}
+use Rattle.stream_spec.specs.Answers.{judgeAnswer, fillAfter, repackRefusal, repackAnswer, harvestRefusal, dataRefusal, dataPart}
 use Rattle.stream_spec.specs.Legal.{Octets, Legal}
 
 -- a width that is not refused
@@ -212,6 +213,15 @@ abbrev pub Canonical : Type 0
 Canonical =
     (s t : Shape) (v : ℕ) (xs ys : List ℕ) → s .user ≡ t .user → Width v → Legal s xs → Legal t ys
     → (packed s v xs ≡ packed t v ys) ↔ (streamItems s xs ≡ streamItems t ys)
+
+-- T-07: "no list of legal transfer records of width v with the same items in the same order has fewer records than our packed
+-- form, for every accepted input". n is what an accepted call answers; ys is any such list, of any length and of the call's m, with
+-- null lanes and all-null records anywhere. It says nothing of octets, nor that no other stream has n records.
+abbrev pub NoShorter : Type 0
+NoShorter =
+    (s : Shape) (v : ℕ) (xs : List ℕ) (room n : ℕ) → repackAnswer s v xs room ≡ Records n
+    → (ys : List ℕ) → Legal (atWidth s v) ys → streamItems (atWidth s v) ys ≡ streamItems s xs
+    → n ≤ length (records (atWidth s v) ys)
 
 -- ---- lane-keeping downsizing
 

@@ -5,10 +5,14 @@ use mathlib.Core.Path.{_≡_}
 use mathlib.Core.Bool.{Bool, true, false}
 use mathlib.Core.List.{List, [], _∷_, _++_, map}
 use mathlib.Core.Option.{Option, none, some}
-use Prim.Native.Nat.{ℕ, _*_}
+use Prim.Native.Nat.{ℕ, _+_, _*_, _≤_}
 use lib.ListN.{length, replicate}
+use Rattle.stream_spec.specs.declared.Shape.{Shape}
+use Rattle.stream_spec.specs.declared.Written.the-variants.{Records}
 use Rattle.stream_spec.specs.Items.{Transfer, Item, byte, end}
-use Rattle.stream_spec.specs.Layout.{Kept, octet, position}
+use Rattle.stream_spec.specs.Layout.{Kept, octet, position, records, streamItems}
+use Rattle.stream_spec.specs.Answers.{repackAnswer}
+use Rattle.stream_spec.specs.Legal.{Legal}
 use Rattle.stream_spec.specs.Demand3.{Call, Standing, Part, whole, PartsJoin}
 use Rattle.stream_spec.specs.Cases.{straddled}
 use Rattle.stream_spec.specs.Tables.{lanes, one, stream, tagged, pair, part, seven, otherTid, otherTdest, ended, nulls}
@@ -93,6 +97,38 @@ onesEnds = end (pair 1 2) ∷ end (pair 1 2) ∷ []
 
 abbrev pub onesItems : List (Item Kept)
 onesItems = onesBytes ++ onesEnds
+
+-- ---- no shorter stream (T-07)
+
+-- The items of `first` at width 2, in seven records where the packed form has two: all-null ones of another pair in front, between and
+-- behind, a null lane in each other one, and TLAST in a record of its own. (`first` itself has two, and is not the packed form.)
+abbrev pub noItem : List ℕ
+noItem = 0 ∷ 5 ∷ 6 ∷ 0 ∷ 0 ∷ 0 ∷ 0 ∷ 99 ∷ 99 ∷ []
+
+abbrev pub spreadOut : List ℕ
+spreadOut =
+    noItem
+    ++ (0 ∷ 1 ∷ 2 ∷ 2 ∷ 0 ∷ 2 ∷ 0 ∷ 99 ∷ 17 ∷ 0 ∷ 1 ∷ 2 ∷ 1 ∷ 0 ∷ 1 ∷ 0 ∷ 34 ∷ 99 ∷ []
+    ++ (noItem ++ (0 ∷ 1 ∷ 2 ∷ 2 ∷ 0 ∷ 0 ∷ 0 ∷ 99 ∷ 99 ∷ 1 ∷ 1 ∷ 2 ∷ 0 ∷ 0 ∷ 0 ∷ 0 ∷ 99 ∷ 99 ∷ [] ++ noItem)))
+
+-- `packedOnes` as records of width 1
+abbrev pub onesOctets : List ℕ
+onesOctets = one 0 1 2 1 1 17 ++ (one 1 1 2 1 0 0 ++ one 1 1 2 0 0 0)
+
+-- The items of `packedOnes` behind any number of records with nothing in them, so in a stream longer than a take: at least the
+-- three records that a call to width 1 answers.
+pub record Behind (k : ℕ) : Type 0 where
+  pub other : List ℕ
+  pub legal : Legal (lanes 1) other
+  pub octets : length other ≡ (k + 3) * 8
+  pub least : 3 ≤ length (records (lanes 1) other)
+
+-- T-07's statement with another comparison, and with the other stream of another shape
+abbrev pub Compared : (ℕ → ℕ → Type 0) → (Shape → ℕ → Shape) → Type 0
+Compared than at =
+    (s : Shape) (v : ℕ) (xs : List ℕ) (room n : ℕ) → repackAnswer s v xs room ≡ Records n
+    → (ys : List ℕ) → Legal (at s v) ys → streamItems (at s v) ys ≡ streamItems s xs
+    → than n (length (records (at s v) ys))
 
 -- ---- lane-keeping: P1's transfer (p1 of Cases) at width 4, its slices of width 2, and the packed form of both
 
