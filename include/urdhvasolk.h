@@ -176,7 +176,7 @@ urd_stream_answer urd_fill_in(size_t width, size_t user, uint8_t *capture, size_
 urd_stream_answer urd_repack(size_t width, size_t user, size_t v, const uint8_t *input, size_t input_length, uint8_t *out, size_t out_length);
 
 /* Cuts each transfer record into width/v records of width v, lane by lane, nulls kept: count of records. Data and position bytes keep
- * their user bits. Never fewer records than urd_repack writes of the same input; 377,424 octets are always enough here, too.
+ * their user bits. 377,424 octets are always enough, as for urd_repack.
  * Refusals: 1 (either width), 16, 6, 2, then record by record 3 and 4 (place: the record), 5.
  * Lent memory: `out` gets the records and is unchanged after them; refused, it is unchanged. */
 urd_stream_answer urd_downsize(size_t width, size_t user, size_t v, const uint8_t *input, size_t input_length, uint8_t *out, size_t out_length);

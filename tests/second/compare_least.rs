@@ -77,14 +77,14 @@ pub fn round(t: &mut Tally, r: &mut Random) {
 pub fn all(t: &mut Tally) {
     cases_least::least(t, library_stream::repack);
     t.seeded_group("T-07 every width to every width", |t, r| for (w, v) in (1..=16).flat_map(|w| (1..=16).map(move |v| (w, v))) {
-        for m in 0..=4 { let input = transfers(r, w, m, 5); compare(t, r, w, m, v, &input); }
+        for (m, n) in (0..=4).flat_map(|m| [1, 3, 9, 40].map(|n| (m, n))) { let input = transfers(r, w, m, n); compare(t, r, w, m, v, &input); }
     });
     t.seeded_group("T-07 full records and an end", |t, r| for (v, m) in (1..=16).flat_map(|v| (0..=4).map(move |m| (v, m))) { at_the_bound(t, r, v, m) });
     t.seeded_group("T-07 random transfers", |t, r| for _ in 0..12_000 { let n = r.below(14); random(t, r, n) });
-    t.seeded_group("T-07 longest takes", |t, r| for w in 1..=16 {
-        let m = w % 5;
+    t.seeded_group("T-07 longest takes", |t, r| for (w, v) in (1..=16).flat_map(|w| (1..=16).map(move |v| (w, v))) {
+        let m = (w + v) % 5;
         let input = transfers(r, w, m, model::MOST_OCTETS / model::record_octets(w, m));
-        for v in [1, 17 - w, 16] { compare(t, r, w, m, v, &input); }
+        compare(t, r, w, m, v, &input);
     });
     t.seeded_group("T-07 reports", |t, r| for _ in 0..4_000 { let n = r.below(14); report(t, r, n) });
 }

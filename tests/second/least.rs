@@ -9,7 +9,8 @@ pub const SELF_TEST: Least = &[
     ("case S3", 1), ("case S4", 1), ("case S5", 1), ("case S6", 16), ("case S7", 16), ("handshake findings", 11),
     ("stream refusals in order", 12), ("T-03 by hand", 228), ("T-06 packed by hand", 35), ("T-06 sliced by hand", 14),
     ("T-06 findings by hand", 22), ("T-06 other calls by hand", 10), ("T-06 refusals in order", 141), ("T-06 padding bit by bit", 1856),
-    ("T-06 bits stay with their byte", 114_711), ("T-06 bits of null lanes", 12_625), ("pseudo code and formulas agree", 646_508),
+    ("T-06 bits stay with their byte", 114_711), ("T-06 bits of null lanes", 12_625), ("T-07 by hand", 2370),
+    ("T-07 every short stream", 562_992), ("pseudo code and formulas agree", 646_508),
     ("packing twice, and downsizing first, change nothing", 4384),
     ("T-06 packing twice, and downsizing first, change nothing", 8743), ("T-02 by hand", 84), ("T-02 refusals in order", 45),
     ("T-05 lanes of B1, B2 and B3", 72), ("T-05 narrow buses by hand", 92), ("T-05 wide buses by hand", 52), ("T-05 rules by hand", 94),
@@ -51,5 +52,7 @@ pub const COMPARE: Least = &[
     ("T-06 parts after packet ends", 14_300), ("T-06 parts after ends and at pair changes", 24_300), ("T-03 reports by hand", 462), ("T-03 reports at the room's bound", 528),
     ("T-03 word by word", 19_200), ("reports", 40_000), ("reports on longest takes", 240),
     ("T-06 reports by hand", 418), ("T-06 sheets", 1188), ("T-06 report refusals in order", 462), ("T-06 reports at the room's bound", 726),
+    ("T-07 by hand", 2370), ("T-07 every short stream", 562_992), ("T-07 every width to every width", 96_000),
+    ("T-07 full records and an end", 57_500), ("T-07 random transfers", 184_000), ("T-07 longest takes", 3300), ("T-07 reports", 17_400),
     ("every verdict occurs", 1), ("every group ran", 1),
 ];

@@ -21,7 +21,6 @@ use Rattle.stream_spec.specs.Memory.{inFront}
 use Rattle.stream_spec.specs.Legal.{Octets, Legal}
 use Rattle.stream_spec.proofs.Tables.{octets-tested, legalTested}
 use Rattle.report_setup_spec.specs.declared.Setup.{Setup}
-use Rattle.report_setup_spec.specs.declared.Mode.{Mode}
 use Rattle.report_setup_spec.specs.declared.Mode.the-variants.{Pack, Lanes}
 use Rattle.report_setup_spec.specs.declared.Tlast.{Tlast}
 use Rattle.report_setup_spec.specs.declared.Tlast.the-variants.{Wired, Absent, Low}
@@ -188,23 +187,22 @@ pub p1-least : 2 ≤ 2
 unfolding size judgeAnswer repackAnswer
 p1-least = leastRecords p1 p1Take 18 (tally 1 1 2) refl refl p1Slices (legalTested (shaped 2 0) p1Slices .1 refl) refl
 
--- P1's transfer as four slices of one lane, one of them all-null, and its three records
-abbrev narrowed : Mode → Setup
-narrowed mode = record { «width_in» = 4; «width_out» = 1; mode = mode; tlast = Wired; user = 0 }
+-- with `mode=lanes` it is false: P1's transfer has four slices of one lane, one of them all-null, where these three records carry it
+abbrev toOne : Setup
+toOne = record { «width_in» = 4; «width_out» = 1; mode = Lanes; tlast = Wired; user = 0 }
 
 abbrev p1Ones : List ℕ
 p1Ones =
     0x00 ∷ 0x01 ∷ 0x02 ∷ 0x01 ∷ 0x00 ∷ 0x01 ∷ 0x00 ∷ 0x11 ∷ 0x00 ∷ 0x01 ∷ 0x02 ∷ 0x01 ∷ 0x00 ∷ 0x00 ∷ 0x00 ∷ 0x00
     ∷ 0x01 ∷ 0x01 ∷ 0x02 ∷ 0x01 ∷ 0x00 ∷ 0x01 ∷ 0x00 ∷ 0x44 ∷ []
 
--- so with `mode=lanes` it is false
 pub not-in-lanes-mode : ((u : Setup) (capture : List ℕ) (room : ℕ) (t : Tally) → u .mode ≡ Lanes → setupOutcome u (some capture) room .verdict ≡ Clean t
     → (ys : List ℕ) → Legal (outShape u) ys → streamItems (outShape u) ys ≡ streamItems (shapeOf u) (transfersOf u capture)
     → t .records ≤ length (records (outShape u) ys)) → ⊥
 unfolding size judgeAnswer downsizeAnswer
 not-in-lanes-mode least =
-    let three : 4 ≤ 3 =
-    least (narrowed Lanes) p1Take 32 (tally 1 1 4) refl refl p1Ones (legalTested (shaped 1 0) p1Ones .1 refl) refl in
+    let few : 4 ≤ 3 =
+    least toOne p1Take 32 (tally 1 1 4) refl refl p1Ones (legalTested (shaped 1 0) p1Ones .1 refl) refl in
     omega arith
 
 -- one octet short

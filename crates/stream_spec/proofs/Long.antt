@@ -106,6 +106,7 @@ behind k =
     record {
       other = octets 0 ts;
       legal = legal;
+      same = same;
       octets = length-octets (lanes 1) ts (behind-wide k) ∙ ap (λ (n : ℕ). n * 8) (behind-length k);
       least = noShorter (lanes 1) 1 onesOctets 24 3 refl (octets 0 ts) legal same;
     }

@@ -120,6 +120,7 @@ onesOctets = one 0 1 2 1 1 17 ++ (one 1 1 2 1 0 0 ++ one 1 1 2 0 0 0)
 pub record Behind (k : ℕ) : Type 0 where
   pub other : List ℕ
   pub legal : Legal (lanes 1) other
+  pub same : streamItems (lanes 1) other ≡ onesItems
   pub octets : length other ≡ (k + 3) * 8
   pub least : 3 ≤ length (records (lanes 1) other)
 
