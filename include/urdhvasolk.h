@@ -169,8 +169,9 @@ urd_stream_answer urd_harvest(size_t width, size_t user, const uint8_t *capture,
 urd_stream_answer urd_fill_in(size_t width, size_t user, uint8_t *capture, size_t capture_length, uint32_t level);
 
 /* Writes the packed form, at width v, of a stream of transfer records: count of records. Data and position bytes keep their user
- * bits. No legal stream of v lanes and the same user with the same items in the same order has fewer records (T-07). No result is
- * longer than 377,424 octets: 2,621 records of 16 items with a user bit each, to records of one lane.
+ * bits. No legal stream of v lanes and the same user that carries the same data and position bytes, user bits and packet ends, each with
+ * its TID and TDEST, in the same order, has fewer records (T-07). No result is longer than 377,424 octets: 2,621 records of 16 items with
+ * a user bit each, to records of one lane.
  * Refusals: 1 (either width), 16, 2, then record by record 3 and 4 (place: the record), 5.
  * Lent memory: `out` gets the records and is unchanged after them; refused, it is unchanged. */
 urd_stream_answer urd_repack(size_t width, size_t user, size_t v, const uint8_t *input, size_t input_length, uint8_t *out, size_t out_length);

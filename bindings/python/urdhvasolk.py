@@ -188,8 +188,8 @@ def _convert(function, width, user, v, octets, out):
 
 def repack(width, user, v, octets, out):
     """Writes the packed form at width v of transfer records into out, each byte with its user bits: count of records, the least
-    that any legal stream of width v and the same user has with the same items in the same order (T-07). 377,424 octets are
-    always enough. Refusals 1, 16, 2, 3, 4, 5."""
+    of any legal stream of width v and the same user that carries the same bytes, user bits and packet ends, with their TIDs and
+    TDESTs, in the same order (T-07). 377,424 octets are always enough. Refusals 1, 16, 2, 3, 4, 5."""
     return _convert(_repack, width, user, v, octets, out)
 
 

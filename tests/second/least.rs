@@ -52,7 +52,7 @@ pub const COMPARE: Least = &[
     ("T-06 parts after packet ends", 14_300), ("T-06 parts after ends and at pair changes", 24_300), ("T-03 reports by hand", 462), ("T-03 reports at the room's bound", 528),
     ("T-03 word by word", 19_200), ("reports", 40_000), ("reports on longest takes", 240),
     ("T-06 reports by hand", 418), ("T-06 sheets", 1188), ("T-06 report refusals in order", 462), ("T-06 reports at the room's bound", 726),
-    ("T-07 by hand", 2370), ("T-07 every short stream", 562_992), ("T-07 every width to every width", 96_000),
-    ("T-07 full records and an end", 57_500), ("T-07 random transfers", 184_000), ("T-07 longest takes", 3300), ("T-07 reports", 17_400),
+    ("T-07 by hand", 2370), ("T-07 every short stream", 562_992), ("T-07 every width to every width", 96_500),
+    ("T-07 full records and an end", 57_700), ("T-07 random transfers", 184_000), ("T-07 longest takes", 3300), ("T-07 reports", 15_500),
     ("every verdict occurs", 1), ("every group ran", 1),
 ];

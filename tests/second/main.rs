@@ -5,12 +5,12 @@
 #![allow(dead_code)]
 mod calls;
 mod cases;
-mod cases_least;
+mod cases_fewest;
 mod cases_user;
 mod cases_writes;
 mod compare_axi3;
 mod compare_bursts;
-mod compare_least;
+mod compare_fewest;
 mod compare_report;
 mod compare_streams;
 mod compare_user;
@@ -25,7 +25,7 @@ mod library_writes;
 mod masks;
 mod model;
 mod model_axi3;
-mod model_least;
+mod model_fewest;
 mod model_writes;
 #[path = "../report/model.rs"]
 mod report_model;
@@ -48,7 +48,7 @@ fn gate(seed: u64, only: Option<String>) -> ! {
     compare_user::all(&mut t);
     compare_report::all(&mut t);
     compare_user_report::all(&mut t);
-    compare_least::all(&mut t);
+    compare_fewest::all(&mut t);
     calls::show();
     t.seed = None; // the last two groups are about the run as a whole
     let bursts = [&compare_bursts::VERDICTS[..], &compare_axi3::VERDICTS, &compare_writes::VERDICTS];
@@ -80,7 +80,7 @@ fn soak(seconds: u64, first: u64) -> ! {
         compare_writes::round(&mut t, &mut r);
         compare_streams::round(&mut t, &mut r);
         compare_report::round(&mut t, &mut r);
-        compare_least::round(&mut t, &mut r);
+        compare_fewest::round(&mut t, &mut r);
         if began.elapsed() >= Duration::from_secs(seconds) { break; }
         if shown.elapsed() >= PROGRESS {
             shown = Instant::now();

@@ -21,7 +21,7 @@ use Rattle.stream_spec.specs.Handshake.{wasReset}
 use Rattle.stream_spec.specs.Walk.{Passed}
 use Rattle.stream_spec.specs.Answers.{judgeAnswer, dataRefusal, dataPart}
 use Rattle.stream_spec.specs.Demand3.{accepted}
-use Rattle.stream_spec.specs.Promises.{SetAbove, cycleBefore, FieldBits, UserExactly, RecordGrows, WithoutUserBits, LaneUserBits, PaddingExactly, NullsZero, NullLanesZero, DataHandedOut, WidthExactly, LengthExactly, ByteTypes, RepackingKeeps, PackedLegal, PackedLength, PackedFull, PackedOnly, Holds, Joins, Canonical, NoShorter, LaneKeeping, Findings, ResetQuiet, HarvestLegal, HarvestRepacks, FilledHarvest, JudgedAlike, EachItsPacket}
+use Rattle.stream_spec.specs.Promises.{SetAbove, cycleBefore, FieldBits, UserExactly, RecordGrows, WithoutUserBits, LaneUserBits, PaddingExactly, NullsZero, NullLanesZero, DataHandedOut, WidthExactly, LengthExactly, ByteTypes, RepackingKeeps, PackedLegal, PackedLength, PackedFull, PackedOnly, Holds, Joins, Canonical, NoShorter, LeastReached, LaneKeeping, Findings, ResetQuiet, HarvestLegal, HarvestRepacks, FilledHarvest, JudgedAlike, EachItsPacket}
 use Rattle.stream_spec.proofs.Bits.{bit-zero, bit-suc}
 use Rattle.stream_spec.proofs.Size.{size-is, data-long}
 use Rattle.stream_spec.proofs.Bools.{or-split, not-left}
@@ -35,7 +35,7 @@ use Rattle.stream_spec.proofs.Users.{Tagged}
 use Rattle.stream_spec.proofs.Bare.{without-user-bits}
 use Rattle.stream_spec.proofs.UserBits.{lane-reads, padding-set, set-padding, transfers-nulls}
 use Rattle.stream_spec.proofs.Legal.{packed-legal, sliced-legal, wide-transfers}
-use Rattle.stream_spec.proofs.Repack.{accepted-of}
+use Rattle.stream_spec.proofs.Repack.{takes-legal, accepted-of}
 use Rattle.stream_spec.proofs.Full.{packed-full}
 use Rattle.stream_spec.proofs.Only.{packed-only}
 use Rattle.stream_spec.proofs.Findings.{judges}
@@ -183,7 +183,7 @@ canonical s t v xs ys m w l k = (
   (λ e. ap₂ (λ (u : ℕ) (is : List (Item Kept)). octets u (pack v is)) m e),
 )
 
--- the other stream's transfers have the input's items, and by the law over lists no fewer of them are possible
+-- the other stream's transfers have the input's items, and the packed form of these has no more transfers than they are
 pub noShorter : NoShorter
 noShorter s v xs room n e ys l same =
     let a = accepted-of s v xs room n (ap accepted e) in
@@ -195,6 +195,19 @@ noShorter s v xs room n e ys l same =
       pack-least v (a .repacks .output .low) (transfers t ys) (wide-transfers t ys),
       length-map (records t ys) (transferOf t),
     )
+
+pub leastReached : LeastReached
+leastReached s v xs room n o e =
+    let a = accepted-of s v xs room n (ap accepted e) in
+    let low = a .repacks .output .low in
+    let t = atWidth s v in
+    record {
+      legal = packed-legal s v xs low (a .repacks .output .high) (takes-legal s xs o (a .repacks .input));
+      same = packed-items s v low xs;
+      count =
+          sym (length-map (records t (packed s v xs)) (transferOf t))
+          ∙ ap length (transfers-back t (packedTransfers s v xs) (wide-pack v (streamItems s xs)) (packed-tagged s v xs)) ∙ sym (a .number);
+    }
 
 -- ---- lane-keeping downsizing
 

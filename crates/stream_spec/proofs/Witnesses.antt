@@ -1,6 +1,6 @@
 -- Every promise that has a premise, applied to the worked data of specs/Witnesses: all its premises hold there, and what it
 -- says is what was typed by hand. Assumes nothing.
-use mathlib.Core.Path.{_≡_, refl, sym, ap, _∙_}
+use mathlib.Core.Path.{_≡_, refl}
 use mathlib.Core.Bool.{true, false}
 use mathlib.Core.List.{List, [], _∷_, _++_}
 use mathlib.Core.Logic.{_⊎_}
@@ -8,11 +8,10 @@ use mathlib.Core.Option.{none, some}
 use Prim.Native.Nat.{ℕ, _≤_, _<_}
 use native.Mathlib.Omega.{arith}
 use lib.Dec.{lit<, lit≤}
-use lib.ListN.{length, getD, length-map}
+use lib.ListN.{length, getD}
 use Rattle.refusal.specs.declared.Refusal.the-variants.{Room, Index}
 use Rattle.stream_spec.specs.declared.Shape.{Shape}
 use Rattle.stream_spec.specs.declared.Verdict.the-variants.{Clean}
-use Rattle.stream_spec.specs.declared.Written.the-variants.{Records}
 use Rattle.stream_spec.specs.Packed.{pack}
 use Rattle.stream_spec.specs.Layout.{bit, size, shaped, atWidth, position, transferOf, dataLane, nullLane, laneTypes, records, streamItems, packedTransfers, packed, slicedTransfers}
 use Rattle.stream_spec.specs.Checks.{widthCheck, userFault}
@@ -20,15 +19,12 @@ use Rattle.stream_spec.specs.Handshake.{low, high, harvested, filledIn}
 use Rattle.stream_spec.specs.Answers.{judgeAnswer, fillAfter, repackRefusal, repackAnswer, repackAfter, dataPart}
 use Rattle.stream_spec.specs.Legal.{Octets, Legal}
 use Rattle.stream_spec.specs.Promises.{Width, SetAbove, laneBits, PaddingSet, Packs, breaks, IsEarliest, Quiet}
-use Rattle.stream_spec.specs.Demand3.{accepted, acceptedAt, next, afterCalls, whole}
+use Rattle.stream_spec.specs.Demand3.{acceptedAt, next, afterCalls, whole}
 use Rattle.stream_spec.specs.Tables.{lanes, stream, tagged, isLegal}
 use Rattle.stream_spec.specs.Cases.{p1, straddled}
-use Rattle.stream_spec.specs.Witnesses.{first, firstItems, atOne, atFour, atSixteen, endless, endlessItems, lends, refusedCalls, mixedCalls, someParts, someNumbers, someJoined, packedOnes, onesBytes, onesEnds, onesItems, spreadOut, Compared, p1Slices, p1Items, p1Packed, wide, brokenTake, cleanTake, resetTake, earlyTake, loudTake, harvest, harvestLow, harvestHigh, lastOnes, lastTwos, tags, tagsItems, tagsAtOne, tagsAtTwo, tagsAtThree, tagsSlices, tagsCalls, tagsParts, tagsJoined, padded, twoTags, tagsTake, tagsHarvest}
+use Rattle.stream_spec.specs.Witnesses.{first, firstItems, atOne, atTwo, atFour, atSixteen, endless, endlessItems, lends, refusedCalls, mixedCalls, someParts, someNumbers, someJoined, packedOnes, onesBytes, onesEnds, onesItems, spreadOut, Compared, p1Slices, p1Items, p1Packed, wide, brokenTake, cleanTake, resetTake, earlyTake, loudTake, harvest, harvestLow, harvestHigh, lastOnes, lastTwos, tags, tagsItems, tagsAtOne, tagsAtTwo, tagsAtThree, tagsSlices, tagsCalls, tagsParts, tagsJoined, padded, twoTags, tagsTake, tagsHarvest}
 use Rattle.stream_spec.proofs.Bools.{no-such}
-use Rattle.stream_spec.proofs.Pack.{wide-pack}
-use Rattle.stream_spec.proofs.Records.{transfers-back, packed-tagged}
-use Rattle.stream_spec.proofs.Repack.{takes-legal, accepted-of}
-use Rattle.stream_spec.proofs.Promises.{fieldBits, userExactly, laneUserBits, paddingExactly, nullLanesZero, byteTypes, dataHandedOut, repackingKeeps, packedLegal, packedFull, packedOnly, holds, joins, canonical, noShorter, laneKeeping, findings, resetQuiet, harvestLegal, harvestRepacks, filledHarvest, judgedAlike, eachItsPacket}
+use Rattle.stream_spec.proofs.Promises.{fieldBits, userExactly, laneUserBits, paddingExactly, nullLanesZero, byteTypes, dataHandedOut, repackingKeeps, packedLegal, packedFull, packedOnly, holds, joins, canonical, noShorter, leastReached, laneKeeping, findings, resetQuiet, harvestLegal, harvestRepacks, filledHarvest, judgedAlike, eachItsPacket}
 use Rattle.stream_spec.proofs.Demand3.{calls, parts}
 use Rattle.stream_spec.proofs.Tables.{widthTested, octets-tested, legalTested, dividesTested}
 
@@ -149,19 +145,12 @@ pub more : 2 ≤ 7
 unfolding size repackAnswer
 more = noShorter (lanes 1) 2 atOne 18 2 refl spreadOut (legal 2 spreadOut refl) refl
 
--- The premises are met at every accepted call, and the bound is reached, by the packed form itself.
-pub reached : (s : Shape) (v : ℕ) (xs : List ℕ) (room n : ℕ) → Octets xs → repackAnswer s v xs room ≡ Records n
-    → Legal (atWidth s v) (packed s v xs) × (streamItems (atWidth s v) (packed s v xs) ≡ streamItems s xs) × (length (records (atWidth s v) (packed s v xs)) ≡ n)
-reached s v xs room n o e =
-    let a = accepted-of s v xs room n (ap accepted e) in
-    let w : Width v = (a .repacks .output .low, a .repacks .output .high) in
-    let count = length-map (records (atWidth s v) (packed s v xs)) (transferOf (atWidth s v)) in (
-      packedLegal s v xs w (takes-legal s xs o (a .repacks .input)),
-      repackingKeeps s v xs w,
-      sym count ∙ ap length (transfers-back (atWidth s v) (packedTransfers s v xs) (wide-pack v (streamItems s xs)) (packed-tagged s v xs)) ∙ sym (a .number),
-    )
+-- the packed form has the two, and is legal
+pub reached : Legal (lanes 2) atTwo × (streamItems (lanes 2) atTwo ≡ firstItems) × (length (records (lanes 2) atTwo) ≡ 2)
+unfolding size repackAnswer
+reached = let r = leastReached (lanes 1) 2 atOne 18 2 (octets-tested atOne .1 refl) refl in (r .legal, r .same, r .count)
 
--- It is this statement; of fewer records than every other stream, or of streams of the input's width, it is false.
+-- `NoShorter` is `Compared` with 'at most' and the output's width; with 'below', or with the input's width, it is false.
 pub at-most : Compared (λ (n k : ℕ). n ≤ k) (λ (s : Shape) (v : ℕ). atWidth s v)
 at-most = noShorter
 
@@ -169,9 +158,9 @@ pub not-below : Compared (λ (n k : ℕ). n < k) (λ (s : Shape) (v : ℕ). atWi
 unfolding size repackAnswer
 not-below below = let three : 3 < 3 = below (lanes 2) 1 (first .octets) 24 3 refl atOne (legal 1 atOne refl) refl in omega arith
 
-pub not-as-read : Compared (λ (n k : ℕ). n ≤ k) (λ (s : Shape) (v : ℕ). s) → ⊥
+pub not-at-the-input-width : Compared (λ (n k : ℕ). n ≤ k) (λ (s : Shape) (v : ℕ). s) → ⊥
 unfolding size repackAnswer
-not-as-read least = let two : 3 ≤ 2 = least (lanes 2) 1 (first .octets) 24 3 refl (first .octets) legal-first refl in omega arith
+not-at-the-input-width least = let two : 3 ≤ 2 = least (lanes 2) 1 (first .octets) 24 3 refl (first .octets) legal-first refl in omega arith
 
 -- ---- lane-keeping downsizing, P1's transfer from 4 to 2
 

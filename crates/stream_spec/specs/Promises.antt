@@ -223,6 +223,15 @@ NoShorter =
     → (ys : List ℕ) → Legal (atWidth s v) ys → streamItems (atWidth s v) ys ≡ streamItems s xs
     → n ≤ length (records (atWidth s v) ys)
 
+-- And n is reached, at every accepted call: the packed form is such a list itself. So n is the least number.
+pub record Reached (s : Shape) (v : ℕ) (xs : List ℕ) (n : ℕ) : Type 0 where
+  pub legal : Legal (atWidth s v) (packed s v xs)
+  pub same : streamItems (atWidth s v) (packed s v xs) ≡ streamItems s xs
+  pub count : length (records (atWidth s v) (packed s v xs)) ≡ n
+
+abbrev pub LeastReached : Type 0
+LeastReached = (s : Shape) (v : ℕ) (xs : List ℕ) (room n : ℕ) → Octets xs → repackAnswer s v xs room ≡ Records n → Reached s v xs n
+
 -- ---- lane-keeping downsizing
 
 -- "Its items equal the input's, so its packed form at any width is the input's." And it is a legal stream.

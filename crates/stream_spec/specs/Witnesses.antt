@@ -28,9 +28,12 @@ endlessItems = byte (pair 1 2) (octet 17 0) ∷ byte (pair 1 2) (octet 34 0) ∷
 abbrev pub firstItems : List (Item Kept)
 firstItems = endlessItems ++ end (pair 1 2) ∷ []
 
--- its packed form at widths 1, 4 and 16
+-- its packed form at widths 1, 2, 4 and 16
 abbrev pub atOne : List ℕ
 atOne = one 0 1 2 1 1 17 ++ (one 0 1 2 1 1 34 ++ one 1 1 2 1 0 0)
+
+abbrev pub atTwo : List ℕ
+atTwo = 0 ∷ 1 ∷ 2 ∷ 3 ∷ 0 ∷ 3 ∷ 0 ∷ 17 ∷ 34 ∷ 1 ∷ 1 ∷ 2 ∷ 1 ∷ 0 ∷ 0 ∷ 0 ∷ 0 ∷ 0 ∷ []
 
 abbrev pub atFour : List ℕ
 atFour = 1 ∷ 1 ∷ 2 ∷ 7 ∷ 0 ∷ 3 ∷ 0 ∷ 17 ∷ 34 ∷ 0 ∷ 0 ∷ []

@@ -24,7 +24,7 @@ fn table(v: usize, list: &[Item]) -> Vec<usize> {
     least
 }
 
-pub fn least(v: usize, list: &[Item]) -> usize { table(v, list)[0] }
+pub fn fewest(v: usize, list: &[Item]) -> usize { table(v, list)[0] }
 
 /// A legal record with these items, its bytes on any lanes, in order. Null lanes have any octet and any user bits, position
 /// lanes any octet.
@@ -51,19 +51,19 @@ fn record(r: &mut Random, v: usize, m: usize, pair: (u8, u8), list: &[Item]) -> 
     octets
 }
 
-/// A legal stream of width v with these items: a shortest one, or any, with all-null records of any pair in it.
+/// A legal stream of width v with these items: a shortest one, or any, with all-null records of any pair in front, between and behind.
 pub fn stream(r: &mut Random, v: usize, m: usize, list: &[Item], shortest: bool) -> Vec<u8> {
     let least = table(v, list);
     let (mut octets, mut at) = (Vec::new(), 0);
-    while at < list.len() {
-        let ways: Vec<usize> = one_record(v, &list[at..]).filter(|n| !shortest || least[at] == 1 + least[at + n]).collect();
-        let n = r.pick(&ways);
-        octets.extend(record(r, v, m, list[at].pair, &list[at..at + n]));
-        at += n;
+    loop {
         while !shortest && r.one_in(4) {
             let pair = (r.next() as u8, r.below(16) as u8);
             octets.extend(record(r, v, m, pair, &[]));
         }
+        if at == list.len() { return octets; }
+        let ways: Vec<usize> = one_record(v, &list[at..]).filter(|n| !shortest || least[at] == 1 + least[at + n]).collect();
+        let n = r.pick(&ways);
+        octets.extend(record(r, v, m, list[at].pair, &list[at..at + n]));
+        at += n;
     }
-    octets
 }

@@ -1,22 +1,24 @@
 //! T-07, "no shorter stream": what the library's repacking answers, and a report shows, against the least number that is found by
 //! dynamic programming over the items, and against other streams with the same items.
 use crate::compare_report::{WORDS, ask, sheet};
-use crate::compare_streams::{REPACK, cycles, damage, some_user, transfers, write_into};
+use crate::compare_streams::{REPACK, cycles, damage, show, some_user, transfers, write_into};
 use crate::tally::{Random, Tally};
-use crate::{cases_least, library_stream, model, model_least};
+use crate::{cases_fewest, library_stream, model, model_fewest};
 
 /// The library's records are as many as the least number says, and fit into no less room. Another stream of that width with the
-/// same items, a shortest one or any, has no fewer, and is repacked to the same octets where it is no longer than a take.
+/// same items, a shortest one or any, has no fewer, and is repacked to the same octets where it is no longer than a take. The input
+/// itself is such a stream where it has that width.
 fn compare(t: &mut Tally, r: &mut Random, w: usize, m: usize, v: usize, input: &[u8]) {
     let list = model::items(w, m, input);
     let size = model::record_octets(v, m);
-    let room = model_least::least(v, &list) * size;
+    let room = model_fewest::fewest(v, &list) * size;
     let packed = write_into(t, &REPACK, w, m, v, input, room);
-    t.same(packed.as_ref().map(Vec::len), Some(room), || format!("octets of the shortest stream, {w} to {v}, user bits {m}, {input:02x?}"));
+    t.same(packed.as_ref().map(Vec::len), Some(room), || format!("octets of the shortest stream, {w} to {v}, user bits {m}, {}", show(input)));
+    if w == v { t.check(room <= input.len(), || format!("records of the input, width {v}, user bits {m}, {}", show(input))); }
     if room > 0 { write_into(t, &REPACK, w, m, v, input, room - 1); }
     for shortest in [true, false] {
-        let other = model_least::stream(r, v, m, &list, shortest);
-        let says = || format!("another stream of width {v}, user bits {m}, {other:02x?} for {input:02x?} of width {w}");
+        let other = model_fewest::stream(r, v, m, &list, shortest);
+        let says = || format!("another stream of width {v}, user bits {m}, {} for {} of width {w}", show(&other), show(input));
         t.check(model::items(v, m, &other) == list, says);
         t.check(if shortest { other.len() == room } else { other.len() >= room }, says);
         if other.len() > model::MOST_OCTETS { continue; }
@@ -43,8 +45,8 @@ fn random(t: &mut Tally, r: &mut Random, n: usize) {
 /// Stretches of just so many bytes that the last record is full, or nearly so, with an end and without.
 fn at_the_bound(t: &mut Tally, r: &mut Random, v: usize, m: usize) {
     for (bytes, last) in (0..=2 * v + 1).flat_map(|bytes| [0, 1].map(|last| (bytes, last))) {
-        let mut input: Vec<u8> = (0..bytes).flat_map(|_| [vec![0, 1, 2, 1, 0, 1, 0, 5], vec![0; m.min(1)]].concat()).collect();
-        input.extend([vec![last, 1, 2, 0, 0, 0, 0, 0], vec![0; m.min(1)]].concat());
+        let mut input: Vec<u8> = (0..bytes).flat_map(|_| [vec![0, 1, 2, 1, 0, 1, 0, 5], vec![1; m.min(1)]].concat()).collect();
+        input.extend([vec![last, 1, 2, 0, 0, 0, 0, 0], vec![1; m.min(1)]].concat());
         input.extend(transfers(r, 1, m, 2));
         compare(t, r, 1, m, v, &input);
     }
@@ -53,16 +55,18 @@ fn at_the_bound(t: &mut Tally, r: &mut Random, v: usize, m: usize) {
 /// `records` of a clean report: with `mode=pack` the least number for the transfers as TLAST was filled in; with `mode=lanes` no fewer.
 fn report(t: &mut Tally, r: &mut Random, n: usize) {
     let (w, m) = (1 + r.below(16), some_user(r));
-    let (take, v) = (cycles(r, w, m, n), 1 + r.below(w));
+    let take = cycles(r, w, m, n);
+    let most = r.pick(&[w, 16]);
+    let v = 1 + r.below(most);
     for (mode, word) in ["pack", "lanes"].into_iter().flat_map(|mode| WORDS.map(|word| (mode, word))) {
         let (answer, _, _) = ask((&sheet(w, v, mode, word, m), 1), (&take, 1));
         if answer.verdict != 0 { continue; }
         let mut filled = take.clone();
         if word != "wired" { model::fill_in(w, m, &mut filled, word == "none"); }
         let list = model::items(w, m, &model::harvest_plan(w, m, &filled).expect("a clean take"));
-        let least = model_least::least(v, &list) as u64;
+        let least = model_fewest::fewest(v, &list) as u64;
         let good = if mode == "pack" { answer.records == least } else { answer.records >= least };
-        t.check(good, || format!("report {w} to {v}, {mode}, {word}, user bits {m}: {} records, at least {least}, {take:02x?}", answer.records));
+        t.check(good, || format!("report {w} to {v}, {mode}, {word}, user bits {m}: {} records, at least {least}, {}", answer.records, show(&take)));
     }
 }
 
@@ -75,7 +79,7 @@ pub fn round(t: &mut Tally, r: &mut Random) {
 
 /// What the gate asks.
 pub fn all(t: &mut Tally) {
-    cases_least::least(t, library_stream::repack);
+    cases_fewest::all(t, library_stream::repack);
     t.seeded_group("T-07 every width to every width", |t, r| for (w, v) in (1..=16).flat_map(|w| (1..=16).map(move |v| (w, v))) {
         for (m, n) in (0..=4).flat_map(|m| [1, 3, 9, 40].map(|n| (m, n))) { let input = transfers(r, w, m, n); compare(t, r, w, m, v, &input); }
     });

@@ -2,7 +2,7 @@
 //! against any repacking call: the model's in the self test, and the library's in the comparison.
 use crate::cases::ConvertCall;
 use crate::model::{self, Item};
-use crate::model_least;
+use crate::model_fewest;
 use crate::tally::Tally;
 use std::collections::HashMap;
 
@@ -42,8 +42,8 @@ const BY_HAND: [Hand; 27] = [
     ("aaaaaaaaaaaaaaaaaA", [17, 9, 6, 5, 4, 2]),
 ];
 
-fn letter(letter: char, m: usize, k: usize) -> Vec<u8> {
-    let (last, pair, keep, strb) = match letter {
+fn letter(c: char, m: usize, k: usize) -> Vec<u8> {
+    let (last, pair, keep, strb) = match c {
         'a' => (0, [1, 2], 1, 1),
         'p' => (0, [1, 2], 1, 0),
         'A' => (1, [1, 2], 0, 0),
@@ -71,7 +71,7 @@ fn by_hand(t: &mut Tally, repack: ConvertCall) {
         let input: Vec<u8> = letters.chars().enumerate().flat_map(|(k, c)| letter(c, m, k)).collect();
         let list = model::items(1, m, &input);
         for (v, least) in WIDTHS.into_iter().zip(numbers) {
-            t.same(model_least::least(v, &list), least, || format!("the least number at width {v} for {letters:?}"));
+            t.same(model_fewest::fewest(v, &list), least, || format!("the least number at width {v} for {letters:?}"));
             answers(t, repack, (1, m, v), &input, least);
         }
     }
@@ -80,7 +80,7 @@ fn by_hand(t: &mut Tally, repack: ConvertCall) {
 /// Record number k of all that there are at width v, with two pairs and one octet of data: TLAST, the pair, and each lane null, a position or data.
 fn numbered(v: usize, k: usize) -> Vec<u8> {
     let kinds = (0..v as u32).map(|lane| k / 4 / 3usize.pow(lane) % 3);
-    let mask = |least| kinds.clone().enumerate().filter(|(_, kind)| *kind >= least).map(|(lane, _)| 1u8 << lane).sum();
+    let mask = |from| kinds.clone().enumerate().filter(|(_, kind)| *kind >= from).map(|(lane, _)| 1u8 << lane).sum();
     let mut octets = vec![k as u8 & 1, k as u8 >> 1 & 1, 0, mask(1), 0, mask(2), 0];
     octets.extend(kinds.clone().map(|kind| if kind == 2 { 7 } else { 99 }));
     octets
@@ -98,7 +98,8 @@ fn every_stream(v: usize, most: usize) -> Vec<Vec<u8>> {
     all
 }
 
-/// Of all streams with the same items the shortest one's records: nothing is computed, they are all looked at.
+/// Of all streams with the same items the shortest one's records: nothing is computed, they are all looked at. A shortest one is among
+/// them, since it has no more records than this one, and no other pair or octet.
 fn every_short_stream(t: &mut Tally, repack: ConvertCall, v: usize, most: usize) {
     let all: Vec<(Vec<u8>, Vec<Item>)> = every_stream(v, most).into_iter().map(|s| (s.clone(), model::items(v, 0, &s))).collect();
     let mut fewest: HashMap<&[Item], usize> = HashMap::new();
@@ -108,12 +109,12 @@ fn every_short_stream(t: &mut Tally, repack: ConvertCall, v: usize, most: usize)
     }
     for (stream, list) in &all {
         let least = fewest[&list[..]];
-        t.same(model_least::least(v, list), least, || format!("the least number at width {v} for {list:?}"));
+        t.same(model_fewest::fewest(v, list), least, || format!("the least number at width {v} for {list:?}"));
         answers(t, repack, (v, 0, v), stream, least);
     }
 }
 
-pub fn least(t: &mut Tally, repack: ConvertCall) {
+pub fn all(t: &mut Tally, repack: ConvertCall) {
     t.group("T-07 by hand", |t| by_hand(t, repack));
     t.group("T-07 every short stream", |t| for (v, most) in [(1, 4), (2, 3), (3, 2), (4, 2)] { every_short_stream(t, repack, v, most) });
 }
