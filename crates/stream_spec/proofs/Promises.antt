@@ -187,13 +187,13 @@ canonical s t v xs ys m w l k = (
 pub noShorter : NoShorter
 noShorter s v xs room n e ys l same =
     let a = accepted-of s v xs room n (ap accepted e) in
-    let t = atWidth s v in
+    let other = atWidth s v in
     omega (
       arith,
       a .number,
       ap (λ (is : List (Item Kept)). length (pack v is)) same,
-      pack-least v (a .repacks .output .low) (transfers t ys) (wide-transfers t ys),
-      length-map (records t ys) (transferOf t),
+      pack-least v (a .repacks .output .low) (transfers other ys) (wide-transfers other ys),
+      length-map (records other ys) (transferOf other),
     )
 
 pub leastReached : LeastReached
