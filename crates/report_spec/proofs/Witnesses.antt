@@ -21,6 +21,7 @@ use Rattle.stream_spec.specs.Memory.{inFront}
 use Rattle.stream_spec.specs.Legal.{Octets, Legal}
 use Rattle.stream_spec.proofs.Tables.{octets-tested, legalTested}
 use Rattle.report_setup_spec.specs.declared.Setup.{Setup}
+use Rattle.report_setup_spec.specs.declared.Mode.{Mode}
 use Rattle.report_setup_spec.specs.declared.Mode.the-variants.{Pack, Lanes}
 use Rattle.report_setup_spec.specs.declared.Tlast.{Tlast}
 use Rattle.report_setup_spec.specs.declared.Tlast.the-variants.{Wired, Absent, Low}
@@ -187,7 +188,17 @@ pub p1-least : 2 ≤ 2
 unfolding size judgeAnswer repackAnswer
 p1-least = leastRecords p1 p1Take 18 (tally 1 1 2) refl refl p1Slices (legalTested (shaped 2 0) p1Slices .1 refl) refl
 
--- with `mode=lanes` it is false: P1's transfer has four slices of one lane, one of them all-null, where these three records carry it
+-- `LeastRecords` is this statement of `mode=pack`
+abbrev LeastIn : Mode → Type 0
+LeastIn m =
+    (u : Setup) (capture : List ℕ) (room : ℕ) (t : Tally) → u .mode ≡ m → setupOutcome u (some capture) room .verdict ≡ Clean t
+    → (ys : List ℕ) → Legal (outShape u) ys → streamItems (outShape u) ys ≡ streamItems (shapeOf u) (transfersOf u capture)
+    → t .records ≤ length (records (outShape u) ys)
+
+pub in-pack-mode : LeastIn Pack
+in-pack-mode = leastRecords
+
+-- Of `mode=lanes` it is false: P1's transfer has four slices of one lane, one of them all-null, where these three records carry it.
 abbrev toOne : Setup
 toOne = record { «width_in» = 4; «width_out» = 1; mode = Lanes; tlast = Wired; user = 0 }
 
@@ -196,9 +207,7 @@ p1Ones =
     0x00 ∷ 0x01 ∷ 0x02 ∷ 0x01 ∷ 0x00 ∷ 0x01 ∷ 0x00 ∷ 0x11 ∷ 0x00 ∷ 0x01 ∷ 0x02 ∷ 0x01 ∷ 0x00 ∷ 0x00 ∷ 0x00 ∷ 0x00
     ∷ 0x01 ∷ 0x01 ∷ 0x02 ∷ 0x01 ∷ 0x00 ∷ 0x01 ∷ 0x00 ∷ 0x44 ∷ []
 
-pub not-in-lanes-mode : ((u : Setup) (capture : List ℕ) (room : ℕ) (t : Tally) → u .mode ≡ Lanes → setupOutcome u (some capture) room .verdict ≡ Clean t
-    → (ys : List ℕ) → Legal (outShape u) ys → streamItems (outShape u) ys ≡ streamItems (shapeOf u) (transfersOf u capture)
-    → t .records ≤ length (records (outShape u) ys)) → ⊥
+pub not-in-lanes-mode : LeastIn Lanes → ⊥
 unfolding size judgeAnswer downsizeAnswer
 not-in-lanes-mode least =
     let few : 4 ≤ 3 =
