@@ -1,6 +1,6 @@
 // The refusals of paper 01's table 'Refusal numbers' and of paper 02, and the numbers that each one shows to a user.
 // Every call of the library that can refuse answers with this enum inside its own answer. Which call gives which
-// refusal, and in which order, is not here: it stands in the definitions of the calls (stream_spec, burst_spec, axi3_spec, report_setup_spec, report_spec).
+// refusal, and in which order, is not here: it stands in the definitions of the calls (the crates whose names end in _spec).
 ghost use mathlib.Core.Path.{_≡_};
 ghost use Rattle.refusal.specs.Code.{codeOf};
 
@@ -38,6 +38,8 @@ pub enum Refusal {
     Setup,
     // 16 USERBITS: more than 4 user bits to a byte
     UserBits,
+    // 17 TAGS: merging, this transfer record has a TID of 128 or more
+    Tags(usize),
 }
 
 // What a refusal shows, in this order: its number in the table, its place (a record or a cycle), the handshake rule.
@@ -65,5 +67,6 @@ pub fn code_of(r: Refusal) -> Code
         Refusal::Unclean(cycle, rule) => Code(14, cycle, rule),
         Refusal::Setup => Code(15, 0, 0),
         Refusal::UserBits => Code(16, 0, 0),
+        Refusal::Tags(record) => Code(17, record, 0),
     }
 }

@@ -10,7 +10,7 @@ use borrow.Author.Tests.{eqb-false, eqb-true, ltb-false, le-ltb, eq-eqb, ne-eqb,
 use lib.Dec.{eqb, ltb}
 use lib.ListN.{length}
 use Rattle.refusal.specs.Checks.{first}
-use Rattle.refusal.proofs.First.{first-none, none-first, append-none}
+use Rattle.refusal.proofs.First.{first-none, none-first, append-none, none-append}
 use Rattle.stream_spec.specs.declared.Shape.{Shape}
 use Rattle.stream_spec.specs.Layout.{widthMost, userMost, size}
 use Rattle.stream_spec.specs.Checks.{widthCheck, userCheck, shapeChecks, captureMost, lengthCheck, takeChecks}
@@ -54,6 +54,9 @@ of-user s h = none-first (userCheck s) [] (le-ltb userMost (s .user) (h .user)) 
 pub shape-fits : (s : Shape) → first (shapeChecks s []) ≡ none → ShapeFits s
 shape-fits s e = let w = first-none (widthCheck (s .width)) (userCheck s ∷ []) e in shape-of s (w .0) (w .1)
 
+pub fits-shape : (s : Shape) → ShapeFits s → first (shapeChecks s []) ≡ none
+fits-shape s h = none-first (widthCheck (s .width)) (userCheck s ∷ []) (of-width s h) (of-user s h)
+
 pub shapes-fit : (s : Shape) (v : ℕ) → first (shapeChecks s (v ∷ [])) ≡ none → ShapeFits s × WidthFits v
 shapes-fit s v e =
     let w = first-none (widthCheck (s .width)) (widthCheck v ∷ userCheck s ∷ []) e in
@@ -95,3 +98,9 @@ passed-shape s xs p = record { low = p .low; high = p .high; user = p .user }
 
 pub passed-narrow : (s : Shape) (xs : List ℕ) → Passed s xs → Narrow s
 passed-narrow s xs p = record { width = p .high; user = p .user }
+
+-- and it passes once more
+pub passed-checks : (s : Shape) (xs : List ℕ) → Passed s xs → first (takeChecks s xs) ≡ none
+passed-checks s xs p =
+    none-append (shapeChecks s []) (lengthCheck s xs ∷ []) (fits-shape s (passed-shape s xs p))
+    (none-first (lengthCheck s xs) [] (fits-length s xs (p .short) (p .whole)) refl)

@@ -1,0 +1,110 @@
+-- One record with another TID: every other field stays, what it stands for gets the other TID, and the TID comes back. Assumes nothing.
+use mathlib.Core.Bool.{Bool, true, false, not}
+use mathlib.Core.List.{List, [], _∷_, map}
+use mathlib.Core.Path.{_≡_, refl, sym, ap, ap₂, _∙_}
+use Prim.Native.Nat.{ℕ, _+_, _-_, _≤_, _<_}
+use native.Mathlib.Omega.{arith}
+use borrow.Author.Tests.{leb-true, leb-false, le-leb, lt-leb}
+use lib.ListN.{length, set, length-set}
+use Rattle.stream_spec.specs.declared.Shape.{Shape}
+use Rattle.stream_spec.specs.Items.{Transfer}
+use Rattle.stream_spec.specs.Layout.{tidAt, size, Kept, flags, pairOf, tkeep, tstrb, tlast, userNumber, transferOf, octetsOf}
+use Rattle.stream_spec.specs.Checks.{transferFlags, headFault, fieldFault, reservedFault}
+use Rattle.stream_spec.specs.Legal.{Octets}
+use Rattle.stream_spec.proofs.Size.{size-holds}
+use Rattle.stream_spec.proofs.Users.{users-behind}
+use Rattle.stream_spec.proofs.Records.{Sized}
+use Rattle.merge_spec.specs.Turns.{those}
+use Rattle.merge_spec.specs.Merge.{tagAdded, tid, tagged, restored, highTid, lowTid}
+use Rattle.merge_spec.proofs.Turns.{All}
+
+-- ---- any octet 1 instead: the other fields are read as before
+
+user-kept : (s : Shape) (t : ℕ) (r : List ℕ) → userNumber s (set r tidAt t) ≡ userNumber s r
+user-kept s t [] = refl
+user-kept s t (f ∷ []) = refl
+user-kept s t (f ∷ u ∷ r) = users-behind s (f ∷ t ∷ r) ∙ sym (users-behind s (f ∷ u ∷ r))
+
+field-kept : (s : Shape) (t : ℕ) (r : List ℕ) → fieldFault transferFlags s (set r tidAt t) ≡ fieldFault transferFlags s r
+field-kept s t [] = refl
+field-kept s t (f ∷ []) = refl
+field-kept s t (f ∷ u ∷ r) = rw (user-kept s t (f ∷ u ∷ r)) refl
+
+reserved-kept : (s : Shape) (t : ℕ) (r : List ℕ) → reservedFault s (set r tidAt t) ≡ reservedFault s r
+reserved-kept s t [] = refl
+reserved-kept s t (f ∷ []) = refl
+reserved-kept s t (f ∷ u ∷ r) = refl
+
+-- ---- a record of port 1 as it goes out
+
+pub tagged-long : (r : List ℕ) → length (tagged r) ≡ length r
+tagged-long r = length-set r tidAt (tid r + tagAdded)
+
+pub tagged-last : (r : List ℕ) → tlast (tagged r) ≡ tlast r
+tagged-last [] = refl
+tagged-last (f ∷ []) = refl
+tagged-last (f ∷ t ∷ r) = refl
+
+pub tagged-field : (s : Shape) (r : List ℕ) → fieldFault transferFlags s (tagged r) ≡ fieldFault transferFlags s r
+tagged-field s r = field-kept s (tid r + tagAdded) r
+
+pub tagged-reserved : (s : Shape) (r : List ℕ) → reservedFault s (tagged r) ≡ reservedFault s r
+tagged-reserved s r = reserved-kept s (tid r + tagAdded) r
+
+pub tagged-octets : (r : List ℕ) → tid r < tagAdded → Octets r → Octets (tagged r)
+tagged-octets [] l h = tt
+tagged-octets (f ∷ []) l h = h
+tagged-octets (f ∷ t ∷ r) l h = (h .0, (omega arith, h .1 .1))
+
+-- the TID of a record of two octets or more, and how it comes back
+pub tagged-tid : (r : List ℕ) → 1 < length r → tid (tagged r) ≡ tid r + tagAdded
+tagged-tid [] h = absurd (omega arith)
+tagged-tid (f ∷ []) h = absurd (omega arith)
+tagged-tid (f ∷ t ∷ r) h = refl
+
+pub tagged-back : (r : List ℕ) → restored (tagged r) ≡ r
+tagged-back [] = refl
+tagged-back (f ∷ []) = refl
+tagged-back (f ∷ t ∷ r) = let back : t + 128 - 128 ≡ t = omega arith in ap (λ (u : ℕ). f ∷ u ∷ r) back
+
+-- ---- the transfer that it stands for
+
+abbrev pub tagTransfer : Transfer Kept → Transfer Kept
+tagTransfer t =
+    record { pair = record { tid = t .pair .tid + tagAdded; tdest = t .pair .tdest }; lanes = t .lanes; last = t .last }
+
+pub transfer-tagged : (s : Shape) (r : List ℕ) → 1 < length r → transferOf s (tagged r) ≡ tagTransfer (transferOf s r)
+transfer-tagged s [] h = absurd (omega arith)
+transfer-tagged s (f ∷ []) h = absurd (omega arith)
+transfer-tagged s (f ∷ t ∷ r) h = rw (user-kept s (t + 128) (f ∷ t ∷ r)) refl
+
+pub octets-tagged : (m : ℕ) (t : Transfer Kept) → octetsOf m (tagTransfer t) ≡ tagged (octetsOf m t)
+octets-tagged m t = refl
+
+-- ---- lists of records
+
+-- a record has two octets
+pub sized-two : (s : Shape) (r : List ℕ) → length r ≡ size s → 1 < length r
+sized-two s r h = omega (arith, size-holds s)
+
+pub sized-tagged : (n : ℕ) (rs : List (List ℕ)) → Sized n rs → Sized n (map tagged rs)
+sized-tagged n [] h = tt
+sized-tagged n (r ∷ rs) h = (tagged-long r ∙ h .0, sized-tagged n rs (h .1))
+
+pub all-back : (rs : List (List ℕ)) → map restored (map tagged rs) ≡ rs
+all-back [] = refl
+all-back (r ∷ rs) = ap₂ (λ (x : List ℕ) (xs : List (List ℕ)). x ∷ xs) (tagged-back r) (all-back rs)
+
+-- what goes out of port 0 is low, and what goes out of port 1 is high
+abbrev pub AllLow : List (List ℕ) → Type 0
+AllLow rs = All highTid false rs
+
+pub high-tagged : (s : Shape) (rs : List (List ℕ)) → Sized (size s) rs → All highTid true (map tagged rs)
+high-tagged s [] h = tt
+high-tagged s (r ∷ rs) h =
+    (le-leb tagAdded (tid (tagged r)) (rw (tagged-tid r (sized-two s r (h .0))) (omega arith)), high-tagged s rs (h .1))
+
+-- the other way to say it
+pub all-not : (b : Bool) (rs : List (List ℕ)) → All highTid b rs → All lowTid (not b) rs
+all-not b [] h = tt
+all-not b (r ∷ rs) h = (ap not (h .0), all-not b rs (h .1))

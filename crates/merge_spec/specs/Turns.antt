@@ -1,0 +1,30 @@
+-- Turns (paper 02, T-08), over any type A of what is passed on; no octet is known here.
+use mathlib.Core.Bool.{Bool, cond}
+use mathlib.Core.List.{List, [], _∷_, _++_}
+
+module _ {A : Type 0} where
+  -- one in front of a list's first turn
+  abbrev pub inFront : A → List (List A) → List (List A)
+  inFront a [] = (a ∷ []) ∷ []
+  inFront a (t ∷ ts) = (a ∷ t) ∷ ts
+
+  -- the turns of one port: "A turn passes on that port's transfers up to and including its next TLAST .., or to the list's end"
+  abbrev pub turnsOf : (A → Bool) → List A → List (List A)
+  turnsOf last [] = []
+  turnsOf last (a ∷ rest) = cond (last a) ((a ∷ []) ∷ turnsOf last rest) (inFront a (turnsOf last rest))
+
+  -- the turns of two ports: "then the turn goes over. A port with nothing left is skipped."
+  abbrev pub alternate : List (List A) → List (List A) → List (List A)
+  alternate [] us = us
+  alternate (t ∷ ts) [] = t ∷ ts
+  alternate (t ∷ ts) (u ∷ us) = t ∷ u ∷ alternate ts us
+
+  -- all that turns pass on, in order
+  abbrev pub passed : List (List A) → List A
+  passed [] = []
+  passed (t ∷ ts) = t ++ passed ts
+
+  -- those of a list that are so, in order
+  abbrev pub those : (A → Bool) → List A → List A
+  those is [] = []
+  those is (a ∷ rest) = cond (is a) (a ∷ those is rest) (those is rest)
