@@ -8,10 +8,10 @@ use Prim.Native.Nat.{ℕ}
 use native.Mathlib.Omega.{arith}
 use lib.ListN.{length, length-append}
 use Rattle.stream_spec.specs.Layout.{tlast}
-use Rattle.merge_spec.specs.Turns.{alternate, passed, those}
+use Rattle.merge_spec.specs.Turns.{alternate, passed, those, line}
 use Rattle.merge_spec.specs.Merge.{highTid, lowTid}
 use Rattle.merge_spec.specs.Promises.{sentBy, Next, turnAfter, InTurns, IsTurn, GoesOver, Fair}
-use Rattle.merge_spec.proofs.Turns.{All, AllTurns, EachTurn, all-those, none-those, all-twice, each-passed, Ends, Ended, alternate-nil, line, line-first, line-second, skip-first, skip-second, line-no-first, line-no-second}
+use Rattle.merge_spec.proofs.Turns.{All, AllTurns, EachTurn, all-those, none-those, all-twice, each-passed, Ends, Ended, alternate-nil, line-first, line-second, skip-first, skip-second, line-no-first, line-no-second}
 use Rattle.merge_spec.proofs.Tags.{AllLow, all-not}
 
 -- ---- what a port sent

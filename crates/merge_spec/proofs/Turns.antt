@@ -6,7 +6,7 @@ use mathlib.Core.Path.{_≡_, refl, sym, ap, ap₂, _∙_}
 use Prim.Native.Nat.{ℕ, zero, suc}
 use lib.ListN.{getD}
 use Rattle.stream_spec.proofs.Pack.{map-append}
-use Rattle.merge_spec.specs.Turns.{inFront, turnsOf, alternate, passed, those}
+use Rattle.merge_spec.specs.Turns.{inFront, turnsOf, alternate, passed, those, sending, line}
 
 -- ---- what holds of each of a list
 
@@ -219,10 +219,6 @@ module _ {A B : Type 0} (f : A → B) (last : B → Bool) (was : A → Bool) (sa
 -- ---- record by record, as code goes
 
 module _ {A : Type 0} (last : A → Bool) where
-  -- what is passed on of two lists where the first one of them has the turn
-  abbrev pub sending : List A → List A → List A
-  sending xs ys = passed (alternate (turnsOf last xs) (turnsOf last ys))
-
   -- a record in front of a turn that is not over
   front-sent : (x : A) (ts us : List (List A)) → passed (alternate (inFront x ts) us) ≡ x ∷ passed (alternate ts us)
   front-sent x [] us = ap passed (alternate-swap (x ∷ []) [] us) ∙ ap (λ (l : List (List A)). x ∷ passed l) (alternate-nil us)
@@ -230,46 +226,41 @@ module _ {A : Type 0} (last : A → Bool) where
       ap passed (alternate-swap (x ∷ t) ts us) ∙ ap (λ (l : List (List A)). x ∷ passed l) (sym (alternate-swap t ts us))
 
   -- a record of the port that has the turn is sent; the turn goes over where the record is the last of its turn, and else stays
-  sent-last : (x : A) (xs ys : List A) → last x ≡ true → sending (x ∷ xs) ys ≡ x ∷ sending ys xs
+  sent-last : (x : A) (xs ys : List A) → last x ≡ true → sending last (x ∷ xs) ys ≡ x ∷ sending last ys xs
   sent-last x xs ys e = rw e (ap passed (alternate-swap (x ∷ []) (turnsOf last xs) (turnsOf last ys)))
 
-  sent-more : (x : A) (xs ys : List A) → last x ≡ false → sending (x ∷ xs) ys ≡ x ∷ sending xs ys
+  sent-more : (x : A) (xs ys : List A) → last x ≡ false → sending last (x ∷ xs) ys ≡ x ∷ sending last xs ys
   sent-more x xs ys e = rw e (front-sent x (turnsOf last xs) (turnsOf last ys))
 
-  sent-skip : (ys : List A) → sending [] ys ≡ sending ys []
+  sent-skip : (ys : List A) → sending last [] ys ≡ sending last ys []
   sent-skip ys = ap passed (sym (alternate-nil (turnsOf last ys)))
 
-  -- what is passed on of port 0's list and port 1's where port 1 has the turn, or port 0
-  abbrev pub line : Bool → List A → List A → List A
-  line true xs ys = sending ys xs
-  line false xs ys = sending xs ys
-
-  pub line-first : (x : A) (xs ys : List A) → line false (x ∷ xs) ys ≡ x ∷ line (last x) xs ys
+  pub line-first : (x : A) (xs ys : List A) → line last false (x ∷ xs) ys ≡ x ∷ line last (last x) xs ys
   line-first x xs ys = go (last x) refl
     where
-      go : (b : Bool) → last x ≡ b → line false (x ∷ xs) ys ≡ x ∷ line b xs ys
+      go : (b : Bool) → last x ≡ b → line last false (x ∷ xs) ys ≡ x ∷ line last b xs ys
       go true e = sent-last x xs ys e
       go false e = sent-more x xs ys e
 
-  pub line-second : (xs : List A) (y : A) (ys : List A) → line true xs (y ∷ ys) ≡ y ∷ line (not (last y)) xs ys
+  pub line-second : (xs : List A) (y : A) (ys : List A) → line last true xs (y ∷ ys) ≡ y ∷ line last (not (last y)) xs ys
   line-second xs y ys = go (last y) refl
     where
-      go : (b : Bool) → last y ≡ b → line true xs (y ∷ ys) ≡ y ∷ line (not b) xs ys
+      go : (b : Bool) → last y ≡ b → line last true xs (y ∷ ys) ≡ y ∷ line last (not b) xs ys
       go true e = sent-last y ys xs e
       go false e = sent-more y ys xs e
 
   -- a port with nothing left is skipped
-  pub skip-first : (ys : List A) → line false [] ys ≡ line true [] ys
+  pub skip-first : (ys : List A) → line last false [] ys ≡ line last true [] ys
   skip-first ys = sent-skip ys
 
-  pub skip-second : (xs : List A) → line true xs [] ≡ line false xs []
+  pub skip-second : (xs : List A) → line last true xs [] ≡ line last false xs []
   skip-second xs = sent-skip xs
 
   -- and the other's list is passed on as it is
-  pub line-no-first : (b : Bool) (ys : List A) → line b [] ys ≡ ys
+  pub line-no-first : (b : Bool) (ys : List A) → line last b [] ys ≡ ys
   line-no-first true ys = sym (sent-skip ys) ∙ turns-pass last ys
   line-no-first false ys = turns-pass last ys
 
-  pub line-no-second : (b : Bool) (xs : List A) → line b xs [] ≡ xs
+  pub line-no-second : (b : Bool) (xs : List A) → line last b xs [] ≡ xs
   line-no-second true xs = turns-pass last xs
   line-no-second false xs = sym (sent-skip xs) ∙ turns-pass last xs

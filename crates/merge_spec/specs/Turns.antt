@@ -1,5 +1,5 @@
 -- Turns (paper 02, T-08), over any type A of what is passed on; no octet is known here.
-use mathlib.Core.Bool.{Bool, cond}
+use mathlib.Core.Bool.{Bool, true, false, cond}
 use mathlib.Core.List.{List, [], _∷_, _++_}
 
 module _ {A : Type 0} where
@@ -28,3 +28,11 @@ module _ {A : Type 0} where
   abbrev pub those : (A → Bool) → List A → List A
   those is [] = []
   those is (a ∷ rest) = cond (is a) (a ∷ those is rest) (those is rest)
+
+  -- what is passed on of two lists where the first of them has the turn; and of port 0's list and port 1's, where port 1 has it or port 0
+  abbrev pub sending : (A → Bool) → List A → List A → List A
+  sending last xs ys = passed (alternate (turnsOf last xs) (turnsOf last ys))
+
+  abbrev pub line : (A → Bool) → Bool → List A → List A → List A
+  line last true xs ys = sending last ys xs
+  line last false xs ys = sending last xs ys

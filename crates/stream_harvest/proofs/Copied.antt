@@ -10,8 +10,8 @@ use Rattle.stream_spec.specs.Memory.{inFront}
 use Rattle.stream_spec.proofs.Bits.{low-number}
 use Rattle.stream_spec.proofs.Harvest.{length-kept}
 use Rattle.words.specs.Splice.{splice}
-use Rattle.words.specs.Words.{wordAt, octetsOfWord, padded}
-use Rattle.words.proofs.Words.{word-octets}
+use Rattle.words.specs.Words.{padded}
+use Rattle.words.proofs.Words.{padded-take}
 use Rattle.words.proofs.Splice.{splice-long, splice-over}
 
 pub same-length : (rec : List ℕ) → 0 < length rec → length (asTransfer rec) ≡ length rec
@@ -20,11 +20,6 @@ same-length rec h = length-kept (length rec) rec h refl
 -- ---- one group
 
 -- the part from `at` on is lent, and the first n octets of it are wanted
-padded-take : (n : ℕ) (xs : List ℕ) → n ≤ length xs → padded n n xs ≡ take n xs
-padded-take zero xs h = refl
-padded-take (suc n) [] h = absurd (omega arith)
-padded-take (suc n) (x ∷ xs) h = ap {B = List ℕ} (λ l. x ∷ l) (padded-take n xs (omega arith))
-
 part-all : (i : ℕ) (rec : List ℕ) → take (length rec - i) (drop i rec) ≡ drop i rec
 part-all i rec = take-all (length rec - i) (drop i rec) (omega (arith, length-drop i rec))
 
@@ -33,10 +28,6 @@ part-long i rec = rw (part-all i rec) (length-drop i rec)
 
 pub group-is : (n i : ℕ) (rec : List ℕ) → i + n ≤ length rec → padded n n (take (length rec - i) (drop i rec)) ≡ take n (drop i rec)
 group-is n i rec h = rw (part-all i rec) (padded-take n (drop i rec) (omega (arith, length-drop i rec)))
-
--- eight octets as one word
-pub word-is : (i : ℕ) (rec : List ℕ) → ((j : ℕ) → getD rec j 0 < 256) → i + 8 ≤ length rec → octetsOfWord 8 (wordAt 8 rec i) ≡ take 8 (drop i rec)
-word-is i rec octets h = word-octets 8 rec i octets ∙ padded-take 8 (drop i rec) (omega (arith, length-drop i rec))
 
 -- ---- the record, group by group
 

@@ -21,6 +21,16 @@ word-octets (suc k) s i h =
     let high : (getD s i 0 + 256 * wordAt k s (i + 1)) / 256 ≡ wordAt k s (i + 1) = omega (arith, h i) in
     rw (low, high, word-octets k s (i + 1) h, getD-drop i s 0 0, add-zero i, drop-drop 1 i s) refl
 
+-- a row that is long enough is not filled up
+pub padded-take : (k : ℕ) (xs : List ℕ) → k ≤ length xs → padded k k xs ≡ take k xs
+padded-take zero xs h = refl
+padded-take (suc k) [] h = absurd (omega arith)
+padded-take (suc k) (x ∷ xs) h = ap {B = List ℕ} (λ l. x ∷ l) (padded-take k xs (omega arith))
+
+-- so a word's octets are those that stand there
+pub word-take : (k : ℕ) (s : List ℕ) (i : ℕ) → ((j : ℕ) → getD s j 0 < 256) → i + k ≤ length s → octetsOfWord k (wordAt k s i) ≡ take k (drop i s)
+word-take k s i octets h = word-octets k s i octets ∙ padded-take k (drop i s) (omega (arith, length-drop i s))
+
 -- the word at a place is the word at the front of what stands there
 pub word-drop : (k a : ℕ) (xs : List ℕ) (i : ℕ) → wordAt k xs (a + i) ≡ wordAt k (drop a xs) i
 word-drop zero a xs i = refl

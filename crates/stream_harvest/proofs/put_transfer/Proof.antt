@@ -6,7 +6,8 @@ use native.Mathlib.Omega.{arith}
 use lib.ListN.{length, getD, take, drop, set, length-set}
 use Rattle.words.specs.Splice.{splice}
 use Rattle.words.specs.Words.{octetsOfWord}
-use Rattle.stream_harvest.proofs.Copied.{part-long, group-is, word-is, copied, copied-long, copied-over, copied-all}
+use Rattle.words.proofs.Words.{word-take}
+use Rattle.stream_harvest.proofs.Copied.{part-long, group-is, copied, copied-long, copied-over, copied-all}
 use borrow.Author.Needs.{needs}
 use Rattle.stream_harvest.proofs.put_transfer.Statement.{statement}
 use Rattle.stream_harvest.proofs.put_transfer.Tie as tie
@@ -84,7 +85,7 @@ three c =
     let place : length (rec e) - 8 ≡ 1 + (length (rec e) - 9) = omega (arith, over l) in
     c .store8 .ensures
     ∙ ap (λ (x : ℕ). splice (length (rec e) - 8) (octetsOfWord 8 x) (p .place2 .last .0)) (l .load8 .ensures)
-    ∙ ap (λ (xs : List ℕ). splice (length (rec e) - 8) xs (p .place2 .last .0)) (word-is from (rec e) (octets (after-one (after-grouped p))) (omega (arith, over l)))
+    ∙ ap (λ (xs : List ℕ). splice (length (rec e) - 8) xs (p .place2 .last .0)) (word-take 8 (rec e) from (octets (after-one (after-grouped p))) (omega (arith, over l)))
     ∙ ap (splice (length (rec e) - 8) (take 8 (drop (length (rec e) - 8) (rec e)))) (two p ∙ ap (copied (rec e) (out e)) all)
     ∙ ap (λ (i : ℕ). splice i (take 8 (drop i (rec e))) (copied (rec e) (out e) 23)) place
     ∙ copied-over (rec e) (out e) (e .pre .room) (length (rec e) - 9) 23 8 (omega (arith, e .pre .high)) (omega (arith, over l)) (omega (arith, over l))
