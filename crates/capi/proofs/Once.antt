@@ -6,6 +6,7 @@ use mathlib.Core.List.{List}
 use Prim.Native.Nat.{ℕ}
 use Rattle.axi3_spec.specs.Answers as axi3
 use Rattle.burst_spec.specs.Answers as burst
+use Rattle.merge_spec.specs.Answers as merge
 use Rattle.write_data_spec.specs.Answers as writes
 use Rattle.stream_spec.specs.declared.Shape.{Shape}
 use Rattle.stream_spec.specs.Answers.{Values}
@@ -17,8 +18,9 @@ use Rattle.capi.specs.declared.burst_calls.BurstAnswer.{BurstAnswer}
 use Rattle.capi.specs.declared.stream_calls.PartAnswer.{PartAnswer}
 use Rattle.capi.specs.declared.stream_calls.StreamAnswer.{StreamAnswer}
 use Rattle.capi.specs.declared.report_calls.ReportAnswer.{ReportAnswer}
+use Rattle.capi.specs.declared.merge_calls.MergeAnswer.{MergeAnswer}
 use Rattle.capi.specs.declared.write_calls.WriteAnswer.{WriteAnswer}
-use Rattle.capi.specs.Shows.{ShowsBurst, ShowsCut, ShowsWrite, ShowsStream, ShowsPart}
+use Rattle.capi.specs.Shows.{ShowsBurst, ShowsCut, ShowsWrite, ShowsMerge, ShowsStream, ShowsPart}
 use Rattle.capi.specs.Reports.{ShowsVerdict, ShowsWhole}
 
 pub burst-once : {a b : BurstAnswer} {values : burst.Values} → ShowsBurst a values → ShowsBurst b values → a ≡ b
@@ -39,6 +41,14 @@ write-once p q = λ i. record {
   rule = both (p .rule) (q .rule) i;
   place = both (p .place) (q .place) i;
   strobes = both (p .strobes) (q .strobes) i;
+}
+
+pub merge-once : {a b : MergeAnswer} {values : merge.Values} → ShowsMerge a values → ShowsMerge b values → a ≡ b
+merge-once p q = λ i. record {
+  refusal = both (p .refusal) (q .refusal) i;
+  port = both (p .port) (q .port) i;
+  place = both (p .place) (q .place) i;
+  count = both (p .count) (q .count) i;
 }
 
 pub stream-once : {a b : StreamAnswer} {values : Values} → ShowsStream a values → ShowsStream b values → a ≡ b

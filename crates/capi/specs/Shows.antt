@@ -1,4 +1,4 @@
--- The numbers of a burst's, a cut's, a write verdict's and a stream's answer as C sees them, against paper 01's numbers that the
+-- The numbers of a burst's, a cut's, a write verdict's, a merge's and a stream's answer as C sees them, against paper 01's numbers that the
 -- calls' definitions give, and how a number that C hands over stands for a bool. The report is in Reports.
 use mathlib.Core.Path.{_≡_}
 use mathlib.Core.Bool.{Bool, not}
@@ -8,6 +8,7 @@ use lib.Dec.{eqb}
 use lib.ListN.{length}
 use Rattle.axi3_spec.specs.Answers as axi3
 use Rattle.burst_spec.specs.Answers as burst
+use Rattle.merge_spec.specs.Answers as merge
 use Rattle.write_data_spec.specs.Answers as writes
 use Rattle.stream_spec.specs.declared.Shape.{Shape}
 use Rattle.stream_spec.specs.Answers.{Values, lookupValues, dataAnswer, dataStart, dataPart}
@@ -15,6 +16,7 @@ use Rattle.capi.specs.declared.stream_calls.PartAnswer.{PartAnswer}
 use Rattle.capi.specs.declared.stream_calls.StreamAnswer.{StreamAnswer}
 use Rattle.capi.specs.declared.burst_calls.BurstAnswer.{BurstAnswer}
 use Rattle.capi.specs.declared.axi3_calls.CutAnswer.{CutAnswer}
+use Rattle.capi.specs.declared.merge_calls.MergeAnswer.{MergeAnswer}
 use Rattle.capi.specs.declared.write_calls.WriteAnswer.{WriteAnswer}
 
 -- No bool crosses the border: 0 is false, any other number is true.
@@ -39,6 +41,13 @@ pub record ShowsWrite (a : WriteAnswer) (values : writes.Values) : Type 0 where
   pub place : a .place ≡ values .place
   pub rule : a .rule ≡ values .rule
   pub strobes : a .strobes ≡ values .strobes
+
+-- The rule of a merge's refusals is always 0.
+pub record ShowsMerge (a : MergeAnswer) (values : merge.Values) : Type 0 where
+  pub refusal : a .refusal ≡ values .refusal
+  pub port : a .port ≡ values .port
+  pub place : a .place ≡ values .place
+  pub count : a .count ≡ values .count
 
 pub record ShowsStream (a : StreamAnswer) (values : Values) : Type 0 where
   pub refusal : a .refusal ≡ values .refusal
