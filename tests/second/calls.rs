@@ -1,10 +1,10 @@
 //! How often each function of the library was called.
 use std::sync::atomic::{AtomicU64, Ordering::Relaxed};
 
-pub const NAMES: [&str; 12] = [
+pub const NAMES: [&str; 13] = [
     "urd_burst_judge", "urd_burst_beat", "urd_burst_step", "urd_axi3_cut", "urd_judge_writes",
     "urd_judge", "urd_harvest", "urd_fill_in", "urd_data_octets", "urd_repack", "urd_downsize",
-    "urd_report",
+    "urd_merge", "urd_report",
 ];
 
 static COUNTS: [AtomicU64; NAMES.len()] = [const { AtomicU64::new(0) }; NAMES.len()];

@@ -2,13 +2,16 @@
 #![allow(dead_code)]
 mod cases;
 mod cases_fewest;
+mod cases_merge;
 mod cases_user;
 mod cases_writes;
 mod least;
 mod masks;
+mod merge_lists;
 mod model;
 mod model_axi3;
 mod model_fewest;
+mod model_merge;
 mod model_writes;
 mod tally;
 use model::{Beat, Burst, FIXED, INCR, WRAP};
@@ -177,6 +180,7 @@ fn main() {
     cases::streams(&mut t, &calls);
     cases_user::users(&mut t, &calls);
     cases_fewest::all(&mut t, calls.repack);
+    cases_merge::merges_of(&mut t, |w, m, [first, second], out| model_merge::merge(w, m, [first, second], out));
     t.group("pseudo code and formulas agree", |t| for _ in 0..20_000 {
         let b = Burst { start: r.next() as u32, len: r.below(256) as u32, size: r.below(8) as u32, kind: r.below(3) as u32, bus: 1 << r.below(8) };
         let judged = model::judge_burst(b);

@@ -435,7 +435,7 @@ pub fn verdicts() -> Vec<String> {
     VERDICTS.iter().map(|name| name.to_string()).chain(tagged).collect()
 }
 
-const WITH_USER_BITS: &str = ", with user bits";
+pub const WITH_USER_BITS: &str = ", with user bits";
 
 const VERDICTS: [&str; 45] = [
     "judge accepted", "judge broken rule 1", "judge broken rule 2", "judge broken rule 3", "judge broken rule 4",

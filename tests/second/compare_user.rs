@@ -4,7 +4,7 @@ use crate::model;
 use crate::tally::{Random, Tally};
 
 /// Above 4; some are 0 or 4 in 8, 16 or 32 bits, and by some a width times them is 0 in 64 bits.
-const ABOVE: [usize; 19] = [5, 6, 7, 8, 9, 16, 255, 256, 260, 65_536, 65_540, 1 << 32, (1 << 32) + 4, 1 << 60, 1 << 61, 1 << 62, 1 << 63, usize::MAX - 7, usize::MAX];
+pub const ABOVE: [usize; 19] = [5, 6, 7, 8, 9, 16, 255, 256, 260, 65_536, 65_540, 1 << 32, (1 << 32) + 4, 1 << 60, 1 << 61, 1 << 62, 1 << 63, usize::MAX - 7, usize::MAX];
 
 /// Every width with every number of user bits but 0.
 fn shapes() -> impl Iterator<Item = (usize, usize)> { (1..=16).flat_map(|w| (1..=4).map(move |m| (w, m))) }

@@ -6,11 +6,13 @@
 mod calls;
 mod cases;
 mod cases_fewest;
+mod cases_merge;
 mod cases_user;
 mod cases_writes;
 mod compare_axi3;
 mod compare_bursts;
 mod compare_fewest;
+mod compare_merge;
 mod compare_report;
 mod compare_streams;
 mod compare_user;
@@ -19,13 +21,16 @@ mod compare_writes;
 mod least;
 mod library_axi3;
 mod library_burst;
+mod library_merge;
 mod library_report;
 mod library_stream;
 mod library_writes;
 mod masks;
+mod merge_lists;
 mod model;
 mod model_axi3;
 mod model_fewest;
+mod model_merge;
 mod model_writes;
 #[path = "../report/model.rs"]
 mod report_model;
@@ -49,10 +54,11 @@ fn gate(seed: u64, only: Option<String>) -> ! {
     compare_report::all(&mut t);
     compare_user_report::all(&mut t);
     compare_fewest::all(&mut t);
+    compare_merge::all(&mut t);
     calls::show();
     t.seed = None; // the last two groups are about the run as a whole
     let bursts = [&compare_bursts::VERDICTS[..], &compare_axi3::VERDICTS, &compare_writes::VERDICTS];
-    let streams = compare_streams::verdicts();
+    let streams = [compare_streams::verdicts(), compare_merge::verdicts()].concat();
     let streams = streams.iter().map(String::as_str).chain(compare_report::VERDICTS).collect();
     t.show_verdicts(&[bursts.concat(), streams].concat());
     t.every_group_ran();
@@ -81,6 +87,7 @@ fn soak(seconds: u64, first: u64) -> ! {
         compare_streams::round(&mut t, &mut r);
         compare_report::round(&mut t, &mut r);
         compare_fewest::round(&mut t, &mut r);
+        compare_merge::round(&mut t, &mut r);
         if began.elapsed() >= Duration::from_secs(seconds) { break; }
         if shown.elapsed() >= PROGRESS {
             shown = Instant::now();

@@ -19,6 +19,7 @@ pub const FENCE: u32 = 12;
 pub const INDEX: u32 = 13;
 pub const UNCLEAN: u32 = 14;
 pub const USERBITS: u32 = 16;
+pub const TAGS: u32 = 17;
 
 // ======================= Part 1: bursts ("Bursts") =======================
 
@@ -162,14 +163,14 @@ fn counted(count: usize) -> StreamAnswer { StreamAnswer { count: count as u64, .
 // ---- "One record of a take", with T-06's octets at its end ----
 fn user_octets(w: usize, m: usize) -> usize { (w * m).div_ceil(8) }
 pub fn record_octets(w: usize, m: usize) -> usize { 7 + w + user_octets(w, m) }
-fn tlast(r: &[u8]) -> bool { r[0] & 1 != 0 }
+pub fn tlast(r: &[u8]) -> bool { r[0] & 1 != 0 }
 fn tvalid(r: &[u8]) -> bool { r[0] & 2 != 0 }
 fn tready(r: &[u8]) -> bool { r[0] & 4 != 0 }
 fn aresetn(r: &[u8]) -> bool { r[0] & 8 != 0 }
 fn tkeep(r: &[u8], lane: usize) -> bool { r[3 + lane / 8] >> (lane % 8) & 1 != 0 }
 fn tstrb(r: &[u8], lane: usize) -> bool { r[5 + lane / 8] >> (lane % 8) & 1 != 0 }
 fn is_reserved(r: &[u8], lane: usize) -> bool { !tkeep(r, lane) && tstrb(r, lane) }
-fn has_reserved_lane(r: &[u8], w: usize) -> bool { (0..w).any(|lane| is_reserved(r, lane)) }
+pub fn has_reserved_lane(r: &[u8], w: usize) -> bool { (0..w).any(|lane| is_reserved(r, lane)) }
 
 /// One bit of the user octets, low octet first. Those from w * m on are padding.
 fn user_bit(r: &[u8], w: usize, bit: usize) -> bool { r[7 + w + bit / 8] >> (bit % 8) & 1 != 0 }
@@ -184,21 +185,21 @@ fn set_user_bits(r: &mut [u8], w: usize, m: usize, lane: usize, bits: u8) {
 }
 
 /// WIDTH of every width that the call gives, and straight after it USERBITS.
-fn check_widths(widths: &[usize], m: usize) -> Result<(), StreamAnswer> {
+pub fn check_widths(widths: &[usize], m: usize) -> Result<(), StreamAnswer> {
     if widths.iter().any(|w| *w == 0 || *w > 16) { return Err(refused(WIDTH)); }
     if m > 4 { return Err(refused(USERBITS)); }
     Ok(())
 }
 
-fn check_length(w: usize, m: usize, input: &[u8]) -> Result<(), StreamAnswer> {
+pub fn check_length(w: usize, m: usize, input: &[u8]) -> Result<(), StreamAnswer> {
     if input.len() > MOST_OCTETS || input.len() % record_octets(w, m) != 0 { return Err(refused(LENGTH)); }
     Ok(())
 }
 
-fn records(w: usize, m: usize, input: &[u8]) -> Vec<&[u8]> { input.chunks(record_octets(w, m)).collect() }
+pub fn records(w: usize, m: usize, input: &[u8]) -> Vec<&[u8]> { input.chunks(record_octets(w, m)).collect() }
 
 /// FIELD: `flags` are the bits of octet 0 that this sort of record may set.
-fn field_is_wrong(w: usize, m: usize, r: &[u8], flags: u8) -> bool {
+pub fn field_is_wrong(w: usize, m: usize, r: &[u8], flags: u8) -> bool {
     let lanes = (w..16).any(|lane| tkeep(r, lane) || tstrb(r, lane));
     r[0] & !flags != 0 || r[2] > 15 || lanes || padding_is_set(r, w, m)
 }
