@@ -8,7 +8,7 @@
  *   - each pointer points to that many readable octets as the length after it says (for `out`, for `text`, and for
  *     `capture` of urd_fill_in: writable ones; for `row`: writable numbers of 64 bits), and is not NULL, even where
  *     its length is 0;
- *   - `out` and `text` share no octet with each other, nor with the input of the same call;
+ *   - `out` and `text` share no octet with each other, nor with any input of the same call (two inputs may share octets);
  *   - nothing else writes those octets until the call has returned. Calls on other octets may run at the same time;
  *   - so much stack is free: 260 KB for urd_report, 132 KB for urd_repack, 2 KB for any other call. (tests/bindings
  *     measures each of them; here they use 256.1, 127.8 and at most 1.2 KB, most of it arrays.)
@@ -55,6 +55,7 @@ extern "C" {
 #define URD_UNCLEAN 14  /* harvest of a broken capture */
 #define URD_SHEET 15    /* the setup sheet is not as it must be: the report only */
 #define URD_USERBITS 16 /* user is above 4 */
+#define URD_TAGS 17     /* merging: a transfer record has a TID of 128 or more */
 
 /* The kinds of a burst, AxBURST. */
 #define URD_FIXED 0
@@ -181,6 +182,24 @@ urd_stream_answer urd_repack(size_t width, size_t user, size_t v, const uint8_t 
  * Refusals: 1 (either width), 16, 6, 2, then record by record 3 and 4 (place: the record), 5.
  * Lent memory: `out` gets the records and is unchanged after them; refused, it is unchanged. */
 urd_stream_answer urd_downsize(size_t width, size_t user, size_t v, const uint8_t *input, size_t input_length, uint8_t *out, size_t out_length);
+
+/* What urd_merge answers. The rule of its refusals is always 0, so it has no field. */
+typedef struct urd_merge_answer {
+    uint32_t refusal; /* the refusal's number, or 0 */
+    uint32_t port;    /* refused: the port whose list or record it is, 0 or 1; of refusals 1, 16 and 5 it is 0 */
+    uint64_t place;   /* the record of refusals 3, 4 and 17, in its own list */
+    uint64_t count;   /* records written: those of both lists */
+} urd_merge_answer;
+
+/* Merges the transfer records `first` of port 0 and `second` of port 1 onto one port, by turns, port 0 first: count of records. A turn
+ * passes on a port's records up to and with its next TLAST, whatever the TID and TDEST, or to the end of its list; a port with nothing
+ * left is skipped. Every record goes out as it is, all-null ones too, but port 1's TIDs have 128 added, so a TID below 128 in `out` says
+ * port 0. `out` is as long as both lists together, 131,072 octets at most; urd_repack takes 65,536: hand it whole turns, one or several at
+ * a time, and its results joined are the packed form of all.
+ * Refusals: 1 and 16, 2 for `first`, 2 for `second`, then record by record of `first` and then of `second` 3, 4 and 17 (place: the
+ * record), 5.
+ * Lent memory: `out` gets the records and is unchanged after them; refused, it is unchanged. */
+urd_merge_answer urd_merge(size_t width, size_t user, const uint8_t *first, size_t first_length, const uint8_t *second, size_t second_length, uint8_t *out, size_t out_length);
 
 /* Where the data octets of record k stand, without its user bits: `length` octets from offset `start` of the capture.
  * Refusals: 1, 16, 2, 13.

@@ -15,7 +15,7 @@ import os
 from collections import namedtuple
 
 WIDTH, LENGTH, FIELD, RESERVED, ROOM, RATIO, BUS, SIZE, TYPE, COUNT, ALIGN, FENCE, INDEX, UNCLEAN, SHEET = range(1, 16)
-USERBITS = 16
+USERBITS, TAGS = 16, 17
 FIXED, INCR, WRAP = range(3)
 CLEAN, BROKEN, REFUSED = range(3)
 
@@ -24,6 +24,7 @@ Burst = namedtuple("Burst", "start len_ size kind bus")
 CutAnswer = namedtuple("CutAnswer", "refusal bursts")
 WriteAnswer = namedtuple("WriteAnswer", "refusal rule place strobes")
 StreamAnswer = namedtuple("StreamAnswer", "refusal rule place count")
+MergeAnswer = namedtuple("MergeAnswer", "refusal port place count")
 PartAnswer = namedtuple("PartAnswer", "refusal start length")
 ReportAnswer = namedtuple("ReportAnswer", "verdict refusal rule place transfers packets records text result")
 
@@ -44,6 +45,10 @@ class _Write(ctypes.Structure):
 
 class _Stream(ctypes.Structure):
     _fields_ = [("refusal", _u32), ("rule", _u32), ("place", _u64), ("count", _u64)]
+
+
+class _Merge(ctypes.Structure):
+    _fields_ = [("refusal", _u32), ("port", _u32), ("place", _u64), ("count", _u64)]
 
 
 class _Part(ctypes.Structure):
@@ -80,6 +85,7 @@ _harvest = _call("urd_harvest", _Stream, *_shape, *_input, *_lent)
 _fill_in = _call("urd_fill_in", _Stream, *_shape, *_lent, _u32)
 _repack = _call("urd_repack", _Stream, *_shape, _size, *_input, *_lent)
 _downsize = _call("urd_downsize", _Stream, *_shape, _size, *_input, *_lent)
+_merge = _call("urd_merge", _Merge, *_shape, *_input, *_input, *_lent)
 _data_octets = _call("urd_data_octets", _Part, *_shape, *_input, _size)
 _report = _call("urd_report", _Report, *_input, _u32, *_input, _u32, *_lent, *_lent)
 
@@ -196,6 +202,15 @@ def repack(width, user, v, octets, out):
 def downsize(width, user, v, octets, out):
     """Cuts transfer records into width/v records each, lane by lane, into out. Refusals 1, 16, 6, 2, 3, 4, 5."""
     return _convert(_downsize, width, user, v, octets, out)
+
+
+def merge(width, user, first, second, out):
+    """Merges the transfer records of port 0 and of port 1 into out by turns, port 0 first, port 1's TIDs with 128 added: count of records.
+    A turn is a port's records up to and with its next TLAST, or to the end of its list. As long as both lists together is always
+    enough. Refusals 1, 16, 2, then 3, 4 and 17 of the first list's records, then of the second's, 5; `port` says whose."""
+    first, second, lent = _read(first), _read(second), _lend(out)
+    answer = _merge(*_sizes(width, user), first, len(first), second, len(second), ctypes.addressof(lent), len(lent))
+    return _plain(MergeAnswer, answer)
 
 
 def data_octets(width, user, capture, k):
