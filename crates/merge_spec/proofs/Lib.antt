@@ -9,3 +9,5 @@ pub mod Packing
 pub mod Packed
 pub mod Promises
 pub mod Once
+pub mod Cases
+pub mod Witnesses

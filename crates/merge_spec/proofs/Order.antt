@@ -10,7 +10,7 @@ use lib.ListN.{length, length-append}
 use Rattle.stream_spec.specs.Layout.{tlast}
 use Rattle.merge_spec.specs.Turns.{alternate, passed, those, line}
 use Rattle.merge_spec.specs.Merge.{highTid, lowTid}
-use Rattle.merge_spec.specs.Promises.{sentBy, Next, turnAfter, InTurns, IsTurn, GoesOver, Fair}
+use Rattle.merge_spec.specs.Promises.{sentBy, Next, turnAfter, InTurns, IsTurn, GoesOver, portOf, Fair}
 use Rattle.merge_spec.proofs.Turns.{All, AllTurns, EachTurn, all-those, none-those, all-twice, each-passed, Ends, Ended, alternate-nil, line-first, line-second, skip-first, skip-second, line-no-first, line-no-second}
 use Rattle.merge_spec.proofs.Tags.{AllLow, all-not}
 
@@ -128,7 +128,12 @@ has-record : (t : List (List ℕ)) (later : List (List (List ℕ))) → Ends tla
 has-record t later e q = let z : length t ≡ 0 = ap length q in
     absurd (omega (arith, ap length (e .is), length-append (e .before) (e .final ∷ [])))
 
--- so where a turn is this port's it is not the other's
+-- so it tells whose it is
+port-is : (port : Bool) (t : List (List ℕ)) (later : List (List (List ℕ))) → Ends tlast t later → All highTid port t → portOf t ≡ port
+port-is port [] later e h = absurd (has-record [] later e refl)
+port-is port (r ∷ t) later e h = h .0
+
+-- and where a turn is this port's it is not the other's
 own-turn : {A : Type 0} (port : Bool) (t : List (List ℕ)) (later : List (List (List ℕ))) → Ends tlast t later → All highTid port t → sentBy port t ≡ [] → A
 own-turn port t later e h q = absurd (has-record t later e (sym (sent-own port t h) ∙ q))
 
@@ -157,7 +162,8 @@ over-alone port (t ∷ ts) h = λ q. other-turns (not port) (t ∷ ts) (all-twic
 fair-alone : (port : Bool) (ts : List (List (List ℕ))) → Ended tlast ts → AllTurns highTid port ts → Fair ts
 fair-alone port [] e h = tt
 fair-alone port (t ∷ ts) e h =
-    ((port, is-turn port t ts ts (e .0) (h .0) (λ q. rw q (none-sent port)), over-alone port ts (h .1)), fair-alone port ts (e .1) (h .1))
+    rw (port-is port t ts (e .0) (h .0))
+    (is-turn port t ts ts (e .0) (h .0) (λ q. rw q (none-sent port)), over-alone port ts (h .1), fair-alone port ts (e .1) (h .1))
   where
     none-sent : (port : Bool) → sentBy port [] ≡ []
     none-sent true = refl
@@ -174,18 +180,13 @@ pub fair-both : (port : Bool) (ts us : List (List (List ℕ))) → Ended tlast t
     → Fair (alternate ts us)
 fair-both port [] us d e h k = fair-alone (not port) us e k
 fair-both port (t ∷ ts) [] d e h k = fair-alone port (t ∷ ts) d h
-fair-both port (t ∷ ts) (u ∷ us) d e h k = (
-  (
-    port,
-    is-turn port t ts (u ∷ alternate ts us) (d .0) (h .0) (λ q. rw q (other-turns port (u ∷ us) k)),
-    λ q. own-turn (not port) u us (e .0) (k .0) q,
-  ),
-  (
-    (
-      not port,
-      is-turn (not port) u us (alternate ts us) (e .0) (k .0) (λ q. rw (q, alternate-nil ts) (other-turns (not port) ts (all-twice highTid port ts (h .1)))),
-      over-both (not port) ts us (d .1) (all-twice highTid port ts (h .1)) (k .1),
-    ),
-    fair-both port ts us (d .1) (e .1) (h .1) (k .1),
-  ),
-)
+fair-both port (t ∷ ts) (u ∷ us) d e h k =
+    rw (port-is port t ts (d .0) (h .0), port-is (not port) u us (e .0) (k .0)) (
+      is-turn port t ts (u ∷ alternate ts us) (d .0) (h .0) (λ q. rw q (other-turns port (u ∷ us) k)),
+      λ q. own-turn (not port) u us (e .0) (k .0) q,
+      (
+        is-turn (not port) u us (alternate ts us) (e .0) (k .0) (λ q. rw (q, alternate-nil ts) (other-turns (not port) ts (all-twice highTid port ts (h .1)))),
+        over-both (not port) ts us (d .1) (all-twice highTid port ts (h .1)) (k .1),
+        fair-both port ts us (d .1) (e .1) (h .1) (k .1),
+      ),
+    )

@@ -1,4 +1,4 @@
--- The packed octets of a merged list: each port's share of them, and turn by turn. Assumes nothing.
+-- The packed octets of a merged list: each port's share of them, and turns packed apart. Assumes nothing.
 use mathlib.Core.Bool.{Bool, true, false, not}
 use mathlib.Core.List.{List, [], _∷_, _++_, map, append-assoc}
 use mathlib.Core.Path.{_≡_, refl, sym, ap, ap₂, _∙_}
@@ -15,10 +15,10 @@ use Rattle.stream_spec.proofs.Records.{Sized, length-joined, records-joined, re
 use Rattle.merge_spec.specs.Turns.{turnsOf, alternate, passed, those}
 use Rattle.merge_spec.specs.Merge.{tagged, restored, highTid, lowTid, turns, merged}
 use Rattle.merge_spec.specs.Promises.{PackedSplit, TurnsPack}
-use Rattle.merge_spec.proofs.Turns.{EachIn, each-at, each-alternate, each-turns, All, those-map, turns-pass, both-map, passed-both}
+use Rattle.merge_spec.proofs.Turns.{EachIn, each-at, each-alternate, each-passed, each-turns, All, those-map, turns-pass, passed-map, both-map, passed-both}
 use Rattle.merge_spec.proofs.Tags.{tagTransfer, tagged-back, transfer-tagged, sized-two, AllLow, high-tagged}
 use Rattle.merge_spec.proofs.Merge.{Taken, Long, sized-each, each-sized, merged-records, tagged-sized}
-use Rattle.merge_spec.proofs.Packing.{highOne, lowOne, lastOne, packedTurn, pack-by-turns, pack-first, pack-second, pack-tagged}
+use Rattle.merge_spec.proofs.Packing.{highOne, lowOne, lastOne, packedTurn, pack-by-groups, pack-first, pack-second, pack-tagged}
 
 -- ---- the transfers of the merged list
 
@@ -115,14 +115,24 @@ octets-turns : (m : ℕ) (ts : List (List (Transfer Kept))) → octets m (passed
 octets-turns m [] = refl
 octets-turns m (t ∷ ts) = octets-append m t (passed ts) ∙ ap (λ (l : List ℕ). octets m t ++ l) (octets-turns m ts)
 
--- a turn of whole records, packed by itself
-turns-apart : (s : Shape) (v : ℕ) (ts : List (List (List ℕ))) → EachIn (EachIn (Long s)) ts
-    → joined (map (octets (s .user)) (map (packedTurn v) (map (map (transferOf s)) ts))) ≡ joined (map (λ t. packed s v (joined t)) ts)
-turns-apart s v [] h = refl
-turns-apart s v (t ∷ ts) h =
+-- a group of turns of whole records, packed by itself
+groups-apart : (s : Shape) (v : ℕ) (gs : List (List (List (List ℕ)))) → EachIn (EachIn (Long s)) (passed gs)
+    → joined (map (octets (s .user)) (map (λ g. packedTurn v (passed g)) (map (map (map (transferOf s))) gs)))
+    ≡ joined (map (λ g. packed s v (joined (passed g))) gs)
+groups-apart s v [] h = refl
+groups-apart s v (g ∷ gs) h =
     ap₂ (λ (a b : List ℕ). a ++ b)
-    (ap (λ (rs : List (List ℕ)). octets (s .user) (pack v (items (map (transferOf s) rs)))) (sym (records-joined s t (each-sized s t (h .0)))))
-    (turns-apart s v ts (h .1))
+    (ap (λ (ts : List (Transfer Kept)). octets (s .user) (pack v (items ts)))
+    (passed-map (transferOf s) g ∙ ap (map (transferOf s)) (sym (records-joined s (passed g) (each-sized s (passed g) (each-passed (Long s) g (front g (passed gs) h)))))))
+    (groups-apart s v gs (behind g (passed gs) h))
+  where
+    front : (ts us : List (List (List ℕ))) → EachIn (EachIn (Long s)) (ts ++ us) → EachIn (EachIn (Long s)) ts
+    front [] us h = tt
+    front (t ∷ ts) us h = (h .0, front ts us (h .1))
+
+    behind : (ts us : List (List (List ℕ))) → EachIn (EachIn (Long s)) (ts ++ us) → EachIn (EachIn (Long s)) us
+    behind [] us h = h
+    behind (t ∷ ts) us h = behind ts us (h .1)
 
 -- the turns of a list of records are as long as it, all together
 list-short : (s : Shape) (rs : List (List ℕ)) (n : ℕ) → Sized (size s) rs → length rs * size s ≤ n
@@ -154,12 +164,12 @@ module _ (s : Shape) (v : ℕ) (xs ys : List ℕ) (t : Taken s xs) (u : Taken s 
             (list-short s (records s xs) captureMost (records-sized s xs) first-few)
             (list-short s (map tagged (records s ys)) captureMost (tagged-sized s xs ys) second-few))
             k;
-        same =
+        same = λ gs e.
             ap (octets (s .user))
             (merged-packed s xs ys v
-            ∙ pack-by-turns v (firsts s xs ys) (seconds s xs ys) (lows s v xs ys (t .low)) (highs s v xs ys (t .low)))
-            ∙ octets-turns (s .user) (map (packedTurn v) (both s xs ys))
-            ∙ ap (λ (ts : List (List (Transfer Kept))). joined (map (octets (s .user)) (map (packedTurn v) ts)))
-            (both-map (transferOf s) lastOne tlast (λ r. refl) (records s xs) (map tagged (records s ys)))
-            ∙ turns-apart s v (turns s xs ys) long-turns;
+            ∙ pack-by-groups v (firsts s xs ys) (seconds s xs ys) (lows s v xs ys (t .low)) (highs s v xs ys (t .low)) (map (map (map (transferOf s))) gs)
+            (passed-map (map (transferOf s)) gs ∙ ap (map (map (transferOf s))) e
+            ∙ sym (both-map (transferOf s) lastOne tlast (λ r. refl) (records s xs) (map tagged (records s ys)))))
+            ∙ octets-turns (s .user) (map (λ g. packedTurn v (passed g)) (map (map (map (transferOf s))) gs))
+            ∙ groups-apart s v gs (rw e long-turns);
       }

@@ -18,7 +18,7 @@ use Rattle.stream_spec.proofs.Pack.{map-append, items-append, pack-parted}
 use Rattle.stream_spec.proofs.Each.{EachLane, EachTransfer, EachItem, each-items, each-pack}
 use Rattle.merge_spec.specs.Turns.{turnsOf, alternate, passed, those}
 use Rattle.merge_spec.specs.Merge.{tagAdded}
-use Rattle.merge_spec.proofs.Turns.{EachIn, EachTurn, each-passed, All, AllTurns, all-twice, those-first, those-second, Ends, Ended, alternate-nil, alternate-map, turns-pass, turns-end, all-turns}
+use Rattle.merge_spec.proofs.Turns.{EachIn, EachTurn, each-passed, All, AllTurns, all-twice, those-first, those-second, Ends, Ended, alternate-nil, alternate-map, passed-append, turns-pass, turns-end, all-turns}
 use Rattle.merge_spec.proofs.Tags.{tagTransfer}
 
 -- ---- whose a transfer is
@@ -60,14 +60,15 @@ last-apart port (end p ∷ []) j h k = refl
 last-apart port (byte p a ∷ []) j h k = rw (pairs-differ port p (itemPair j) (h .0 .0) k) refl
 last-apart port (i ∷ i' ∷ is) j h k = last-apart port (i' ∷ is) j (h .1) k
 
+-- anything before nothing
+none-after : (o : Option (Item Kept)) → apart o none ≡ true
+none-after none = refl
+none-after (some (byte p a)) = refl
+none-after (some (end p)) = refl
+
 -- items of one port before items of the other
 ports-parted : (port : Bool) (is js : List (Item Kept)) → EachItem (Of port) Any is → EachItem (Of (not port)) Any js → parted is js ≡ true
 ports-parted port is [] h k = none-after (getLast? is)
-  where
-    none-after : (o : Option (Item Kept)) → apart o none ≡ true
-    none-after none = refl
-    none-after (some (byte p a)) = refl
-    none-after (some (end p)) = refl
 ports-parted port is (j ∷ js) h k = last-apart port is j h (item-pair (not port) j js k)
 
 -- items that end with a packet's end before any
@@ -153,6 +154,31 @@ pack-turns v (t ∷ ts) h =
     ap (pack v) (items-append t (passed ts)) ∙ pack-parted v (items t) (items (passed ts)) (h .0)
     ∙ ap (λ (l : List (Transfer Kept)). packedTurn v t ++ l) (pack-turns v ts (h .1))
 
+-- groups of turns
+parted-front : (is js ks : List (Item Kept)) → parted is (js ++ ks) ≡ true → parted is js ≡ true
+parted-front is [] ks h = none-after (getLast? is)
+parted-front is (j ∷ js) ks h = h
+
+parts-front : (ts us : List (List (Transfer Kept))) → Parts (ts ++ us) → Parts ts
+parts-front [] us h = tt
+parts-front (t ∷ ts) us h =
+    let both : items (passed (ts ++ us)) ≡ items (passed ts) ++ items (passed us) =
+    ap items (passed-append ts us) ∙ items-append (passed ts) (passed us) in
+    (parted-front (items t) (items (passed ts)) (items (passed us)) (rw both at (h .0)), parts-front ts us (h .1))
+
+parts-behind : (ts us : List (List (Transfer Kept))) → Parts (ts ++ us) → Parts us
+parts-behind [] us h = h
+parts-behind (t ∷ ts) us h = parts-behind ts us (h .1)
+
+pack-groups : (v : ℕ) (gs : List (List (List (Transfer Kept)))) → Parts (passed gs)
+    → pack v (items (passed (passed gs))) ≡ passed (map (λ g. packedTurn v (passed g)) gs)
+pack-groups v [] h = refl
+pack-groups v (g ∷ gs) h =
+    pack-turns v (g ++ passed gs) h
+    ∙ ap passed (map-append (packedTurn v) g (passed gs)) ∙ passed-append (map (packedTurn v) g) (map (packedTurn v) (passed gs))
+    ∙ ap₂ (λ (a b : List (Transfer Kept)). a ++ b) (sym (pack-turns v g (parts-front g (passed gs) h)))
+    (sym (pack-turns v (passed gs) (parts-behind g (passed gs) h)) ∙ pack-groups v gs (parts-behind g (passed gs) h))
+
 packed-of : (v : ℕ) (port : Bool) (t : List (Transfer Kept)) → All highOne port t → All highOne port (packedTurn v t)
 packed-of v port t h = of-transfers port (packedTurn v t) (each-pack (Of port) Any v (items t) (items-of port t h))
 
@@ -183,10 +209,13 @@ module _ (v : ℕ) (ts us : List (Transfer Kept)) (low : All highOne false ts) (
   high-turns : AllTurns highOne true seconds
   high-turns = all-turns highOne lastOne true us high
 
-  -- turn by turn
-  pub pack-by-turns : pack v (items (passed (alternate firsts seconds))) ≡ passed (map (packedTurn v) (alternate firsts seconds))
-  pack-by-turns =
-      pack-turns v (alternate firsts seconds) (parts-both false firsts seconds (turns-end lastOne ts) (turns-end lastOne us) low-turns high-turns)
+  parts : Parts (alternate firsts seconds)
+  parts = parts-both false firsts seconds (turns-end lastOne ts) (turns-end lastOne us) low-turns high-turns
+
+  -- turns by groups
+  pub pack-by-groups : (gs : List (List (List (Transfer Kept)))) → passed gs ≡ alternate firsts seconds
+      → pack v (items (passed (alternate firsts seconds))) ≡ passed (map (λ g. packedTurn v (passed g)) gs)
+  pack-by-groups gs e = rw (← e) (pack-groups v gs (rw e parts))
 
   -- one port's turns, each packed, are all of them packed
   pack-one : (port : Bool) (zs : List (Transfer Kept)) → All highOne port zs → passed (map (packedTurn v) (turnsOf lastOne zs)) ≡ pack v (items zs)
@@ -195,7 +224,7 @@ module _ (v : ℕ) (ts us : List (Transfer Kept)) (low : All highOne false ts) (
       ∙ ap (λ (l : List (Transfer Kept)). pack v (items l)) (turns-pass lastOne zs)
 
   by-ports : pack v (items (passed (alternate firsts seconds))) ≡ passed (alternate (map (packedTurn v) firsts) (map (packedTurn v) seconds))
-  by-ports = pack-by-turns ∙ ap passed (sym (alternate-map (packedTurn v) firsts seconds))
+  by-ports = pack-turns v (alternate firsts seconds) parts ∙ ap passed (sym (alternate-map (packedTurn v) firsts seconds))
 
   pub pack-first : those lowOne (pack v (items (passed (alternate firsts seconds)))) ≡ pack v (items ts)
   pack-first =

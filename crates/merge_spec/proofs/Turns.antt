@@ -203,7 +203,11 @@ alternate-map f [] us = refl
 alternate-map f (t ∷ ts) [] = refl
 alternate-map f (t ∷ ts) (u ∷ us) = ap {B = List (List _)} (λ l. f t ∷ f u ∷ l) (alternate-map f ts us)
 
-passed-map : {A B : Type 0} (f : A → B) (ts : List (List A)) → passed (map (map f) ts) ≡ map f (passed ts)
+pub passed-append : {A : Type 0} (ts us : List (List A)) → passed (ts ++ us) ≡ passed ts ++ passed us
+passed-append [] us = refl
+passed-append (t ∷ ts) us = ap (λ (l : List _). t ++ l) (passed-append ts us) ∙ sym (append-assoc t (passed ts) (passed us))
+
+pub passed-map : {A B : Type 0} (f : A → B) (ts : List (List A)) → passed (map (map f) ts) ≡ map f (passed ts)
 passed-map f [] = refl
 passed-map f (t ∷ ts) = ap (λ (l : List _). map f t ++ l) (passed-map f ts) ∙ sym (map-append f t (passed ts))
 

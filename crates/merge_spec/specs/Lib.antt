@@ -3,3 +3,4 @@ pub mod Turns
 pub mod Merge
 pub mod Answers
 pub mod Promises
+pub mod Cases

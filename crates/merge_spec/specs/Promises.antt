@@ -137,9 +137,14 @@ abbrev pub GoesOver : Bool → List (List (List ℕ)) → Type 0
 GoesOver port [] = Unit {0}
 GoesOver port (t ∷ ts) = sentBy (not port) t ≡ [] → sentBy (not port) (passed (t ∷ ts)) ≡ []
 
+-- whose turn it is shows in its first record
+abbrev pub portOf : List (List ℕ) → Bool
+portOf [] = false
+portOf (r ∷ t) = highTid r
+
 abbrev pub Fair : List (List (List ℕ)) → Type 0
 Fair [] = Unit {0}
-Fair (t ∷ ts) = ((port : Bool) × IsTurn port t (passed ts) × GoesOver port ts) × Fair ts
+Fair (t ∷ ts) = IsTurn (portOf t) t (passed ts) × GoesOver (portOf t) ts × Fair ts
 
 -- the turns of the merged list, one after the other
 pub record TurnsTaken (s : Shape) (xs ys : List ℕ) : Type 0 where
@@ -184,10 +189,13 @@ abbrev pub PackedShares : Type 0
 PackedShares =
     (s : Shape) (v : ℕ) (xs ys : List ℕ) (room n : ℕ) → mergeAnswer s xs ys room ≡ Records n → PackedSplit s v xs ys
 
--- A merged list may be longer than a take. Its turns never are, and packed one by one and joined they are its packed form.
+-- A merged list may be longer than a take, but no turn of it is. Turns, one or several at a time, packed apart and joined are its packed
+-- form: gs are the turns in groups.
 pub record TurnsPack (s : Shape) (v : ℕ) (xs ys : List ℕ) : Type 0 where
   pub short : (k : ℕ) → length (joined (getD (turns s xs ys) k [])) ≤ 65536
-  pub same : packed s v (merged s xs ys) ≡ joined (map (λ t. packed s v (joined t)) (turns s xs ys))
+  pub same :
+      (gs : List (List (List (List ℕ)))) → passed gs ≡ turns s xs ys
+      → packed s v (merged s xs ys) ≡ joined (map (λ g. packed s v (joined (passed g))) gs)
 
 abbrev pub PackedTurns : Type 0
 PackedTurns =
