@@ -3,6 +3,7 @@
 // The starred cases are also proved of the definitions (specs/Starred).
 mod bursts;
 mod cuts;
+mod merges;
 mod streams;
 mod writes;
 
@@ -27,4 +28,6 @@ fn main() {
     writes::lanes();
     writes::counts();
     writes::refusals();
+    merges::turns();
+    merges::refusals();
 }

@@ -18,7 +18,7 @@ fn refused(r: Refusal) {
     number(b" rule=", code.2 as u64);
 }
 
-fn octets(s: &[u8]) {
+pub fn octets(s: &[u8]) {
     let mut i = 0;
     while i < s.len() {
         io::write_all(1, b" ");

@@ -33,4 +33,5 @@ fn main() {
     row(b"UNCLEAN", Refusal::Unclean(7, 3));
     row(b"SHEET", Refusal::Setup);
     row(b"USERBITS", Refusal::UserBits);
+    row(b"TAGS", Refusal::Tags(7));
 }
