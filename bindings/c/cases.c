@@ -1,6 +1,6 @@
 /* Paper 01's bench cases P1, S1 to S7 and B1 to B6 through C, with every answer and every octet typed from the paper;
- * then cuts, write beats and user bits (paper 02, T-02, T-05 and T-06), the layout of the structs, the refusals that no bench
- * case gives, and numbers at the edges.
+ * then cuts, write beats, user bits and merging (paper 02, T-02, T-05, T-06 and T-08), the layout of the structs, the refusals
+ * that no bench case gives, and numbers at the edges.
  * The last line is 'N passed, M failed'. A case passes if all its checks do. */
 #include "urdhvasolk.h"
 
@@ -569,18 +569,229 @@ static void user_report(void)
     reports("width_in=4\nwidth_out=2\nmode=pack\ntlast=wired\n", 1, TAKE, 1, 20, 128, sheet, no_sheet, "", "a sheet of four lines");
 }
 
+/* ---- two lists merged onto one port (paper 02, T-08) ---- */
+
+/* A record of one lane, TDEST 2: TLAST, TID, and the lane's octet, which is data or null. */
+#define BYTE(last, tid, octet) last " " tid " 02 01 00 01 00 " octet " "
+#define NONE(last, tid, octet) last " " tid " 02 00 00 00 00 " octet " "
+
+static void merge_is(urd_merge_answer a, uint32_t refusal, uint32_t port, uint64_t place, uint64_t count, const char *what)
+{
+    int good = a.refusal == refusal && a.port == port && a.place == place && a.count == count;
+    check(good, what);
+    if (!good)
+        printf("    refusal %" PRIu32 ", port %" PRIu32 ", place %" PRIu64 ", count %" PRIu64 "\n", a.refusal, a.port, a.place, a.count);
+}
+
+/* A merging into `lent` octets: its numbers, the octets written, and all else of the room and of the lists as it was. */
+static void merged_is(size_t width, size_t user, const char *first, const char *second, size_t lent, uint32_t refusal, uint32_t port, uint64_t place, uint64_t count, const char *out, const char *what)
+{
+    uint8_t lists[2][128], kept[2][128], room[256];
+    memset(lists, TAIL, sizeof lists);
+    memset(room, TAIL, sizeof room);
+    size_t n0 = octets_of(first, lists[0]), n1 = octets_of(second, lists[1]);
+    memcpy(kept, lists, sizeof kept);
+    merge_is(urd_merge(width, user, lists[0], n0, lists[1], n1, room, lent), refusal, port, place, count, what);
+    room_is(room, sizeof room, out, what);
+    check(memcmp(lists, kept, sizeof lists) == 0, "the lists are as they were");
+}
+
+/* An accepted merging: into a larger room, into an exact one, and refused (5) where one octet is missing. */
+static void merges(size_t width, size_t user, const char *first, const char *second, uint64_t count, const char *out, const char *what)
+{
+    uint8_t octets[256];
+    size_t need = octets_of(out, octets);
+    merged_is(width, user, first, second, need + 9, 0, 0, 0, count, out, what);
+    merged_is(width, user, first, second, need, 0, 0, 0, count, out, what);
+    if (need > 0)
+        merged_is(width, user, first, second, need - 1, URD_ROOM, 0, 0, 0, "", what);
+}
+
+/* A refused merging: its numbers, and the room as it was; the same where there is no room, which is refused last. */
+static void merge_refuses(size_t width, size_t user, const char *first, const char *second, uint32_t refusal, uint32_t port, uint64_t place, const char *what)
+{
+    merged_is(width, user, first, second, 256, refusal, port, place, 0, "", what);
+    merged_is(width, user, first, second, 0, refusal, port, place, 0, "", what);
+}
+
+static void merge_turns(void)
+{
+    merges(1, 0, BYTE("00", "01", "A1") BYTE("01", "01", "A2") BYTE("01", "01", "A3"), BYTE("01", "01", "B1") BYTE("00", "01", "B2") BYTE("01", "01", "B3"), 6,
+           BYTE("00", "01", "A1") BYTE("01", "01", "A2") BYTE("01", "81", "B1") BYTE("01", "01", "A3") BYTE("00", "81", "B2") BYTE("01", "81", "B3"), "packet by packet");
+    merges(1, 0, BYTE("00", "01", "A1") BYTE("00", "02", "A2"), BYTE("00", "01", "B1") BYTE("00", "02", "B2"), 4,
+           BYTE("00", "01", "A1") BYTE("00", "02", "A2") BYTE("00", "81", "B1") BYTE("00", "82", "B2"), "no TLAST at all");
+    merges(1, 0, BYTE("00", "01", "A1") BYTE("01", "02", "A2") BYTE("01", "01", "A3"), BYTE("00", "03", "B1") BYTE("01", "04", "B2") BYTE("01", "03", "B3"), 6,
+           BYTE("00", "01", "A1") BYTE("01", "02", "A2") BYTE("00", "83", "B1") BYTE("01", "84", "B2") BYTE("01", "01", "A3") BYTE("01", "83", "B3"), "TLAST of another TID");
+    merges(1, 0, BYTE("00", "01", "A1") "01 01 0F 01 00 01 00 A2 " BYTE("01", "01", "A3"), BYTE("00", "01", "B1") "01 01 00 01 00 01 00 B2 " BYTE("01", "01", "B3"), 6,
+           BYTE("00", "01", "A1") "01 01 0F 01 00 01 00 A2 " BYTE("00", "81", "B1") "01 81 00 01 00 01 00 B2 " BYTE("01", "01", "A3") BYTE("01", "81", "B3"), "TLAST of another TDEST");
+    merges(1, 0, BYTE("01", "01", "A1"), BYTE("01", "01", "B1") BYTE("01", "01", "B2") BYTE("00", "01", "B3") BYTE("01", "01", "B4"), 5,
+           BYTE("01", "01", "A1") BYTE("01", "81", "B1") BYTE("01", "81", "B2") BYTE("00", "81", "B3") BYTE("01", "81", "B4"), "port 0 has nothing left");
+    merges(1, 0, BYTE("01", "01", "A1") BYTE("01", "01", "A2") BYTE("00", "01", "A3"), BYTE("00", "01", "B1"), 4,
+           BYTE("01", "01", "A1") BYTE("00", "81", "B1") BYTE("01", "01", "A2") BYTE("00", "01", "A3"), "port 1 has nothing left");
+    merges(1, 0, BYTE("01", "01", "A1") BYTE("00", "01", "A2"), BYTE("01", "01", "B1") BYTE("01", "01", "B2") BYTE("00", "01", "B3"), 5,
+           BYTE("01", "01", "A1") BYTE("01", "81", "B1") BYTE("00", "01", "A2") BYTE("01", "81", "B2") BYTE("00", "81", "B3"), "the end of a list without TLAST");
+    merges(1, 0, "", BYTE("01", "01", "B1") BYTE("00", "02", "B2"), 2, BYTE("01", "81", "B1") BYTE("00", "82", "B2"), "nothing on port 0");
+    merges(1, 0, BYTE("01", "01", "A1") BYTE("00", "02", "A2"), "", 2, BYTE("01", "01", "A1") BYTE("00", "02", "A2"), "nothing on port 1");
+    for (size_t w = 1; w <= 16; w++)
+        merges(w, 4, "", "", 0, "", "nothing on either");
+}
+
+/* Records without items are passed on, too, in their turn, and TLAST ends it; user bits stay, those of null lanes too. */
+static void merge_records(void)
+{
+    merges(1, 0, NONE("00", "07", "C1") BYTE("01", "01", "A1") NONE("00", "07", "C2"), NONE("00", "06", "E1") NONE("00", "06", "E2") BYTE("01", "01", "B1"), 6,
+           NONE("00", "07", "C1") BYTE("01", "01", "A1") NONE("00", "86", "E1") NONE("00", "86", "E2") BYTE("01", "81", "B1") NONE("00", "07", "C2"), "all-null records");
+    merges(1, 0, NONE("00", "07", "C1"), NONE("00", "7F", "E1"), 2, NONE("00", "07", "C1") NONE("00", "FF", "E1"), "nothing else");
+    merges(1, 0, NONE("01", "01", "C1") BYTE("00", "01", "A1"), BYTE("00", "01", "B1") NONE("01", "01", "E1") NONE("01", "01", "E2"), 5,
+           NONE("01", "01", "C1") BYTE("00", "81", "B1") NONE("01", "81", "E1") BYTE("00", "01", "A1") NONE("01", "81", "E2"), "TLAST without items");
+    merges(4, 0, TRANSFER, TRANSFER, 2, TRANSFER " 01 81 02 0D 00 09 00 11 22 33 44", "P1's transfer twice");
+    merges(4, 2, TRANSFER TAGS, TRANSFER TAGS, 2, TRANSFER TAGS " 01 81 02 0D 00 09 00 11 22 33 44" TAGS, "and its user bits");
+    merges(2, 3, "00 03 00 00 00 00 00 E3 E4 3F 01 03 00 02 00 00 00 E5 E6 07", "00 03 0F 03 00 01 00 E0 E1 38", 3,
+           "00 03 00 00 00 00 00 E3 E4 3F 01 03 00 02 00 00 00 E5 E6 07 00 83 0F 03 00 01 00 E0 E1 38", "three user bits");
+    merges(16, 4, "", "01 40 08 00 80 00 80 60 61 62 63 64 65 66 67 68 69 6A 6B 6C 6D 6E 6F 10 32 54 76 98 BA DC FE", 1,
+           "01 C0 08 00 80 00 80 60 61 62 63 64 65 66 67 68 69 6A 6B 6C 6D 6E 6F 10 32 54 76 98 BA DC FE", "the widest");
+}
+
+/* Two records of every shape, the first with TLAST, as both lists, and the second of them as one of the lists: inputs may share octets. */
+static void merge_shapes(void)
+{
+    for (size_t shape = 0; shape < 16 * 5; shape++) {
+        size_t w = 1 + shape / 5, m = shape % 5, z = 7 + w + (w * m + 7) / 8, all = ((size_t)1 << w) - 1;
+        uint8_t list[2 * 31], kept[2 * 31], sent[2 * 31], room[4 * 31], expected[4 * 31];
+        for (size_t i = 0; i < 2 * z; i++)
+            list[i] = (uint8_t)(0xB1 + 7 * i);
+        for (size_t at = 0; at < 2 * z; at += z) {
+            const uint8_t head[7] = {at == 0, at == 0 ? 0x7F : 0x2A, 0x0F, 0xD5 & all, 0xAB & all >> 8, 0x85 & all, 0x2A & all >> 8};
+            memcpy(list + at, head, 7);
+            if (w * m % 8 != 0)
+                list[at + z - 1] &= (uint8_t)((1 << w * m % 8) - 1); /* no padding bit */
+        }
+        memcpy(kept, list, 2 * z);
+        memcpy(sent, list, 2 * z);
+        sent[1] = 0xFF, sent[z + 1] = 0xAA;
+        memcpy(expected, list, z), memcpy(expected + z, sent, z), memcpy(expected + 2 * z, list + z, z), memcpy(expected + 3 * z, sent + z, z);
+        merge_is(urd_merge(w, m, list, 2 * z, list, 2 * z, room, 4 * z), 0, 0, 0, 4, "the same octets");
+        check(memcmp(room, expected, 4 * z) == 0, "the same octets merged");
+        memcpy(expected, list, z), memcpy(expected + z, sent + z, z), memcpy(expected + 2 * z, list + z, z);
+        merge_is(urd_merge(w, m, list, 2 * z, list + z, z, room, 3 * z), 0, 0, 0, 3, "a part of them on port 1");
+        check(memcmp(room, expected, 3 * z) == 0, "a part of them on port 1, merged");
+        memcpy(expected, list + z, z), memcpy(expected + z, sent, 2 * z);
+        merge_is(urd_merge(w, m, list + z, z, list, 2 * z, room, 3 * z), 0, 0, 0, 3, "a part of them on port 0");
+        check(memcmp(room, expected, 3 * z) == 0, "a part of them on port 0, merged");
+        check(memcmp(list, kept, 2 * z) == 0, "the lists are as they were");
+    }
+}
+
+/* Every TID on either port, with an item and without: 0 to 127 goes out, from port 1 with 128 added, and from 128 on 17. */
+static void merge_tids(void)
+{
+    for (unsigned i = 0; i < 256 * 2 * 2; i++) {
+        uint8_t tid = (uint8_t)i, keep = i >> 8 & 1, port = i >> 9 & 1, refused = tid >= 128;
+        uint8_t record[8] = {0, tid, 0, keep, 0, keep, 0, 0xA1}, room[8], expected[8];
+        memset(room, TAIL, sizeof room);
+        memset(expected, TAIL, sizeof expected);
+        if (!refused) {
+            memcpy(expected, record, sizeof record);
+            expected[1] = (uint8_t)(port == 0 ? tid : tid + 128);
+        }
+        merge_is(urd_merge(1, 0, record, port == 0 ? 8 : 0, record, port == 1 ? 8 : 0, room, 8), refused ? URD_TAGS : 0, refused ? port : 0, 0, !refused, "a TID");
+        check(memcmp(room, expected, sizeof room) == 0, "a TID as it goes out");
+    }
+}
+
+/* Each bit alone in a record of two lanes with three user bits each, behind a sound record on either port: 3 for one that must be zero,
+ * 4 for a strobe of a null lane, 17 for the highest of TID, and any other is carried. */
+static void merge_bits(void)
+{
+    static const uint8_t zero[] = {0xFE, 0x00, 0xF0, 0xFC, 0xFF, 0xFC, 0xFF, 0x00, 0x00, 0xC0};
+    for (unsigned bit = 0; bit < 80; bit++) {
+        uint8_t list[20] = {0}, room[30], expected[30] = {0}, mask = (uint8_t)(1 << bit % 8);
+        unsigned octet = bit / 8;
+        uint32_t refusal = zero[octet] & mask ? URD_FIELD : octet == 5 ? URD_RESERVED : bit == 15 ? URD_TAGS : 0, refused = refusal != 0;
+        list[10 + octet] = mask;
+        merge_is(urd_merge(2, 3, list, 20, list, 10, room, 30), refusal, 0, refused, refused ? 0 : 3, "a bit on port 0");
+        expected[10 + octet] = mask, expected[21] = 128;
+        check(refused || memcmp(room, expected, 30) == 0, "a bit of port 0 as it goes out");
+        merge_is(urd_merge(2, 3, list, 10, list, 20, room, 30), refusal, refused, refused, refused ? 0 : 3, "a bit on port 1");
+        expected[10 + octet] = 0, expected[11] = 128, expected[20 + octet] |= mask;
+        check(refused || memcmp(room, expected, 30) == 0, "a bit of port 1 as it goes out");
+    }
+}
+
+/* Two lanes with three user bits each: sound; TID 128; TID 255 without items; a reserved lane, too; a padding bit, too. */
+#define SOUND "01 7F 0F 03 00 01 00 11 22 3F "
+#define TAGGED "00 80 00 03 00 03 00 11 22 00 "
+#define NULL_TAGGED "00 FF 00 00 00 00 00 11 22 3F "
+#define TAGGED_LANE "00 80 00 01 00 03 00 11 22 00 "
+#define TAGGED_PADDING "00 80 00 01 00 03 00 11 22 40 "
+
+static void merge_refusals(void)
+{
+    merge_refuses(17, 5, "02", "02", URD_WIDTH, 0, 0, "1 before 16");
+    merge_refuses(2, 5, "02", "02", URD_USERBITS, 0, 0, "16 before 2");
+    merge_refuses(2, 3, TAGGED_PADDING "02", TAGGED_PADDING "02", URD_LENGTH, 0, 0, "2 of port 0 before port 1");
+    merge_refuses(2, 3, "02", "", URD_LENGTH, 0, 0, "2 of port 0");
+    merge_refuses(2, 3, TAGGED_PADDING, TAGGED_PADDING "02", URD_LENGTH, 1, 0, "2 of port 1 before 3 of port 0");
+    merge_refuses(2, 3, TAGGED, "00 00 00 00 00 00 00 00 00", URD_LENGTH, 1, 0, "2 of port 1 before 17 of port 0");
+    merge_refuses(2, 3, SOUND TAGGED_PADDING, TAGGED_PADDING, URD_FIELD, 0, 1, "3 of port 0, before 4 and 17 in its record");
+    merge_refuses(2, 3, SOUND SOUND TAGGED_LANE TAGGED_PADDING, TAGGED_PADDING, URD_RESERVED, 0, 2, "4 of port 0, before 17 in its record and 3 behind it");
+    merge_refuses(2, 3, SOUND TAGGED TAGGED_LANE TAGGED_PADDING, TAGGED_PADDING, URD_TAGS, 0, 1, "17 of port 0, before 3 and 4 behind it and on port 1");
+    merge_refuses(2, 3, NULL_TAGGED TAGGED, "", URD_TAGS, 0, 0, "17 of port 0 without items");
+    merge_refuses(2, 3, SOUND SOUND, SOUND TAGGED_PADDING TAGGED, URD_FIELD, 1, 1, "3 of port 1");
+    merge_refuses(2, 3, SOUND, SOUND SOUND TAGGED_LANE TAGGED_PADDING, URD_RESERVED, 1, 2, "4 of port 1");
+    merge_refuses(2, 3, SOUND SOUND SOUND, SOUND TAGGED TAGGED_LANE, URD_TAGS, 1, 1, "17 of port 1");
+    merge_refuses(2, 3, "", SOUND NULL_TAGGED TAGGED_PADDING, URD_TAGS, 1, 1, "17 of port 1 without items");
+    merged_is(2, 3, "", SOUND, 0, URD_ROOM, 0, 0, 0, "", "5 is port 0's");
+    merges(2, 3, SOUND, SOUND, 2, SOUND "01 FF 0F 03 00 01 00 11 22 3F", "nothing to refuse");
+}
+
+/* Two lists of 8,192 records and one more. Port 0 has TLAST on each, port 1 on every second one. */
+static void merge_longest(void)
+{
+    static uint8_t first[65544], second[65544], out[131073], expected[131073];
+    size_t at = 0;
+    for (size_t k = 0; k < 8193; k++) {
+        const uint8_t head[8] = {1, k % 128, 3, 1, 0, 1, 0, (uint8_t)(k / 128)};
+        memcpy(first + 8 * k, head, 8);
+        memcpy(second + 8 * k, head, 8);
+        second[8 * k] = k % 2;
+    }
+    for (size_t k = 0; k < 8192; k++) {
+        memcpy(expected + at, first + 8 * k, 8);
+        at += 8;
+        if (k < 4096) {
+            memcpy(expected + at, second + 16 * k, 16);
+            expected[at + 1] += 128, expected[at + 9] += 128;
+            at += 16;
+        }
+    }
+    expected[131072] = TAIL;
+    memset(out, TAIL, sizeof out);
+    merge_is(urd_merge(1, 0, first, 65536, second, 65536, out, 131071), URD_ROOM, 0, 0, 0, "one octet too few");
+    merge_is(urd_merge(1, 0, first, 65544, second, 65544, out, 131073), URD_LENGTH, 0, 0, 0, "one record more on both");
+    merge_is(urd_merge(1, 0, first, 65536, second, 65544, out, 131073), URD_LENGTH, 1, 0, 0, "one record more on port 1");
+    check(out[0] == TAIL && memcmp(out, out + 1, sizeof out - 1) == 0, "refused, it is unchanged");
+    merge_is(urd_merge(1, 0, first, 65536, second, 65536, out, 131072), 0, 0, 0, 16384, "65,536 octets on both");
+    check(memcmp(out, expected, sizeof out) == 0, "131,072 octets");
+    merge_is(urd_merge(1, 0, first, 65535, second, 65536, out, 131072), URD_LENGTH, 0, 0, 0, "an octet less on port 0");
+    second[65529] = 128;
+    merge_is(urd_merge(1, 0, first, 65536, second, 65536, out, 131072), URD_TAGS, 1, 8191, 0, "17 in the very last record");
+    first[65530] = 16;
+    merge_is(urd_merge(1, 0, first, 65536, second, 65536, out, 131072), URD_FIELD, 0, 8191, 0, "3 in the last one of port 0");
+}
+
 /* ---- what no bench case shows ---- */
 
 /* A field's offset and its octets. */
 #define IS(type, field, offset, octets) check(offsetof(type, field) == (offset) && sizeof(((type *)0)->field) == (octets), #type "." #field)
 
 /* crates/capi has the same fields in the same order, #[repr(C)]; tests/bindings compares the texts too. */
-static void layout(void)
+static void layout_bursts(void)
 {
     urd_burst_answer ones;
     memset(&ones, 0xFF, sizeof ones);
     check((int64_t)ones.step == -1, "step is signed");
-    check(sizeof(size_t) == 8 && sizeof(urd_burst_answer) == 24 && sizeof(urd_stream_answer) == 24 && sizeof(urd_part_answer) == 24 && sizeof(urd_report_answer) == 64, "sizes");
+    check(sizeof(size_t) == 8 && sizeof(urd_burst_answer) == 24, "sizes");
     check(sizeof(urd_burst) == 5 * sizeof(uint64_t) && sizeof(urd_cut_answer) == 16 && sizeof(urd_write_answer) == 24, "sizes of a row's burst, of a cut's answer and of write beats'");
     IS(urd_burst_answer, refusal, 0, 4);
     IS(urd_burst_answer, lower, 4, 4);
@@ -598,10 +809,20 @@ static void layout(void)
     IS(urd_write_answer, rule, 4, 4);
     IS(urd_write_answer, place, 8, 8);
     IS(urd_write_answer, strobes, 16, 8);
+}
+
+static void layout(void)
+{
+    layout_bursts();
+    check(sizeof(urd_stream_answer) == 24 && sizeof(urd_merge_answer) == 24 && sizeof(urd_part_answer) == 24 && sizeof(urd_report_answer) == 64, "sizes of the others");
     IS(urd_stream_answer, refusal, 0, 4);
     IS(urd_stream_answer, rule, 4, 4);
     IS(urd_stream_answer, place, 8, 8);
     IS(urd_stream_answer, count, 16, 8);
+    IS(urd_merge_answer, refusal, 0, 4);
+    IS(urd_merge_answer, port, 4, 4);
+    IS(urd_merge_answer, place, 8, 8);
+    IS(urd_merge_answer, count, 16, 8);
     IS(urd_part_answer, refusal, 0, 4);
     IS(urd_part_answer, start, 8, 8);
     IS(urd_part_answer, length, 16, 8);
@@ -701,6 +922,8 @@ static void edges(void)
         stream_is(urd_repack(width[i], 0, 1, over, 8, out, 8), URD_WIDTH, 0, 0, 0, "repack from");
         stream_is(urd_repack(1, 0, width[i], over, 8, out, 8), URD_WIDTH, 0, 0, 0, "repack to");
         stream_is(urd_downsize(width[i], 0, width[i], over, 8, out, 8), URD_WIDTH, 0, 0, 0, "downsize");
+        merge_is(urd_merge(width[i], 0, over, 8, over, 0, out, 8), URD_WIDTH, 0, 0, 0, "merge");
+        merge_is(urd_merge(1, width[i] | 5, over, 8, over, 0, out, 8), URD_USERBITS, 0, 0, 0, "merge, user bits of 5 and more");
     }
     for (size_t w = 1; w <= 16; w++)
         stream_is(urd_judge(w, 0, over, sizeof over), URD_LENGTH, 0, 0, 0, "65,537 octets");
@@ -715,7 +938,7 @@ static void edges(void)
     burst_is(urd_burst_beat(0xFFFFFFFB, 1, 2, 1, 8, 1), 0, 0xFFFFFFFC, 4, 7, 0, "up to the last byte of memory");
 }
 
-int main(void)
+static void run_bench_cases(void)
 {
     run("P1", p1);
     run("P1, the report", p1_report);
@@ -733,6 +956,10 @@ int main(void)
     run("B4", b4);
     run("B5", b5);
     run("B6", b6);
+}
+
+static void run_requests(void)
+{
     run("T-02, cuts", cuts);
     run("T-02, the longest", cut_longest);
     run("T-02, others and refusals", cut_others);
@@ -746,6 +973,19 @@ int main(void)
     run("T-06, the longest", user_lengths);
     run("T-06, refusals", user_refusals);
     run("T-06, the report", user_report);
+    run("T-08, turns", merge_turns);
+    run("T-08, each record as it is", merge_records);
+    run("T-08, every shape, the same octets", merge_shapes);
+    run("T-08, every TID", merge_tids);
+    run("T-08, each bit of a record", merge_bits);
+    run("T-08, refusals", merge_refusals);
+    run("T-08, the longest", merge_longest);
+}
+
+int main(void)
+{
+    run_bench_cases();
+    run_requests();
     run("layout of the structs", layout);
     run("fill-in", fill_in);
     run("data octets", data_octets);

@@ -1,5 +1,5 @@
-/* A short tour in C: judge a capture, harvest it, repack it to another width, walk through a burst,
- * cut one for an older board, judge the write beats of one, and make a report.
+/* A short tour in C: judge a capture, harvest it, repack it to another width, merge two cameras onto one link,
+ * walk through a burst, cut one for an older board, judge the write beats of one, and make a report.
  * It prints bindings/example.out. `make lib` first, then: gcc -std=c99 -Iinclude bindings/c/example.c build/lib/liburdhvasolk.a -o build/example */
 #include "urdhvasolk.h"
 
@@ -31,6 +31,23 @@ static void stream(void)
     urd_stream_answer repacked = urd_repack(4, 0, 2, transfers, length, packed, sizeof packed);
     printf("%" PRIu64 " records of width 2\n", repacked.count);
     print_records(packed, repacked.count, 2);
+}
+
+/* Two cameras on one link, both with TID 1: by turns up to TLAST, and the second camera's TIDs have 128 added. */
+static void cameras(void)
+{
+    static const uint8_t first[] = {0x00, 0x01, 0x00, 0x01, 0x00, 0x01, 0x00, 0xA1, 0x01, 0x01, 0x00, 0x01, 0x00, 0x01, 0x00, 0xA2,
+                                    0x01, 0x01, 0x00, 0x01, 0x00, 0x01, 0x00, 0xA3};
+    static const uint8_t second[] = {0x01, 0x01, 0x00, 0x01, 0x00, 0x01, 0x00, 0xB1};
+    uint8_t merged[sizeof first + sizeof second], more[sizeof first + sizeof merged];
+
+    urd_merge_answer both = urd_merge(1, 0, first, sizeof first, second, sizeof second, merged, sizeof merged);
+    printf("%" PRIu64 " records of two cameras\n", both.count);
+    print_records(merged, both.count, 1);
+
+    /* A third camera finds no place: TIDs of a merged list go up to 255, and a port takes them up to 127. */
+    urd_merge_answer third = urd_merge(1, 0, first, sizeof first, merged, sizeof merged, more, sizeof more);
+    printf("a third: refusal %" PRIu32 ", port %" PRIu32 ", record %" PRIu64 "\n", third.refusal, third.port, third.place);
 }
 
 /* Each beat of a WRAP burst of four 4-byte beats on a bus of 8 bytes; 13 (URD_INDEX) ends the walk. */
@@ -84,6 +101,7 @@ static void report(void)
 int main(void)
 {
     stream();
+    cameras();
     burst();
     axi3();
     writes();

@@ -34,7 +34,11 @@ def burst(refusal=0, lower=0, upper=0, step=0, address=0):
     return urd.BurstAnswer(refusal, lower, upper, step, address)
 
 
-def writes(call, count, text):
+def merged(refusal=0, port=0, place=0, count=0):
+    return urd.MergeAnswer(refusal, port, place, count)
+
+
+def writes(call, count, text, answers=stream):
     """An accepted writing call: into a larger room, an exact one, and refused (5) where one octet is missing."""
     expected = octets(text)
     for more in (9, 0, -1):
@@ -44,9 +48,9 @@ def writes(call, count, text):
         before = bytes(room)
         answer = call(room)
         if more < 0:
-            same((answer, room), (stream(refusal=urd.ROOM), before), "one octet too few")
+            same((answer, room), (answers(refusal=urd.ROOM), before), "one octet too few")
         else:
-            same((answer, room), (stream(count=count), expected + before[len(expected):]), f"{more} octets more")
+            same((answer, room), (answers(count=count), expected + before[len(expected):]), f"{more} octets more")
 
 
 def packs(width, v, text, count, result, user=0):
@@ -390,6 +394,151 @@ def _():
     for line, number in ((b"user=5", urd.USERBITS), (b"user=9", urd.USERBITS), (b"user=10", urd.SHEET), (b"user=", urd.SHEET)):
         same(urd.report(SHEET.replace(b"user=0", line), take).refusal, number, line.decode())
     same(urd.report(SHEET.replace(b"user=0\n", b""), octets(TAKE)).refusal, urd.SHEET, "a sheet of four lines")
+
+
+def byte(last, tid, octet, dest=2, lane="01"):
+    """A record of one lane: TLAST, TID, and the lane's octet, which is data or, as lane 00, null."""
+    return f"{last:02X} {tid:02X} {dest:02X} {lane} 00 {lane} 00 {octet}"
+
+
+def merges(first, second, result, width=1, user=0):
+    """An accepted merging: lists of records, and those of the result."""
+    def call(out):
+        return urd.merge(width, user, octets("".join(first)), octets("".join(second)), out)
+    writes(call, len(result), "".join(result), merged)
+
+
+@case("T-08, turns")
+def _():
+    a1, a2, a3 = byte(0, 1, "A1"), byte(1, 1, "A2"), byte(1, 1, "A3")
+    b1, b2, b3 = byte(1, 1, "B1"), byte(0, 1, "B2"), byte(1, 1, "B3")
+    c1, c2, c3 = byte(1, 0x81, "B1"), byte(0, 0x81, "B2"), byte(1, 0x81, "B3")  # the same from port 1
+    merges([a1, a2, a3], [b1, b2, b3], [a1, a2, c1, a3, c2, c3])  # packet by packet
+    merges([a1, a1], [b2, b2, b2], [a1, a1, c2, c2, c2])  # no TLAST at all
+    other, another = byte(1, 2, "A4"), byte(1, 1, "A5", dest=15)  # TLAST of another TID, and of another TDEST
+    merges([a1, other, a3, a1, another, a3], [b1, b1, b1], [a1, other, c1, a3, c1, a1, another, c1, a3])
+    merges([a2, a3, a2], [b2, byte(1, 5, "B5"), b2, byte(1, 1, "B6", dest=0), b3],
+           [a2, c2, byte(1, 0x85, "B5"), a3, c2, byte(1, 0x81, "B6", dest=0), a2, c3])
+    merges([a2], [b1, b3, b2, b3], [a2, c1, c3, c2, c3])  # port 0 has nothing left
+    merges([a2, a3, a1], [b2], [a2, c2, a3, a1])  # port 1 has nothing left
+    merges([a2, a1], [b1, b3, b2], [a2, c1, a1, c3, c2])  # the end of a list without TLAST
+    merges([], [b1, b2], [c1, c2])
+    merges([a2, a1], [], [a2, a1])
+    for width in range(1, 17):
+        merges([], [], [], width, user=4)
+
+
+@case("T-08, each record as it is")
+def _():
+    null, null_end = byte(0, 7, "C1", lane="00"), byte(1, 7, "C2", lane="00")
+    sent, sent_end = byte(0, 0x87, "C1", lane="00"), byte(1, 0x87, "C2", lane="00")
+    merges([null, byte(1, 1, "A1"), null], [null, null, byte(1, 1, "B1")],
+           [null, byte(1, 1, "A1"), sent, sent, byte(1, 0x81, "B1"), null])  # all null: passed on, and the turn goes on
+    merges([null_end, byte(0, 1, "A1")], [byte(0, 1, "B1"), null_end, null_end],
+           [null_end, byte(0, 0x81, "B1"), sent_end, byte(0, 1, "A1"), sent_end])  # TLAST alone ends a turn
+    merges([TRANSFER], [TRANSFER], [TRANSFER, "01 81 02 0D 00 09 00 11 22 33 44"], 4)
+    merges([TRANSFER + TAGS], [TRANSFER + TAGS], [TRANSFER + TAGS, "01 81 02 0D 00 09 00 11 22 33 44" + TAGS], 4, 2)
+    merges(["00 03 00 00 00 00 00 E3 E4 3F", "01 03 00 02 00 00 00 E5 E6 07"], ["00 03 0F 03 00 01 00 E0 E1 38"],
+           ["00 03 00 00 00 00 00 E3 E4 3F", "01 03 00 02 00 00 00 E5 E6 07", "00 83 0F 03 00 01 00 E0 E1 38"], 2, 3)
+    for width in range(1, 17):
+        for user in range(5):
+            bits = (2 ** (width * user) - 1).to_bytes((width * user + 7) // 8, "little").hex()
+            rest = "0F" + (2**width - 1).to_bytes(2, "little").hex() * 2 + bytes(range(0xB1, 0xB1 + width)).hex() + bits
+            merges(["007F" + rest, "0101" + rest], ["0100" + rest], ["007F" + rest, "0101" + rest, "0180" + rest], width, user)
+
+
+@case("T-08, every TID, each bit of a record")
+def _():
+    for tid in range(256):
+        for lane in ("01", "00"):
+            record = byte(0, tid, "A1", lane=lane)
+            if tid < 128:
+                merges([record], [record], [record, byte(0, tid + 128, "A1", lane=lane)])
+            else:
+                same(urd.merge(1, 0, octets(record), b"", bytearray(8)), merged(urd.TAGS), f"TID {tid} on port 0")
+                same(urd.merge(1, 0, b"", octets(record), bytearray(8)), merged(urd.TAGS, 1), f"TID {tid} on port 1")
+    zero = octets("FE 00 F0 FC FF FC FF 00 00 C0")  # what must be zero in a record of two lanes with three user bits each
+    for bit in range(80):
+        good, record = bytes(10), (1 << bit).to_bytes(10, "little")
+        room, sent = bytearray(30), bytes([record[0], record[1] + 128 & 255]) + record[2:]
+        refusal = urd.FIELD if zero[bit // 8] >> bit % 8 & 1 else urd.RESERVED if bit // 8 == 5 else urd.TAGS if bit == 15 else 0
+        refused = int(refusal != 0)
+        answers = [merged(refusal, port * refused, refused, 3 - 3 * refused) for port in (0, 1)]
+        same(urd.merge(2, 3, good + record, good, room), answers[0], f"bit {bit} on port 0")
+        same(room, bytes(30) if refused else good + record + b"\0\x80" + bytes(8), f"bit {bit} of port 0 as it goes out")
+        room = bytearray(30)
+        same(urd.merge(2, 3, good, good + record, room), answers[1], f"bit {bit} on port 1")
+        same(room, bytes(30) if refused else good + b"\0\x80" + bytes(8) + sent, f"bit {bit} of port 1 as it goes out")
+
+
+@case("T-08, refusals")
+def _():
+    sound = "01 7F 0F 03 00 01 00 11 22 3F"  # two lanes with three user bits each
+    tagged, null_tagged = "00 80 00 03 00 03 00 11 22 00", "00 FF 00 00 00 00 00 11 22 3F"
+    lane, padding = "00 80 00 01 00 03 00 11 22 00", "00 80 00 01 00 03 00 11 22 40"  # a reserved lane, too, and a padding bit
+    for shape, first, second, refusal, port, place in (
+        ((17, 5), "02", "02", urd.WIDTH, 0, 0),
+        ((2, 5), "02", "02", urd.USERBITS, 0, 0),
+        ((2, 3), padding + "02", padding + "02", urd.LENGTH, 0, 0),
+        ((2, 3), "02", "", urd.LENGTH, 0, 0),
+        ((2, 3), padding, padding + "02", urd.LENGTH, 1, 0),
+        ((2, 3), tagged, "00", urd.LENGTH, 1, 0),
+        ((2, 3), sound + padding, padding, urd.FIELD, 0, 1),
+        ((2, 3), sound * 2 + lane + padding, padding, urd.RESERVED, 0, 2),
+        ((2, 3), sound + tagged + lane + padding, padding, urd.TAGS, 0, 1),
+        ((2, 3), null_tagged + tagged, "", urd.TAGS, 0, 0),
+        ((2, 3), sound * 2, sound + padding + tagged, urd.FIELD, 1, 1),
+        ((2, 3), sound, sound * 2 + lane + padding, urd.RESERVED, 1, 2),
+        ((2, 3), sound * 3, sound + tagged + lane, urd.TAGS, 1, 1),
+        ((2, 3), "", sound + null_tagged + padding, urd.TAGS, 1, 1),
+    ):
+        for size in (256, 0):  # with no room at all it is the same
+            room = bytearray([TAIL] * size)
+            answer = urd.merge(*shape, octets(first), octets(second), room)
+            same((answer, room), (merged(refusal, port, place), bytes([TAIL] * size)), f"{refusal} of port {port}, room {size}")
+    same(urd.merge(2, 3, b"", octets(sound), bytearray()), merged(urd.ROOM), "5 is port 0's")
+    for big in (-1, 0, 17, 2**32 + 2, 2**64 - 1, 2**64 + 2, -(2**64) + 2):
+        same(urd.merge(big, 3, octets(sound), b"", bytearray(10)), merged(urd.WIDTH), f"width {big}")
+    for big in (-1, 5, 8, 2**32 + 3, 2**64 - 1, 2**64 + 3, -(2**64) + 3):
+        same(urd.merge(2, big, octets(sound), b"", bytearray(10)), merged(urd.USERBITS), f"{big} user bits")
+
+
+@case("T-08, the longest")
+def _():
+    def record(last, k, added=0):
+        return bytes([last, k % 128 + added, 3, 1, 0, 1, 0, k // 128])
+    first = b"".join(record(1, k) for k in range(8192))
+    second = b"".join(record(k % 2, k) for k in range(8192))  # turns of two
+    result = b"".join(record(1, k) + record(0, 2 * k, 128) + record(1, 2 * k + 1, 128) for k in range(4096)) + first[32768:]
+    room = bytearray([TAIL] * 131073)
+    for lists, size, expected in (
+        ((first, second), 131071, merged(urd.ROOM)),
+        ((first + bytes(8), second + bytes(8)), 131073, merged(urd.LENGTH)),
+        ((first, second + bytes(8)), 131073, merged(urd.LENGTH, 1)),
+        ((first[:-1], second), 131073, merged(urd.LENGTH)),
+        ((first, second[:-7] + b"\x80" + second[-6:]), 131072, merged(urd.TAGS, 1, 8191)),
+        ((first[:-6] + b"\x10" + first[-5:], second), 131072, merged(urd.FIELD, 0, 8191)),
+    ):
+        same(urd.merge(1, 0, *lists, memoryview(room)[:size]), expected, f"a room of {size}")
+    same(room == bytes([TAIL] * 131073), True, "refused, it is unchanged")
+    same(urd.merge(1, 0, first, second, memoryview(room)[:-1]), merged(count=16384), "65,536 octets on both")
+    same(room == result + bytes([TAIL]), True, "131,072 octets, nothing else")
+
+
+@case("T-08, any octets as lists")
+def _():
+    list_ = octets(byte(1, 1, "A1") + byte(0, 2, "A2"))
+    result = octets(byte(1, 1, "A1") + byte(1, 0x81, "A1") + byte(0, 2, "A2") + byte(0, 0x82, "A2"))
+    wide = memoryview(list_).cast("Q")  # two numbers of eight octets
+    for first in (list_, bytearray(list_), memoryview(b"\xFF" + list_)[1:], wide):
+        for second in (list_, bytearray(list_), memoryview(list_ + b"\xFF")[:-1], wide, first):
+            room = bytearray([TAIL] * 34)
+            same(urd.merge(1, 0, first, second, memoryview(room)[1:33]), merged(count=4), "the same octets on both ports")
+            same(room, bytes([TAIL]) + result + bytes([TAIL]), "only the part that was lent")
+            same((bytes(first), bytes(second)), (list_, list_), "the lists are as they were")
+    room = bytearray(list_ + bytes(16))
+    same(urd.merge(1, 0, memoryview(room)[:16], memoryview(room)[:16], room), merged(count=4), "the lent memory as both lists")
+    same(room, result, "merged in place")
 
 
 @case("findings and UNCLEAN")

@@ -20,6 +20,21 @@ def stream():
         print(packed[k * 9 : (k + 1) * 9].hex(" ").upper())
 
 
+def cameras():
+    """Two cameras on one link, both with TID 1: by turns up to TLAST, and the second camera's TIDs have 128 added."""
+    first = bytes.fromhex("00 01 00 01 00 01 00 A1 01 01 00 01 00 01 00 A2 01 01 00 01 00 01 00 A3")
+    second = bytes.fromhex("01 01 00 01 00 01 00 B1")
+    merged = bytearray(len(first) + len(second))
+    both = urd.merge(1, 0, first, second, merged)
+    print(f"{both.count} records of two cameras")
+    for k in range(both.count):
+        print(merged[k * 8 : (k + 1) * 8].hex(" ").upper())
+
+    # A third camera finds no place: TIDs of a merged list go up to 255, and a port takes them up to 127.
+    third = urd.merge(1, 0, first, merged, bytearray(len(first) + len(merged)))
+    print(f"a third: refusal {third.refusal}, port {third.port}, record {third.place}")
+
+
 def burst():
     """Each beat of a WRAP burst of four 4-byte beats on a bus of 8 bytes."""
     wrap = (0x34, 3, 2, urd.WRAP, 8)
@@ -50,6 +65,7 @@ def report():
 
 
 stream()
+cameras()
 burst()
 axi3()
 writes()

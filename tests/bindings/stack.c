@@ -36,7 +36,7 @@ static void put_record(uint8_t *r, size_t i, int kind)
     if (w * m % 8 != 0)
         r[record_size() - 1] &= (uint8_t)((1 << w * m % 8) - 1); /* no padding bit */
     r[0] = kind == ENDS || i % 5 == 0; /* TLAST */
-    r[1] = (uint8_t)(i / 9);           /* TID */
+    r[1] = i / 9 % 128;                /* TID, one that merging takes */
     r[2] = 3;                          /* TDEST */
     r[3] = (uint8_t)keep, r[4] = (uint8_t)(keep >> 8);
     r[5] = (uint8_t)strobe, r[6] = (uint8_t)(strobe >> 8);
@@ -79,7 +79,7 @@ static void fill_beats(int kind, int bad)
     beats_length = (last + 1) * each;
 }
 
-/* ---- the calls; each answers its refusal ---- */
+/* ---- the calls; each answers its refusal. In merging, a bad record is port 1's alone where v is odd ---- */
 
 static uint32_t judge(void) { return urd_judge(w, m, take, length).refusal; }
 static uint32_t harvest(void) { return urd_harvest(w, m, take, length, lent.octets, sizeof lent.octets).refusal; }
@@ -87,6 +87,7 @@ static uint32_t fill_in(void) { return urd_fill_in(w, m, take, length, (uint32_t
 static uint32_t data_octets(void) { return urd_data_octets(w, m, take, length, v).refusal; }
 static uint32_t repack(void) { return urd_repack(w, m, v, transfers, length, lent.octets, sizeof lent.octets).refusal; }
 static uint32_t downsize(void) { return urd_downsize(w, m, v, transfers, length, lent.octets, sizeof lent.octets).refusal; }
+static uint32_t merge(void) { return urd_merge(w, m, transfers, length - v % 2 * record_size(), transfers, length, lent.octets, sizeof lent.octets).refusal; }
 static uint32_t report(void) { return urd_report(sheet, sheet_length, 1, take, length, 1, lent.octets, sizeof lent.octets, text, sizeof text).refusal; }
 static uint32_t burst_judge(void) { return urd_burst_judge(64, 15, 2, (uint32_t)v % 3, 4).refusal; }
 static uint32_t burst_beat(void) { return urd_burst_beat(64, 15, 2, (uint32_t)v % 3, 4, (uint32_t)w - 1).refusal; }
@@ -99,7 +100,7 @@ static const struct { const char *name; uint32_t (*call)(void); int limit; } cal
     {"urd_report", report, 1}, {"urd_repack", repack, 2}, {"urd_downsize", downsize, 3}, {"urd_judge", judge, 3},
     {"urd_harvest", harvest, 3}, {"urd_fill_in", fill_in, 3}, {"urd_data_octets", data_octets, 3},
     {"urd_burst_judge", burst_judge, 3}, {"urd_burst_beat", burst_beat, 3}, {"urd_burst_step", burst_step, 3}, {"urd_axi3_cut", axi3_cut, 3},
-    {"urd_judge_writes", judge_writes, 3},
+    {"urd_judge_writes", judge_writes, 3}, {"urd_merge", merge, 3},
 };
 
 /* ---- measuring ---- */
