@@ -9,7 +9,7 @@ help:
 	@echo "make check   prove every crate and run its programs, without the must-fail edits"
 	@echo "make lib     build/lib/liburdhvasolk.a and .so for C and Python; their header is include/urdhvasolk.h"
 	@echo "make soak SECONDS=n   compare library and second program for n seconds; SEED=s begins at that seed"
-	@echo "make bench   measure repack (with user bits too), judge, harvest and write beats against plain Rust; it takes some seconds and is no part of the gate"
+	@echo "make bench   measure repack (with user bits too), judge, harvest, write beats and merge against plain Rust; it takes some seconds and is no part of the gate"
 	@echo "make fmt     lay out every .rt and .antt file"
 	@echo "make clean   remove everything that was built"
 

@@ -1,8 +1,8 @@
 //! The library's repack against the yardstick, in one process. First all must agree, in the answer and in the whole of
 //! the lent output: on edge cases, on random takes and on every take that is measured. Then the times, a line a case;
 //! `rust_us` is the fastest yardstick shape in that case. With the word `shapes`, each shape's time stands below.
-//! cycles.rs does the same for judge and harvest, before repack's lines; writes.rs and users.rs, programs of their own, for
-//! write beats and for repack with user bits: here there are none.
+//! cycles.rs does the same for judge and harvest, before repack's lines; writes.rs, users.rs and merges.rs, programs of their
+//! own, for write beats, for repack with user bits and for merging: here there are none.
 #[macro_use]
 mod yardstick;
 mod cycles;
