@@ -10,7 +10,7 @@ ghost use Rattle.merge_spec.specs.Answers.{mergeAnswer, mergeAfter, mergedValue
 ghost use Rattle.capi.specs.Shows.{ShowsMerge};
 
 // What merging answers: the refusal's number, or 0; the port that it names; its place, the record in that port's list; the count of
-// records. What it has not is 0.
+// records. A number that an answer does not have is 0.
 #[repr(C)]
 pub struct MergeAnswer {
     pub refusal: u32,

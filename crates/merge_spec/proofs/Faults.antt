@@ -20,7 +20,7 @@ use Rattle.stream_spec.specs.Walk.{Passed}
 use Rattle.stream_spec.proofs.Passed.{length-fits, fits-length, take-passed, checks-passed, passed-checks, passed-shape}
 use Rattle.stream_spec.proofs.Records.{length-pieces}
 use Rattle.stream_spec.proofs.RecordChecks.{FoundIn, each-none, each-all, all-each, each-at, at-each}
-use Rattle.merge_spec.specs.Merge.{tagAdded, tid, highTid, merged}
+use Rattle.merge_spec.specs.Merge.{tidAdded, tid, highTid, merged}
 use Rattle.merge_spec.specs.Answers.{Named, naming, portFaults, portChecks, mergeRefusal}
 use Rattle.merge_spec.specs.Promises.{recordOf, Sound, AllSound, Readable, HighAt, HighBy}
 use Rattle.merge_spec.proofs.Tags.{AllLow}
@@ -48,10 +48,10 @@ module _ (s : Shape) (k : ℕ) (r : List ℕ) where
   sound-of : first (portFaults s k r) ≡ none → Sound s r
   sound-of e =
       let h = found-none k (fieldFault transferFlags s r) (reservedFault s r) (highTid r) e in
-      record { field = h .0; reserved = h .1; low = leb-false tagAdded (tid r) (h .2) }
+      record { field = h .0; reserved = h .1; low = leb-false tidAdded (tid r) (h .2) }
 
   of-sound : Sound s r → first (portFaults s k r) ≡ none
-  of-sound h = rw (h .field, h .reserved, lt-leb tagAdded (tid r) (h .low)) refl
+  of-sound h = rw (h .field, h .reserved, lt-leb tidAdded (tid r) (h .low)) refl
 
 -- ---- all records of a list
 
@@ -78,7 +78,7 @@ module _ (s : Shape) (xs : List ℕ) where
             within = omega (arith, f .within, counted);
             field = h .0;
             reserved = h .1;
-            high = leb-true tagAdded (tid r) (h .2);
+            high = leb-true tidAdded (tid r) (h .2);
             earlier = λ j l. sound-of s (0 + j) (recordOf s xs j) (f .earlier j l);
           })
 
@@ -89,7 +89,7 @@ module _ (s : Shape) (xs : List ℕ) where
         place = k;
         within = omega (arith, h .within, counted);
         here =
-            rw (h .field, h .reserved, le-leb tagAdded (tid (recordOf s xs k)) (h .high)) (ap (λ (j : ℕ). some (Tags j)) (zero-add k));
+            rw (h .field, h .reserved, le-leb tidAdded (tid (recordOf s xs k)) (h .high)) (ap (λ (j : ℕ). some (Tags j)) (zero-add k));
         earlier = λ j l. of-sound s (0 + j) (recordOf s xs j) (h .earlier j l);
       })
 
@@ -124,70 +124,3 @@ module _ (s : Shape) (xs ys : List ℕ) where
 
   pub other-readable : Readable s xs ys → first (lengthCheck s ys ∷ []) ≡ none
   other-readable h = none-first (lengthCheck s ys) [] (fits-length s ys (h .second .0) (h .second .1)) refl
-
--- ---- 17
-
--- neither the numbers nor the room give it
-not-take : (k : ℕ) (a b c : Bool) → cond a (some Width) (cond b (some UserBits) (cond c (some Length) none)) ≡ some (Tags k) → ⊥
-not-take k true b c e = clash cc
-not-take k false true c e = clash cc
-not-take k false false true e = clash cc
-not-take k false false false e = clash cc
-
-not-one : (k : ℕ) (r : Refusal) (b : Bool) → (r ≡ Tags k → ⊥) → cond b (some r) none ≡ some (Tags k) → ⊥
-not-one k r true n e = n cc
-not-one k r false n e = clash cc
-
-module _ (s : Shape) (xs ys : List ℕ) (room port k : ℕ) where
-  abbrev it : Named
-  it = named port (Tags k)
-
-  by-port : (p : ℕ) (cs : List (Check Refusal)) → first (naming p cs) ≡ some it → (port ≡ p) × (first cs ≡ some (Tags k))
-  by-port p cs e = named-some p port (Tags k) (first cs) (sym (naming-first p cs) ∙ e)
-
-  -- part by part: one of them gives it, and none of those in front gives anything
-  by-second : Readable s xs ys → AllSound s xs → first (fourth s xs ys room) ≡ some it → HighBy s xs ys port k
-  by-second r a e = go (append-some (naming 1 (portChecks s ys)) (roomed s xs ys room) it e)
-    where
-      go : (first (naming 1 (portChecks s ys)) ≡ some it) ⊎ ((first (naming 1 (portChecks s ys)) ≡ none) × (first (roomed s xs ys room) ≡ some it))
-          → HighBy s xs ys port k
-      go (inl f) = let h = by-port 1 (portChecks s ys) f in inr (h .0, a, high-at s ys k (h .1))
-      go (inr f) =
-          absurd (not-one k Room (roomCheck (merged s xs ys) room .found) (λ q. clash cc) (by-port 0 (roomCheck (merged s xs ys) room ∷ []) (f .1) .1))
-
-  by-first : Readable s xs ys → first (third s xs ys room) ≡ some it → HighBy s xs ys port k
-  by-first r e = go (append-some (naming 0 (portChecks s xs)) (fourth s xs ys room) it e)
-    where
-      go : (first (naming 0 (portChecks s xs)) ≡ some it) ⊎ ((first (naming 0 (portChecks s xs)) ≡ none) × (first (fourth s xs ys room) ≡ some it))
-          → HighBy s xs ys port k
-      go (inl f) = let h = by-port 0 (portChecks s xs) f in inl (h .0, high-at s xs k (h .1))
-      go (inr f) = by-second r (all-sound s xs (naming-none 0 (portChecks s xs) (f .0))) (f .1)
-
-  by-length : first (takeChecks s xs) ≡ none → first (second s xs ys room) ≡ some it → Readable s xs ys × HighBy s xs ys port k
-  by-length t e = go (append-some (naming 1 (lengthCheck s ys ∷ [])) (third s xs ys room) it e)
-    where
-      go : (first (naming 1 (lengthCheck s ys ∷ [])) ≡ some it)
-          ⊎ ((first (naming 1 (lengthCheck s ys ∷ [])) ≡ none) × (first (third s xs ys room) ≡ some it))
-          → Readable s xs ys × HighBy s xs ys port k
-      go (inl f) = absurd (not-one k Length (lengthCheck s ys .found) (λ q. clash cc) (by-port 1 (lengthCheck s ys ∷ []) f .1))
-      go (inr f) = let r = readable-of s xs ys t (naming-none 1 (lengthCheck s ys ∷ []) (f .0)) in (r, by-first r (f .1))
-
-  pub tags-there : mergeRefusal s xs ys room ≡ some it → Readable s xs ys × HighBy s xs ys port k
-  tags-there e = go (append-some (naming 0 (takeChecks s xs)) (second s xs ys room) it e)
-    where
-      go : (first (naming 0 (takeChecks s xs)) ≡ some it) ⊎ ((first (naming 0 (takeChecks s xs)) ≡ none) × (first (second s xs ys room) ≡ some it))
-          → Readable s xs ys × HighBy s xs ys port k
-      go (inl f) =
-          absurd
-          (not-take k (widthCheck (s .width) .found) (userCheck s .found) (lengthCheck s xs .found) (by-port 0 (takeChecks s xs) f .1))
-      go (inr f) = by-length (naming-none 0 (takeChecks s xs) (f .0)) (f .1)
-
-  pub tags-back : Readable s xs ys → HighBy s xs ys port k → mergeRefusal s xs ys room ≡ some it
-  tags-back r (inl h) =
-      after-other s xs ys room (take-readable s xs ys r) (other-readable s xs ys r)
-      ∙ append-found (naming 0 (portChecks s xs)) (fourth s xs ys room) it
-      (naming-first 0 (portChecks s xs) ∙ rw (h .0, at-high s xs k (h .1)) refl)
-  tags-back r (inr h) =
-      after-firsts s xs ys room (take-readable s xs ys r) (other-readable s xs ys r) (sound-all s xs (h .1))
-      ∙ append-found (naming 1 (portChecks s ys)) (roomed s xs ys room) it
-      (naming-first 1 (portChecks s ys) ∙ rw (h .0, at-high s ys k (h .2)) refl)

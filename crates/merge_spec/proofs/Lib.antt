@@ -5,6 +5,7 @@ pub mod Refusals
 pub mod Faults
 pub mod Order
 pub mod Merge
+pub mod Refused
 pub mod Packing
 pub mod Packed
 pub mod Promises

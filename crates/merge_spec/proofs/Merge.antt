@@ -18,13 +18,13 @@ use Rattle.stream_spec.specs.Walk.{Passed}
 use Rattle.stream_spec.proofs.Legal.{octets-append, Faultless, faultless-of, of-faultless, EachOctets, pieces-octets}
 use Rattle.stream_spec.proofs.Records.{Sized, length-joined, records-joined, records-sized, length-pieces, whole-count}
 use Rattle.merge_spec.specs.Turns.{turnsOf, alternate, passed, those}
-use Rattle.merge_spec.specs.Merge.{tagAdded, tid, tagged, restored, highTid, lowTid, turns, mergedRecords, merged}
-use Rattle.merge_spec.specs.Promises.{SharesKept, Next, InTurns, Fair, TurnsTaken}
-use Rattle.merge_spec.proofs.Turns.{EachIn, EachTurn, each-passed, each-alternate, each-turns, All, all-turns, those-first, those-second, turns-pass, turns-end}
-use Rattle.merge_spec.proofs.Tags.{tagged-long, tagged-octets, tagged-field, tagged-reserved, tagged-back, sized-tagged, all-back, AllLow, high-tagged, all-not}
+use Rattle.merge_spec.specs.Merge.{tidAdded, tid, raised, restored, highTid, lowTid, turns, mergedRecords, merged}
+use Rattle.merge_spec.specs.Promises.{SharesKept, Next, InTurns, Fair, cutTurns, TurnsTaken}
+use Rattle.merge_spec.proofs.Turns.{EachIn, EachTurn, each-passed, each-alternate, each-turns, All, AllTurns, all-turns, those-first, those-second, turns-pass, turns-end}
+use Rattle.merge_spec.proofs.Tags.{raised-long, raised-octets, raised-field, raised-reserved, raised-back, sized-raised, all-back, AllLow, high-raised, all-not}
 use Rattle.merge_spec.proofs.Refusals.{Accepts}
 use Rattle.merge_spec.proofs.Faults.{readable-of, passed-first, passed-second, faultless-low}
-use Rattle.merge_spec.proofs.Order.{goes, goes-only, fair-both}
+use Rattle.merge_spec.proofs.Order.{goes, goes-only, over-both, fair-both, cut-fair}
 
 -- what an accepted call knows of a list
 pub record Taken (s : Shape) (xs : List ℕ) : Type 0 where
@@ -50,13 +50,13 @@ pub record Stands (s : Shape) (r : List ℕ) : Type 0 where
   pub field : fieldFault transferFlags s r ≡ false
   pub reserved : reservedFault s r ≡ false
 
-stands-tagged : (s : Shape) (r : List ℕ) → highTid r ≡ false → Stands s r → Stands s (tagged r)
-stands-tagged s r e h =
+stands-raised : (s : Shape) (r : List ℕ) → highTid r ≡ false → Stands s r → Stands s (raised r)
+stands-raised s r e h =
     record {
-      long = tagged-long r ∙ h .long;
-      octets = tagged-octets r (leb-false tagAdded (tid r) e) (h .octets);
-      field = tagged-field s r ∙ h .field;
-      reserved = tagged-reserved s r ∙ h .reserved;
+      long = raised-long r ∙ h .long;
+      octets = raised-octets r (leb-false tidAdded (tid r) e) (h .octets);
+      field = raised-field s r ∙ h .field;
+      reserved = raised-reserved s r ∙ h .reserved;
     }
 
 module _ (s : Shape) where
@@ -65,9 +65,9 @@ module _ (s : Shape) where
   stands-of (r ∷ rs) a b c =
       (record { long = a .0; octets = b .0; field = c .0; reserved = c .1 }, stands-of rs (a .1) (b .1) (c .2))
 
-  all-tagged : (rs : List (List ℕ)) → AllLow rs → EachIn (Stands s) rs → EachIn (Stands s) (map tagged rs)
-  all-tagged [] l h = tt
-  all-tagged (r ∷ rs) l h = (stands-tagged s r (l .0) (h .0), all-tagged rs (l .1) (h .1))
+  all-raised : (rs : List (List ℕ)) → AllLow rs → EachIn (Stands s) rs → EachIn (Stands s) (map raised rs)
+  all-raised [] l h = tt
+  all-raised (r ∷ rs) l h = (stands-raised s r (l .0) (h .0), all-raised rs (l .1) (h .1))
 
   stands-octets : (rs : List (List ℕ)) → EachIn (Stands s) rs → Octets (joined rs)
   stands-octets [] h = tt
@@ -92,21 +92,21 @@ module _ (s : Shape) where
 -- ---- the records of the merged list
 
 -- what holds of each record of both lists, as they go out, holds of each of the merged list
-each-merged : (P : List ℕ → Type 0) (s : Shape) (xs ys : List ℕ) → EachIn P (records s xs) → EachIn P (map tagged (records s ys))
+each-merged : (P : List ℕ → Type 0) (s : Shape) (xs ys : List ℕ) → EachIn P (records s xs) → EachIn P (map raised (records s ys))
     → EachIn P (mergedRecords s xs ys)
 each-merged P s xs ys h k =
     each-passed P (turns s xs ys)
-    (each-alternate (EachIn P) (turnsOf tlast (records s xs)) (turnsOf tlast (map tagged (records s ys))) (each-turns P tlast (records s xs) h)
-    (each-turns P tlast (map tagged (records s ys)) k))
+    (each-alternate (EachIn P) (turnsOf tlast (records s xs)) (turnsOf tlast (map raised (records s ys))) (each-turns P tlast (records s xs) h)
+    (each-turns P tlast (map raised (records s ys)) k))
 
 module _ (s : Shape) (xs ys : List ℕ) where
-  pub tagged-sized : Sized (size s) (map tagged (records s ys))
-  tagged-sized = sized-tagged (size s) (records s ys) (records-sized s ys)
+  pub raised-sized : Sized (size s) (map raised (records s ys))
+  raised-sized = sized-raised (size s) (records s ys) (records-sized s ys)
 
   pub merged-sized : Sized (size s) (mergedRecords s xs ys)
   merged-sized =
       each-sized s (mergedRecords s xs ys)
-      (each-merged (Long s) s xs ys (sized-each s (records s xs) (records-sized s xs)) (sized-each s (map tagged (records s ys)) tagged-sized))
+      (each-merged (Long s) s xs ys (sized-each s (records s xs) (records-sized s xs)) (sized-each s (map raised (records s ys)) raised-sized))
 
   pub merged-records : records s (merged s xs ys) ≡ mergedRecords s xs ys
   merged-records = records-joined s (mergedRecords s xs ys) merged-sized
@@ -123,10 +123,10 @@ passed-count (t ∷ ts) (u ∷ us) =
 module _ (s : Shape) (xs ys : List ℕ) where
   pub merged-count : length (mergedRecords s xs ys) ≡ recordCount s xs + recordCount s ys
   merged-count =
-      passed-count (turnsOf tlast (records s xs)) (turnsOf tlast (map tagged (records s ys)))
-      ∙ ap₂ (λ (a b : List (List ℕ)). length a + length b) (turns-pass tlast (records s xs)) (turns-pass tlast (map tagged (records s ys)))
+      passed-count (turnsOf tlast (records s xs)) (turnsOf tlast (map raised (records s ys)))
+      ∙ ap₂ (λ (a b : List (List ℕ)). length a + length b) (turns-pass tlast (records s xs)) (turns-pass tlast (map raised (records s ys)))
       ∙ ap₂ (λ (a b : ℕ). a + b) (length-pieces (size s) (recordCount s xs) xs)
-      (length-map (records s ys) tagged ∙ length-pieces (size s) (recordCount s ys) ys)
+      (length-map (records s ys) raised ∙ length-pieces (size s) (recordCount s ys) ys)
 
   pub merged-long : length (merged s xs ys) ≡ length (mergedRecords s xs ys) * size s
   merged-long = length-joined (size s) (mergedRecords s xs ys) (merged-sized s xs ys)
@@ -144,22 +144,27 @@ module _ (s : Shape) (xs ys : List ℕ) (low : AllLow (records s xs)) where
   firsts = turnsOf tlast (records s xs)
 
   abbrev seconds : List (List (List ℕ))
-  seconds = turnsOf tlast (map tagged (records s ys))
+  seconds = turnsOf tlast (map raised (records s ys))
 
-  high : All highTid true (map tagged (records s ys))
-  high = high-tagged s (records s ys) (records-sized s ys)
+  high : All highTid true (map raised (records s ys))
+  high = high-raised s (records s ys) (records-sized s ys)
+
+  low-turns : AllTurns highTid false firsts
+  low-turns = all-turns highTid tlast false (records s xs) low
+
+  high-turns : AllTurns highTid true seconds
+  high-turns = all-turns highTid tlast true (map raised (records s ys)) high
 
   pub share-first : those lowTid (mergedRecords s xs ys) ≡ records s xs
   share-first =
       those-first lowTid firsts seconds (all-turns lowTid tlast true (records s xs) (all-not false (records s xs) low))
-      (all-turns lowTid tlast false (map tagged (records s ys)) (all-not true (map tagged (records s ys)) high))
+      (all-turns lowTid tlast false (map raised (records s ys)) (all-not true (map raised (records s ys)) high))
       ∙ turns-pass tlast (records s xs)
 
-  pub share-second : those highTid (mergedRecords s xs ys) ≡ map tagged (records s ys)
+  pub share-second : those highTid (mergedRecords s xs ys) ≡ map raised (records s ys)
   share-second =
-      those-second highTid firsts seconds (all-turns highTid tlast false (records s xs) low)
-      (all-turns highTid tlast true (map tagged (records s ys)) high)
-      ∙ turns-pass tlast (map tagged (records s ys))
+      those-second highTid firsts seconds low-turns high-turns
+      ∙ turns-pass tlast (map raised (records s ys))
 
   pub shares-kept : SharesKept s xs ys
   shares-kept =
@@ -170,26 +175,30 @@ module _ (s : Shape) (xs ys : List ℕ) (low : AllLow (records s xs)) where
       }
 
   pub in-turns : Next false (records s (merged s xs ys)) × InTurns (records s (merged s xs ys))
-  in-turns = rw (merged-records s xs ys) (goes false (records s xs) (map tagged (records s ys)) low high)
+  in-turns = rw (merged-records s xs ys) (goes false (records s xs) (map raised (records s ys)) low high)
+
+  fair : Fair (turns s xs ys)
+  fair = fair-both false firsts seconds (turns-end tlast (records s xs)) (turns-end tlast (map raised (records s ys))) low-turns high-turns
 
   pub turns-taken : TurnsTaken s xs ys
   turns-taken =
       record {
-        fair = fair-both false firsts seconds (turns-end tlast (records s xs)) (turns-end tlast (map tagged (records s ys)))
-            (all-turns highTid tlast false (records s xs) low) (all-turns highTid tlast true (map tagged (records s ys)) high);
+        starts = over-both true firsts seconds (turns-end tlast (records s xs)) low-turns high-turns;
+        fair = fair;
         all = sym (merged-records s xs ys);
+        found = ap cutTurns (merged-records s xs ys) ∙ cut-fair (turns s xs ys) fair;
       }
 
 -- ---- no other list has these shares in this order
 
-high-back : (rs : List (List ℕ)) → All highTid true rs → map tagged (map restored rs) ≡ rs
+high-back : (rs : List (List ℕ)) → All highTid true rs → map raised (map restored rs) ≡ rs
 high-back [] h = refl
 high-back (r ∷ rs) h = ap₂ (λ (x : List ℕ) (xs : List (List ℕ)). x ∷ xs) (back r (h .0)) (high-back rs (h .1))
   where
-    back : (r : List ℕ) → highTid r ≡ true → tagged (restored r) ≡ r
-    back [] e = absurd (omega (arith, leb-true tagAdded 0 e))
-    back (f ∷ []) e = absurd (omega (arith, leb-true tagAdded 0 e))
-    back (f ∷ t ∷ r) e = let same : t - 128 + 128 ≡ t = omega (arith, leb-true tagAdded t e) in ap (λ (u : ℕ). f ∷ u ∷ r) same
+    back : (r : List ℕ) → highTid r ≡ true → raised (restored r) ≡ r
+    back [] e = absurd (omega (arith, leb-true tidAdded 0 e))
+    back (f ∷ []) e = absurd (omega (arith, leb-true tidAdded 0 e))
+    back (f ∷ t ∷ r) e = let same : t - 128 + 128 ≡ t = omega (arith, leb-true tidAdded t e) in ap (λ (u : ℕ). f ∷ u ∷ r) same
 
 those-all : (rs : List (List ℕ)) → All highTid true (those highTid rs)
 those-all [] = tt
@@ -204,7 +213,7 @@ pub merged-only : (s : Shape) (xs ys : List ℕ) (rs : List (List ℕ)) → Next
 merged-only s xs ys rs n g e f =
     goes-only false rs n g
     ∙ ap₂ (λ (a b : List (List ℕ)). passed (alternate (turnsOf tlast a) (turnsOf tlast b))) e
-    (sym (high-back (those highTid rs) (those-all rs)) ∙ ap (map tagged) f)
+    (sym (high-back (those highTid rs) (those-all rs)) ∙ ap (map raised) f)
 
 -- ---- a legal stream
 
@@ -214,7 +223,7 @@ taken-stands s xs o t =
 
 pub merged-legal : (s : Shape) (xs ys : List ℕ) → Octets xs → Octets ys → Taken s xs → Taken s ys → Legal s (merged s xs ys)
 merged-legal s xs ys o p t u =
-    let stands = each-merged (Stands s) s xs ys (taken-stands s xs o t) (all-tagged s (records s ys) (u .low) (taken-stands s ys p u)) in
+    let stands = each-merged (Stands s) s xs ys (taken-stands s xs o t) (all-raised s (records s ys) (u .low) (taken-stands s ys p u)) in
     record {
       widthLow = t .passed .low;
       widthHigh = t .passed .high;

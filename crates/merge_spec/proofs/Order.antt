@@ -1,17 +1,17 @@
 -- Whose record comes next in a merged list: port 0 first, behind each record the port that has the turn, and no other list is so. And the
 -- same of turns. Assumes nothing.
-use mathlib.Core.Bool.{Bool, true, false, not, cond}
-use mathlib.Core.List.{List, [], _∷_, _++_, map}
+use mathlib.Core.Bool.{Bool, Bool·beq, true, false, not, cond, or-true}
+use mathlib.Core.List.{List, [], _∷_, _++_, append-assoc}
 use mathlib.Core.Logic.{_⊎_, inl, inr, _≢_}
-use mathlib.Core.Path.{_≡_, refl, sym, ap, ap₂, _∙_}
+use mathlib.Core.Path.{_≡_, refl, sym, ap, ap₂, _∙_, subst}
 use Prim.Native.Nat.{ℕ}
 use native.Mathlib.Omega.{arith}
 use lib.ListN.{length, length-append}
 use Rattle.stream_spec.specs.Layout.{tlast}
-use Rattle.merge_spec.specs.Turns.{alternate, passed, those, line}
+use Rattle.merge_spec.specs.Turns.{intoFirst, alternate, passed, those, goesOut}
 use Rattle.merge_spec.specs.Merge.{highTid, lowTid}
-use Rattle.merge_spec.specs.Promises.{sentBy, Next, turnAfter, InTurns, IsTurn, GoesOver, portOf, Fair}
-use Rattle.merge_spec.proofs.Turns.{All, AllTurns, EachTurn, all-those, none-those, all-twice, each-passed, Ends, Ended, alternate-nil, line-first, line-second, skip-first, skip-second, line-no-first, line-no-second}
+use Rattle.merge_spec.specs.Promises.{sentBy, Next, turnAfter, InTurns, IsTurn, GoesOver, portOf, Fair, isOver, cutTurns}
+use Rattle.merge_spec.proofs.Turns.{All, AllTurns, EachTurn, all-those, none-those, those-none, all-twice, each-passed, Ends, Ended, alternate-nil, goes-first, goes-second, skip-first, skip-second, goes-no-first, goes-no-second}
 use Rattle.merge_spec.proofs.Tags.{AllLow, all-not}
 
 -- ---- what a port sent
@@ -56,13 +56,13 @@ one-port port q [] h = (tt, tt)
 one-port port q (r ∷ rs) h = (first-of port q r rs h, one-port port (turnAfter r) rs (h .1))
 
 -- whoever has the turn, port 0's records and port 1's go in turns
-pub goes : (port : Bool) (xs ys : List (List ℕ)) → AllLow xs → All highTid true ys → Goes port (line tlast port xs ys)
-goes port [] ys h k = rw (line-no-first tlast port ys) (one-port true port ys k)
-goes port (x ∷ xs) [] h k = rw (line-no-second tlast port (x ∷ xs)) (one-port false port (x ∷ xs) h)
+pub goes : (port : Bool) (xs ys : List (List ℕ)) → AllLow xs → All highTid true ys → Goes port (goesOut tlast port xs ys)
+goes port [] ys h k = rw (goes-no-first tlast port ys) (one-port true port ys k)
+goes port (x ∷ xs) [] h k = rw (goes-no-second tlast port (x ∷ xs)) (one-port false port (x ∷ xs) h)
 goes false (x ∷ xs) (y ∷ ys) h k =
-    rw (line-first tlast x xs (y ∷ ys)) (λ n. h .0, rw (← after-first x (h .0)) (goes (tlast x) xs (y ∷ ys) (h .1) k))
+    rw (goes-first tlast x xs (y ∷ ys)) (λ n. h .0, rw (← after-first x (h .0)) (goes (tlast x) xs (y ∷ ys) (h .1) k))
 goes true (x ∷ xs) (y ∷ ys) h k =
-    rw (line-second tlast (x ∷ xs) y ys) (λ n. k .0, rw (← after-second y (k .0)) (goes (not (tlast y)) (x ∷ xs) ys h (k .1)))
+    rw (goes-second tlast (x ∷ xs) y ys) (λ n. k .0, rw (← after-second y (k .0)) (goes (not (tlast y)) (x ∷ xs) ys h (k .1)))
 
 -- ---- and no other list is so
 
@@ -90,23 +90,23 @@ module _ (r : List ℕ) (rs : List (List ℕ)) where
   highs = those highTid rs
 
   abbrev Told : Type 0
-  Told = rs ≡ line tlast (turnAfter r) lows highs
+  Told = rs ≡ goesOut tlast (turnAfter r) lows highs
 
   -- a record of port 0, and of port 1, in front of the others
-  front-first : highTid r ≡ false → Told → r ∷ rs ≡ line tlast false (r ∷ lows) highs
+  front-first : highTid r ≡ false → Told → r ∷ rs ≡ goesOut tlast false (r ∷ lows) highs
   front-first e ih =
       ap {B = List (List ℕ)} (λ l. r ∷ l) ih
-      ∙ ap (λ (q : Bool). r ∷ line tlast q lows highs) (sym (after-first r e))
-      ∙ sym (line-first tlast r lows highs)
+      ∙ ap (λ (q : Bool). r ∷ goesOut tlast q lows highs) (sym (after-first r e))
+      ∙ sym (goes-first tlast r lows highs)
 
-  front-second : highTid r ≡ true → Told → r ∷ rs ≡ line tlast true lows (r ∷ highs)
+  front-second : highTid r ≡ true → Told → r ∷ rs ≡ goesOut tlast true lows (r ∷ highs)
   front-second e ih =
       ap {B = List (List ℕ)} (λ l. r ∷ l) ih
-      ∙ ap (λ (q : Bool). r ∷ line tlast q lows highs) (sym (after-second r e))
-      ∙ sym (line-second tlast lows r highs)
+      ∙ ap (λ (q : Bool). r ∷ goesOut tlast q lows highs) (sym (after-second r e))
+      ∙ sym (goes-second tlast lows r highs)
 
   front : (port b : Bool) → highTid r ≡ b → Next port (r ∷ rs) → Told
-      → r ∷ rs ≡ line tlast port (those lowTid (r ∷ rs)) (those highTid (r ∷ rs))
+      → r ∷ rs ≡ goesOut tlast port (those lowTid (r ∷ rs)) (those highTid (r ∷ rs))
   front false false e n ih = rw e (front-first e ih)
   front true true e n ih = rw e (front-second e ih)
   front true false e n ih =
@@ -116,7 +116,7 @@ module _ (r : List ℕ) (rs : List (List ℕ)) where
       let none : lows ≡ [] = other-left false r rs e n in
       rw e (front-second e ih ∙ rw none (sym (skip-first tlast (r ∷ highs))))
 
-pub goes-only : (port : Bool) (rs : List (List ℕ)) → Next port rs → InTurns rs → rs ≡ line tlast port (those lowTid rs) (those highTid rs)
+pub goes-only : (port : Bool) (rs : List (List ℕ)) → Next port rs → InTurns rs → rs ≡ goesOut tlast port (those lowTid rs) (those highTid rs)
 goes-only true [] n g = refl
 goes-only false [] n g = refl
 goes-only port (r ∷ rs) n g = front r rs port (highTid r) refl n (goes-only (turnAfter r) rs (g .0) (g .1))
@@ -170,7 +170,7 @@ fair-alone port (t ∷ ts) e h =
     none-sent false = refl
 
 -- the turns of two
-over-both : (port : Bool) (ts us : List (List (List ℕ))) → Ended tlast ts → AllTurns highTid (not port) ts → AllTurns highTid port us
+pub over-both : (port : Bool) (ts us : List (List (List ℕ))) → Ended tlast ts → AllTurns highTid (not port) ts → AllTurns highTid port us
     → GoesOver port (alternate ts us)
 over-both port [] us e h k = over-alone port us k
 over-both port (t ∷ ts) [] e h k = λ q. own-turn (not port) t ts (e .0) (h .0) q
@@ -190,3 +190,66 @@ fair-both port (t ∷ ts) (u ∷ us) d e h k =
         fair-both port ts us (d .1) (e .1) (h .1) (k .1),
       ),
     )
+
+-- ---- the turns, found again in the merged list
+
+-- whose the records are, by what the other port did not send
+own-all : (port : Bool) (rs : List (List ℕ)) → sentBy (not port) rs ≡ [] → All highTid port rs
+own-all false rs e = those-none highTid rs e
+own-all true rs e = back rs (those-none lowTid rs e)
+  where
+    one : (b : Bool) → not b ≡ false → b ≡ true
+    one true h = refl
+    one false h = let u : _≡_ {A = ℕ} 0 1 = cc in absurd (omega arith)
+
+    back : (rs : List (List ℕ)) → All lowTid false rs → All highTid true rs
+    back [] h = tt
+    back (r ∷ rs) h = (one (highTid r) (h .0), back rs (h .1))
+
+same-port : (port : Bool) → not (Bool·beq port port) ≡ false
+same-port true = refl
+same-port false = refl
+
+-- no turn is over inside one
+inside : (port : Bool) (r : List ℕ) (before : List (List ℕ)) (final : List ℕ) (later : List (List ℕ)) → tlast r ≡ false → highTid r ≡ port
+    → All highTid port (before ++ final ∷ []) → isOver r (before ++ final ∷ later) ≡ false
+inside port r [] final later e f h = rw (e, f, h .0) (same-port port)
+inside port r (q ∷ before) final later e f h = rw (e, f, h .0) (same-port port)
+
+cut-one : (port : Bool) (before : List (List ℕ)) (final : List ℕ) (later : List (List ℕ)) → All highTid port (before ++ final ∷ []) → All tlast false before
+    → cutTurns (final ∷ later) ≡ (final ∷ []) ∷ cutTurns later → cutTurns (before ++ final ∷ later) ≡ (before ++ final ∷ []) ∷ cutTurns later
+cut-one port [] final later h l e = e
+cut-one port (r ∷ before) final later h l e =
+    rw (inside port r before final later (l .0) (h .0) (h .1)) (ap (intoFirst r) (cut-one port before final later (h .1) (l .1) e))
+
+-- and at its end it is
+over-here : (port : Bool) (final : List ℕ) (later : List (List ℕ)) → highTid final ≡ port → (tlast final ≡ true) ⊎ (sentBy port later ≡ [])
+    → cutTurns (final ∷ later) ≡ (final ∷ []) ∷ cutTurns later
+over-here port final [] h e = go (tlast final)
+  where
+    go : (b : Bool) → cond b ((final ∷ []) ∷ []) (intoFirst final []) ≡ (final ∷ []) ∷ []
+    go true = refl
+    go false = refl
+over-here port final (q ∷ later) h (inl e) = rw e refl
+over-here port final (q ∷ later) h (inr e) = over-other port (highTid q) refl h e
+  where
+    over-other : (port b : Bool) → highTid q ≡ b → highTid final ≡ port → sentBy port (q ∷ later) ≡ []
+        → cutTurns (final ∷ q ∷ later) ≡ (final ∷ []) ∷ cutTurns (q ∷ later)
+    over-other true true f h e = let some : q ∷ sentBy true later ≡ [] = rw f at e in absurd (some-left q (sentBy true later) some)
+    over-other false false f h e = let some : q ∷ sentBy false later ≡ [] = rw f at e in absurd (some-left q (sentBy false later) some)
+    over-other true false f h e = rw (h, f, or-true (tlast final)) refl
+    over-other false true f h e = rw (h, f, or-true (tlast final)) refl
+
+final-own : (port : Bool) (before : List (List ℕ)) (final : List ℕ) → All highTid port (before ++ final ∷ []) → highTid final ≡ port
+final-own port [] final h = h .0
+final-own port (r ∷ before) final h = final-own port before final (h .1)
+
+pub cut-fair : (ts : List (List (List ℕ))) → Fair ts → cutTurns (passed ts) ≡ ts
+cut-fair [] h = refl
+cut-fair (t ∷ ts) h =
+    let i = h .0 in
+    let own : All highTid (portOf t) (i .before ++ i .final ∷ []) = subst (All highTid (portOf t)) (i .is) (own-all (portOf t) t (i .own)) in
+    ap (λ (l : List (List ℕ)). cutTurns (l ++ passed ts)) (i .is) ∙ ap cutTurns (append-assoc (i .before) (i .final ∷ []) (passed ts))
+    ∙ cut-one (portOf t) (i .before) (i .final) (passed ts) own (those-none tlast (i .before) (i .unended))
+    (over-here (portOf t) (i .final) (passed ts) (final-own (portOf t) (i .before) (i .final) own) (i .ends))
+    ∙ ap₂ (λ (a : List (List ℕ)) (l : List (List (List ℕ))). a ∷ l) (sym (i .is)) (cut-fair ts (h .2))

@@ -13,12 +13,12 @@ use Rattle.stream_spec.specs.Checks.{captureMost}
 use Rattle.stream_spec.proofs.Pack.{wide-pack}
 use Rattle.stream_spec.proofs.Records.{Sized, length-joined, records-joined, records-sized, length-pieces, whole-count, octets-sized, octets-append}
 use Rattle.merge_spec.specs.Turns.{turnsOf, alternate, passed, those}
-use Rattle.merge_spec.specs.Merge.{tagged, restored, highTid, lowTid, turns, merged}
+use Rattle.merge_spec.specs.Merge.{raised, restored, highTid, lowTid, turns, merged}
 use Rattle.merge_spec.specs.Promises.{PackedSplit, TurnsPack}
 use Rattle.merge_spec.proofs.Turns.{EachIn, each-at, each-alternate, each-passed, each-turns, All, those-map, turns-pass, passed-map, both-map, passed-both}
-use Rattle.merge_spec.proofs.Tags.{tagTransfer, tagged-back, transfer-tagged, sized-two, AllLow, high-tagged}
-use Rattle.merge_spec.proofs.Merge.{Taken, Long, sized-each, each-sized, merged-records, tagged-sized}
-use Rattle.merge_spec.proofs.Packing.{highOne, lowOne, lastOne, packedTurn, pack-by-groups, pack-first, pack-second, pack-tagged}
+use Rattle.merge_spec.proofs.Tags.{raiseTransfer, raised-back, transfer-raised, sized-two, AllLow, high-raised}
+use Rattle.merge_spec.proofs.Merge.{Taken, Long, sized-each, each-sized, merged-records, raised-sized}
+use Rattle.merge_spec.proofs.Packing.{highOne, lowOne, lastOne, packedTurn, pack-by-groups, pack-first, pack-second, pack-raised}
 
 -- ---- the transfers of the merged list
 
@@ -27,7 +27,7 @@ module _ (s : Shape) (xs ys : List ℕ) where
   firsts = transfers s xs
 
   abbrev seconds : List (Transfer Kept)
-  seconds = map (transferOf s) (map tagged (records s ys))
+  seconds = map (transferOf s) (map raised (records s ys))
 
   -- by turns, as the records are
   abbrev both : List (List (Transfer Kept))
@@ -36,7 +36,7 @@ module _ (s : Shape) (xs ys : List ℕ) where
   merged-transfers : transfers s (merged s xs ys) ≡ passed both
   merged-transfers =
       ap (map (transferOf s)) (merged-records s xs ys)
-      ∙ sym (passed-both (transferOf s) lastOne tlast (λ r. refl) (records s xs) (map tagged (records s ys)))
+      ∙ sym (passed-both (transferOf s) lastOne tlast (λ r. refl) (records s xs) (map raised (records s ys)))
 
   pub merged-packed : (v : ℕ) → packedTransfers s v (merged s xs ys) ≡ pack v (items (passed both))
   merged-packed v = ap (λ (ts : List (Transfer Kept)). pack v (items ts)) merged-transfers
@@ -46,10 +46,10 @@ all-of : (s : Shape) (b : Bool) (rs : List (List ℕ)) → All highTid b rs → 
 all-of s b [] h = tt
 all-of s b (r ∷ rs) h = (h .0, all-of s b rs (h .1))
 
-second-tagged : (s : Shape) (rs : List (List ℕ)) → Sized (size s) rs → map (transferOf s) (map tagged rs) ≡ map tagTransfer (map (transferOf s) rs)
-second-tagged s [] h = refl
-second-tagged s (r ∷ rs) h =
-    ap₂ (λ (t : Transfer Kept) (ts : List (Transfer Kept)). t ∷ ts) (transfer-tagged s r (sized-two s r (h .0))) (second-tagged s rs (h .1))
+second-raised : (s : Shape) (rs : List (List ℕ)) → Sized (size s) rs → map (transferOf s) (map raised rs) ≡ map raiseTransfer (map (transferOf s) rs)
+second-raised s [] h = refl
+second-raised s (r ∷ rs) h =
+    ap₂ (λ (t : Transfer Kept) (ts : List (Transfer Kept)). t ∷ ts) (transfer-raised s r (sized-two s r (h .0))) (second-raised s rs (h .1))
 
 -- ---- each port's share
 
@@ -59,9 +59,9 @@ packed-records s v xs =
     records-joined (atWidth s v) (map (octetsOf (s .user)) (packedTransfers s v xs))
     (octets-sized (atWidth s v) (packedTransfers s v xs) (wide-pack v (items (transfers s xs))))
 
-octets-back : (m : ℕ) (ts : List (Transfer Kept)) → map restored (map (octetsOf m) (map tagTransfer ts)) ≡ map (octetsOf m) ts
+octets-back : (m : ℕ) (ts : List (Transfer Kept)) → map restored (map (octetsOf m) (map raiseTransfer ts)) ≡ map (octetsOf m) ts
 octets-back m [] = refl
-octets-back m (t ∷ ts) = ap₂ (λ (x : List ℕ) (xs : List (List ℕ)). x ∷ xs) (tagged-back (octetsOf m t)) (octets-back m ts)
+octets-back m (t ∷ ts) = ap₂ (λ (x : List ℕ) (xs : List (List ℕ)). x ∷ xs) (raised-back (octetsOf m t)) (octets-back m ts)
 
 module _ (s : Shape) (v : ℕ) (xs ys : List ℕ) (low : AllLow (records s xs)) where
   abbrev m : ℕ
@@ -74,16 +74,16 @@ module _ (s : Shape) (v : ℕ) (xs ys : List ℕ) (low : AllLow (records s xs)) 
   lows = all-of s false (records s xs) low
 
   highs : All highOne true (seconds s xs ys)
-  highs = all-of s true (map tagged (records s ys)) (high-tagged s (records s ys) (records-sized s ys))
+  highs = all-of s true (map raised (records s ys)) (high-raised s (records s ys) (records-sized s ys))
 
   first-share : those lowOne whole ≡ packedTransfers s v xs
   first-share = ap (those lowOne) (merged-packed s xs ys v) ∙ pack-first v (firsts s xs ys) (seconds s xs ys) lows highs
 
-  second-share : those highOne whole ≡ map tagTransfer (packedTransfers s v ys)
+  second-share : those highOne whole ≡ map raiseTransfer (packedTransfers s v ys)
   second-share =
       ap (those highOne) (merged-packed s xs ys v) ∙ pack-second v (firsts s xs ys) (seconds s xs ys) lows highs
-      ∙ ap (λ (ts : List (Transfer Kept)). pack v (items ts)) (second-tagged s (records s ys) (records-sized s ys))
-      ∙ pack-tagged v (transfers s ys)
+      ∙ ap (λ (ts : List (Transfer Kept)). pack v (items ts)) (second-raised s (records s ys) (records-sized s ys))
+      ∙ pack-raised v (transfers s ys)
 
   pub packed-split : PackedSplit s v xs ys
   packed-split =
@@ -143,33 +143,33 @@ list-short s rs n z h =
 module _ (s : Shape) (v : ℕ) (xs ys : List ℕ) (t : Taken s xs) (u : Taken s ys) where
   long-turns : EachIn (EachIn (Long s)) (turns s xs ys)
   long-turns =
-      each-alternate (EachIn (Long s)) (turnsOf tlast (records s xs)) (turnsOf tlast (map tagged (records s ys)))
+      each-alternate (EachIn (Long s)) (turnsOf tlast (records s xs)) (turnsOf tlast (map raised (records s ys)))
       (each-turns (Long s) tlast (records s xs) (sized-each s (records s xs) (records-sized s xs)))
-      (each-turns (Long s) tlast (map tagged (records s ys)) (sized-each s (map tagged (records s ys)) (tagged-sized s xs ys)))
+      (each-turns (Long s) tlast (map raised (records s ys)) (sized-each s (map raised (records s ys)) (raised-sized s xs ys)))
 
   -- the records of a list, and their number
   first-few : length (records s xs) * size s ≤ captureMost
   first-few = rw (length-pieces (size s) (recordCount s xs) xs, ← whole-count s xs (t .passed .whole)) (t .passed .short)
 
-  second-few : length (map tagged (records s ys)) * size s ≤ captureMost
+  second-few : length (map raised (records s ys)) * size s ≤ captureMost
   second-few =
-      rw (length-map (records s ys) tagged, length-pieces (size s) (recordCount s ys) ys, ← whole-count s ys (u .passed .whole)) (u .passed .short)
+      rw (length-map (records s ys) raised, length-pieces (size s) (recordCount s ys) ys, ← whole-count s ys (u .passed .whole)) (u .passed .short)
 
   pub turns-pack : TurnsPack s v xs ys
   turns-pack =
       record {
         short = λ k.
             each-at (λ (t : List (List ℕ)). length (joined t) ≤ captureMost) [] (omega arith) (turns s xs ys)
-            (each-alternate (λ (t : List (List ℕ)). length (joined t) ≤ captureMost) (turnsOf tlast (records s xs)) (turnsOf tlast (map tagged (records s ys)))
+            (each-alternate (λ (t : List (List ℕ)). length (joined t) ≤ captureMost) (turnsOf tlast (records s xs)) (turnsOf tlast (map raised (records s ys)))
             (list-short s (records s xs) captureMost (records-sized s xs) first-few)
-            (list-short s (map tagged (records s ys)) captureMost (tagged-sized s xs ys) second-few))
+            (list-short s (map raised (records s ys)) captureMost (raised-sized s xs ys) second-few))
             k;
         same = λ gs e.
             ap (octets (s .user))
             (merged-packed s xs ys v
             ∙ pack-by-groups v (firsts s xs ys) (seconds s xs ys) (lows s v xs ys (t .low)) (highs s v xs ys (t .low)) (map (map (map (transferOf s))) gs)
             (passed-map (map (transferOf s)) gs ∙ ap (map (map (transferOf s))) e
-            ∙ sym (both-map (transferOf s) lastOne tlast (λ r. refl) (records s xs) (map tagged (records s ys)))))
+            ∙ sym (both-map (transferOf s) lastOne tlast (λ r. refl) (records s xs) (map raised (records s ys)))))
             ∙ octets-turns (s .user) (map (λ g. packedTurn v (passed g)) (map (map (map (transferOf s))) gs))
             ∙ groups-apart s v gs (rw e long-turns);
       }

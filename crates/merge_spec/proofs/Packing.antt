@@ -17,14 +17,14 @@ use Rattle.stream_spec.proofs.Cut.{last-append}
 use Rattle.stream_spec.proofs.Pack.{map-append, items-append, pack-parted}
 use Rattle.stream_spec.proofs.Each.{EachLane, EachTransfer, EachItem, each-items, each-pack}
 use Rattle.merge_spec.specs.Turns.{turnsOf, alternate, passed, those}
-use Rattle.merge_spec.specs.Merge.{tagAdded}
+use Rattle.merge_spec.specs.Merge.{tidAdded}
 use Rattle.merge_spec.proofs.Turns.{EachIn, EachTurn, each-passed, All, AllTurns, all-twice, those-first, those-second, Ends, Ended, alternate-nil, alternate-map, passed-append, turns-pass, turns-end, all-turns}
-use Rattle.merge_spec.proofs.Tags.{tagTransfer}
+use Rattle.merge_spec.proofs.Tags.{raiseTransfer}
 
 -- ---- whose a transfer is
 
 abbrev pub highPair : Pair → Bool
-highPair p = leb tagAdded (p .tid)
+highPair p = leb tidAdded (p .tid)
 
 abbrev pub highOne : Transfer Kept → Bool
 highOne t = highPair (t .pair)
@@ -44,8 +44,8 @@ Any k = Unit {0}
 
 -- pairs of two ports differ
 pairs-differ : (port : Bool) (p q : Pair) → Of port p → Of (not port) q → samePair p q ≡ false
-pairs-differ true p q h k = rw (ne-eqb (p .tid) (q .tid) (λ e. absurd (omega (arith, leb-true tagAdded (p .tid) h, leb-false tagAdded (q .tid) k)))) refl
-pairs-differ false p q h k = rw (ne-eqb (p .tid) (q .tid) (λ e. absurd (omega (arith, leb-false tagAdded (p .tid) h, leb-true tagAdded (q .tid) k)))) refl
+pairs-differ true p q h k = rw (ne-eqb (p .tid) (q .tid) (λ e. absurd (omega (arith, leb-true tidAdded (p .tid) h, leb-false tidAdded (q .tid) k)))) refl
+pairs-differ false p q h k = rw (ne-eqb (p .tid) (q .tid) (λ e. absurd (omega (arith, leb-false tidAdded (p .tid) h, leb-true tidAdded (q .tid) k)))) refl
 
 -- ---- a turn and what follows it are packed apart
 
@@ -243,62 +243,62 @@ module _ (v : ℕ) (ts us : List (Transfer Kept)) (low : All highOne false ts) (
 
 -- ---- another TID changes nothing else in the packed form
 
-abbrev tagPair : Pair → Pair
-tagPair p = record { tid = p .tid + tagAdded; tdest = p .tdest }
+abbrev raisePair : Pair → Pair
+raisePair p = record { tid = p .tid + tidAdded; tdest = p .tdest }
 
-abbrev tagItem : Item Kept → Item Kept
-tagItem (byte p a) = byte (tagPair p) a
-tagItem (end p) = end (tagPair p)
+abbrev raiseItem : Item Kept → Item Kept
+raiseItem (byte p a) = byte (raisePair p) a
+raiseItem (end p) = end (raisePair p)
 
-abbrev tagStretch : Stretch Kept → Stretch Kept
-tagStretch s = record { pair = tagPair (s .pair); bytes = s .bytes; ended = s .ended }
+abbrev raiseStretch : Stretch Kept → Stretch Kept
+raiseStretch s = record { pair = raisePair (s .pair); bytes = s .bytes; ended = s .ended }
 
-items-tagged : (ts : List (Transfer Kept)) → items (map tagTransfer ts) ≡ map tagItem (items ts)
-items-tagged [] = refl
-items-tagged (t ∷ ts) =
-    ap₂ (λ (a b : List (Item Kept)). a ++ b) (one (t .pair) (kept (t .lanes)) (t .last)) (items-tagged ts)
-    ∙ sym (map-append tagItem (transferItems t) (items ts))
+items-raised : (ts : List (Transfer Kept)) → items (map raiseTransfer ts) ≡ map raiseItem (items ts)
+items-raised [] = refl
+items-raised (t ∷ ts) =
+    ap₂ (λ (a b : List (Item Kept)). a ++ b) (one (t .pair) (kept (t .lanes)) (t .last)) (items-raised ts)
+    ∙ sym (map-append raiseItem (transferItems t) (items ts))
   where
-    one : (p : Pair) (bs : List Kept) (last : Bool) → itemsOf (tagPair p) bs last ≡ map tagItem (itemsOf p bs last)
+    one : (p : Pair) (bs : List Kept) (last : Bool) → itemsOf (raisePair p) bs last ≡ map raiseItem (itemsOf p bs last)
     one p [] true = refl
     one p [] false = refl
-    one p (b ∷ bs) last = ap {B = List (Item Kept)} (λ l. byte (tagPair p) b ∷ l) (one p bs last)
+    one p (b ∷ bs) last = ap {B = List (Item Kept)} (λ l. byte (raisePair p) b ∷ l) (one p bs last)
 
-same-tagged : (p q : Pair) → samePair (tagPair p) (tagPair q) ≡ samePair p q
-same-tagged p q = ap (λ (b : Bool). b && eqb (p .tdest) (q .tdest)) (go (eqb (p .tid) (q .tid)) refl)
+same-raised : (p q : Pair) → samePair (raisePair p) (raisePair q) ≡ samePair p q
+same-raised p q = ap (λ (b : Bool). b && eqb (p .tdest) (q .tdest)) (go (eqb (p .tid) (q .tid)) refl)
   where
-    go : (b : Bool) → eqb (p .tid) (q .tid) ≡ b → eqb (p .tid + tagAdded) (q .tid + tagAdded) ≡ eqb (p .tid) (q .tid)
-    go true e = eq-eqb (p .tid + tagAdded) (q .tid + tagAdded) (omega (arith, eqb-true (p .tid) (q .tid) e)) ∙ sym e
+    go : (b : Bool) → eqb (p .tid) (q .tid) ≡ b → eqb (p .tid + tidAdded) (q .tid + tidAdded) ≡ eqb (p .tid) (q .tid)
+    go true e = eq-eqb (p .tid + tidAdded) (q .tid + tidAdded) (omega (arith, eqb-true (p .tid) (q .tid) e)) ∙ sym e
     go false e =
-        ne-eqb (p .tid + tagAdded) (q .tid + tagAdded) (λ f. absurd (eqb-false (p .tid) (q .tid) e (omega arith))) ∙ sym e
+        ne-eqb (p .tid + tidAdded) (q .tid + tidAdded) (λ f. absurd (eqb-false (p .tid) (q .tid) e (omega arith))) ∙ sym e
 
-attach-tagged : (i : Item Kept) (ss : List (Stretch Kept)) → attach (tagItem i) (map tagStretch ss) ≡ map tagStretch (attach i ss)
-attach-tagged (end p) ss = refl
-attach-tagged (byte p a) [] = refl
-attach-tagged (byte p a) (s ∷ ss) = go (samePair p (s .pair)) refl
+attach-raised : (i : Item Kept) (ss : List (Stretch Kept)) → attach (raiseItem i) (map raiseStretch ss) ≡ map raiseStretch (attach i ss)
+attach-raised (end p) ss = refl
+attach-raised (byte p a) [] = refl
+attach-raised (byte p a) (s ∷ ss) = go (samePair p (s .pair)) refl
   where
     go : (b : Bool) → samePair p (s .pair) ≡ b
-        → attach (byte (tagPair p) a) (tagStretch s ∷ map tagStretch ss) ≡ map tagStretch (attach (byte p a) (s ∷ ss))
-    go true e = rw (same-tagged p (s .pair), e) refl
-    go false e = rw (same-tagged p (s .pair), e) refl
+        → attach (byte (raisePair p) a) (raiseStretch s ∷ map raiseStretch ss) ≡ map raiseStretch (attach (byte p a) (s ∷ ss))
+    go true e = rw (same-raised p (s .pair), e) refl
+    go false e = rw (same-raised p (s .pair), e) refl
 
-cut-tagged : (is : List (Item Kept)) → cut (map tagItem is) ≡ map tagStretch (cut is)
-cut-tagged [] = refl
-cut-tagged (i ∷ is) = ap (attach (tagItem i)) (cut-tagged is) ∙ attach-tagged i (cut is)
+cut-raised : (is : List (Item Kept)) → cut (map raiseItem is) ≡ map raiseStretch (cut is)
+cut-raised [] = refl
+cut-raised (i ∷ is) = ap (attach (raiseItem i)) (cut-raised is) ∙ attach-raised i (cut is)
 
-spread-tagged : (k v : ℕ) (p : Pair) (ls : List (Option Kept)) (last : Bool)
-    → spread k v (tagPair p) ls last ≡ map tagTransfer (spread k v p ls last)
-spread-tagged zero v p ls last = refl
-spread-tagged (suc k) v p ls last =
-    ap {B = List (Transfer Kept)} (λ l. record { pair = tagPair p; lanes = fitted v ls; last = false } ∷ l) (spread-tagged k v p (drop v ls) last)
+spread-raised : (k v : ℕ) (p : Pair) (ls : List (Option Kept)) (last : Bool)
+    → spread k v (raisePair p) ls last ≡ map raiseTransfer (spread k v p ls last)
+spread-raised zero v p ls last = refl
+spread-raised (suc k) v p ls last =
+    ap {B = List (Transfer Kept)} (λ l. record { pair = raisePair p; lanes = fitted v ls; last = false } ∷ l) (spread-raised k v p (drop v ls) last)
 
-stretches-tagged : (v : ℕ) (ss : List (Stretch Kept)) → packStretches v (map tagStretch ss) ≡ map tagTransfer (packStretches v ss)
-stretches-tagged v [] = refl
-stretches-tagged v (s ∷ ss) =
+stretches-raised : (v : ℕ) (ss : List (Stretch Kept)) → packStretches v (map raiseStretch ss) ≡ map raiseTransfer (packStretches v ss)
+stretches-raised v [] = refl
+stretches-raised v (s ∷ ss) =
     ap₂ (λ (a b : List (Transfer Kept)). a ++ b)
-    (spread-tagged ((length (s .bytes) - 1) / v) v (s .pair) (map some (s .bytes)) (s .ended)) (stretches-tagged v ss)
-    ∙ sym (map-append tagTransfer (packStretch v s) (packStretches v ss))
+    (spread-raised ((length (s .bytes) - 1) / v) v (s .pair) (map some (s .bytes)) (s .ended)) (stretches-raised v ss)
+    ∙ sym (map-append raiseTransfer (packStretch v s) (packStretches v ss))
 
-pub pack-tagged : (v : ℕ) (ts : List (Transfer Kept)) → pack v (items (map tagTransfer ts)) ≡ map tagTransfer (pack v (items ts))
-pack-tagged v ts =
-    ap (pack v) (items-tagged ts) ∙ ap (packStretches v) (cut-tagged (items ts)) ∙ stretches-tagged v (cut (items ts))
+pub pack-raised : (v : ℕ) (ts : List (Transfer Kept)) → pack v (items (map raiseTransfer ts)) ≡ map raiseTransfer (pack v (items ts))
+pack-raised v ts =
+    ap (pack v) (items-raised ts) ∙ ap (packStretches v) (cut-raised (items ts)) ∙ stretches-raised v (cut (items ts))

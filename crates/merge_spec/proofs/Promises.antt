@@ -14,13 +14,14 @@ use Rattle.stream_spec.proofs.Demand3.{calls, parts}
 use Rattle.merge_spec.specs.declared.Merged.the-variants.{Records}
 use Rattle.merge_spec.specs.Merge.{mergedRecords, merged}
 use Rattle.merge_spec.specs.Answers.{mergeRefusal, mergeAnswer, mergeAfter}
-use Rattle.merge_spec.specs.Promises.{Mergeable, NothingRefused, TagsExactly, Writes, MergeWrites, Shares, TakesTurns, MergedOnly, FairTurns, MergedLegal, MergedCalls, MergedParts, PackedShares, PackedTurns}
+use Rattle.merge_spec.specs.Promises.{Mergeable, NothingRefused, RefusedInOrder, TagsExactly, MemoryKept, MergeWrites, Shares, TakesTurns, MergedOnly, FairTurns, MergedLegal, MergedCalls, MergedParts, PackedShares, PackedTurns}
 use Rattle.merge_spec.proofs.Refusals.{Accepts, accepts-of, of-accepts, answer-taken, taken-answer, answer-refused}
-use Rattle.merge_spec.proofs.Faults.{all-sound, sound-all, readable-of, take-readable, other-readable, tags-there, tags-back}
+use Rattle.merge_spec.proofs.Faults.{all-sound, sound-all, readable-of, take-readable, other-readable}
 use Rattle.merge_spec.proofs.Merge.{Taken, taken-first, taken-second, merged-count, merged-long, merged-both, shares-kept, in-turns, turns-taken, merged-only, merged-legal}
+use Rattle.merge_spec.proofs.Refused.{refused-there, refused-back, tags-there, tags-back}
 use Rattle.merge_spec.proofs.Packed.{packed-split, turns-pack}
 
--- ---- what is accepted, and what is refused with 17
+-- ---- what is accepted, and what is refused
 
 module _ (s : Shape) (xs ys : List ℕ) (room : ℕ) where
   mergeable-of : Accepts s xs ys room → Mergeable s xs ys room
@@ -49,6 +50,16 @@ nothingRefused s xs ys room = (
   λ h. taken-answer s xs ys room (of-accepts s xs ys room (of-mergeable s xs ys room h)) ∙ ap Records (merged-count s xs ys),
 )
 
+pub refusedInOrder : RefusedInOrder
+refusedInOrder s xs ys room port r = (
+  λ e. refused-there s xs ys room port r (answer-refused s xs ys room port r .0 e),
+  λ h. answer-refused s xs ys room port r .1 (refused-back s xs ys room port r h),
+)
+
+pub memoryKept : MemoryKept
+unfolding mergeAfter
+memoryKept s xs ys out port r e = rw (answer-refused s xs ys (length out) port r .0 e) refl
+
 pub tagsExactly : TagsExactly
 tagsExactly s xs ys room port k = (
   λ e. tags-there s xs ys room port k (answer-refused s xs ys room port (Tags k) .0 e),
@@ -64,8 +75,8 @@ module _ (s : Shape) (xs ys : List ℕ) (room n : ℕ) (e : mergeAnswer s xs ys 
   accepted : Accepts s xs ys room
   accepted = accepts-of s xs ys room none-refused
 
-  zeroth : Taken s xs
-  zeroth = taken-first s xs ys room accepted
+  list0 : Taken s xs
+  list0 = taken-first s xs ys room accepted
 
   other : Taken s ys
   other = taken-second s xs ys room accepted
@@ -79,7 +90,7 @@ module _ (s : Shape) (xs ys : List ℕ) (room n : ℕ) (e : mergeAnswer s xs ys 
 pub mergeWrites : MergeWrites
 unfolding mergeAfter
 mergeWrites s xs ys out n e =
-    let z = zeroth s xs ys (length out) n e in
+    let z = list0 s xs ys (length out) n e in
     let o = other s xs ys (length out) n e in
     let l = long s xs ys (length out) n e in
     record {
@@ -92,21 +103,21 @@ mergeWrites s xs ys out n e =
     }
 
 pub shares : Shares
-shares s xs ys room n e = shares-kept s xs ys (zeroth s xs ys room n e .low)
+shares s xs ys room n e = shares-kept s xs ys (list0 s xs ys room n e .low)
 
 pub takesTurns : TakesTurns
-takesTurns s xs ys room n e = in-turns s xs ys (zeroth s xs ys room n e .low)
+takesTurns s xs ys room n e = in-turns s xs ys (list0 s xs ys room n e .low)
 
 pub mergedOnly : MergedOnly
 mergedOnly = merged-only
 
 pub fairTurns : FairTurns
-fairTurns s xs ys room n e = turns-taken s xs ys (zeroth s xs ys room n e .low)
+fairTurns s xs ys room n e = turns-taken s xs ys (list0 s xs ys room n e .low)
 
 -- ---- demand 3
 
 pub mergedLegal : MergedLegal
-mergedLegal s xs ys room n o p e = merged-legal s xs ys o p (zeroth s xs ys room n e) (other s xs ys room n e)
+mergedLegal s xs ys room n o p e = merged-legal s xs ys o p (list0 s xs ys room n e) (other s xs ys room n e)
 
 pub mergedCalls : MergedCalls
 mergedCalls s xs ys room n o p e cs = calls (record { shape = s; octets = merged s xs ys }) (mergedLegal s xs ys room n o p e) cs
@@ -119,7 +130,7 @@ mergedParts s xs ys room n o p e v ps ns w a d =
 -- ---- the packed form
 
 pub packedShares : PackedShares
-packedShares s v xs ys room n e = packed-split s v xs ys (zeroth s xs ys room n e .low)
+packedShares s v xs ys room n e = packed-split s v xs ys (list0 s xs ys room n e .low)
 
 pub packedTurns : PackedTurns
-packedTurns s v xs ys room n e = turns-pack s v xs ys (zeroth s xs ys room n e) (other s xs ys room n e)
+packedTurns s v xs ys room n e = turns-pack s v xs ys (list0 s xs ys room n e) (other s xs ys room n e)

@@ -15,7 +15,7 @@ use Rattle.stream_spec.proofs.Size.{size-holds}
 use Rattle.stream_spec.proofs.Users.{users-behind}
 use Rattle.stream_spec.proofs.Records.{Sized}
 use Rattle.merge_spec.specs.Turns.{those}
-use Rattle.merge_spec.specs.Merge.{tagAdded, tid, tagged, restored, highTid, lowTid}
+use Rattle.merge_spec.specs.Merge.{tidAdded, tid, raised, restored, highTid, lowTid}
 use Rattle.merge_spec.proofs.Turns.{All}
 
 -- ---- any octet 1 instead: the other fields are read as before
@@ -37,49 +37,49 @@ reserved-kept s t (f ∷ u ∷ r) = refl
 
 -- ---- a record of port 1 as it goes out
 
-pub tagged-long : (r : List ℕ) → length (tagged r) ≡ length r
-tagged-long r = length-set r tidAt (tid r + tagAdded)
+pub raised-long : (r : List ℕ) → length (raised r) ≡ length r
+raised-long r = length-set r tidAt (tid r + tidAdded)
 
-pub tagged-last : (r : List ℕ) → tlast (tagged r) ≡ tlast r
-tagged-last [] = refl
-tagged-last (f ∷ []) = refl
-tagged-last (f ∷ t ∷ r) = refl
+pub raised-last : (r : List ℕ) → tlast (raised r) ≡ tlast r
+raised-last [] = refl
+raised-last (f ∷ []) = refl
+raised-last (f ∷ t ∷ r) = refl
 
-pub tagged-field : (s : Shape) (r : List ℕ) → fieldFault transferFlags s (tagged r) ≡ fieldFault transferFlags s r
-tagged-field s r = field-kept s (tid r + tagAdded) r
+pub raised-field : (s : Shape) (r : List ℕ) → fieldFault transferFlags s (raised r) ≡ fieldFault transferFlags s r
+raised-field s r = field-kept s (tid r + tidAdded) r
 
-pub tagged-reserved : (s : Shape) (r : List ℕ) → reservedFault s (tagged r) ≡ reservedFault s r
-tagged-reserved s r = reserved-kept s (tid r + tagAdded) r
+pub raised-reserved : (s : Shape) (r : List ℕ) → reservedFault s (raised r) ≡ reservedFault s r
+raised-reserved s r = reserved-kept s (tid r + tidAdded) r
 
-pub tagged-octets : (r : List ℕ) → tid r < tagAdded → Octets r → Octets (tagged r)
-tagged-octets [] l h = tt
-tagged-octets (f ∷ []) l h = h
-tagged-octets (f ∷ t ∷ r) l h = (h .0, (omega arith, h .1 .1))
+pub raised-octets : (r : List ℕ) → tid r < tidAdded → Octets r → Octets (raised r)
+raised-octets [] l h = tt
+raised-octets (f ∷ []) l h = h
+raised-octets (f ∷ t ∷ r) l h = (h .0, (omega arith, h .1 .1))
 
 -- the TID of a record of two octets or more, and how it comes back
-pub tagged-tid : (r : List ℕ) → 1 < length r → tid (tagged r) ≡ tid r + tagAdded
-tagged-tid [] h = absurd (omega arith)
-tagged-tid (f ∷ []) h = absurd (omega arith)
-tagged-tid (f ∷ t ∷ r) h = refl
+pub raised-tid : (r : List ℕ) → 1 < length r → tid (raised r) ≡ tid r + tidAdded
+raised-tid [] h = absurd (omega arith)
+raised-tid (f ∷ []) h = absurd (omega arith)
+raised-tid (f ∷ t ∷ r) h = refl
 
-pub tagged-back : (r : List ℕ) → restored (tagged r) ≡ r
-tagged-back [] = refl
-tagged-back (f ∷ []) = refl
-tagged-back (f ∷ t ∷ r) = let back : t + 128 - 128 ≡ t = omega arith in ap (λ (u : ℕ). f ∷ u ∷ r) back
+pub raised-back : (r : List ℕ) → restored (raised r) ≡ r
+raised-back [] = refl
+raised-back (f ∷ []) = refl
+raised-back (f ∷ t ∷ r) = let back : t + 128 - 128 ≡ t = omega arith in ap (λ (u : ℕ). f ∷ u ∷ r) back
 
 -- ---- the transfer that it stands for
 
-abbrev pub tagTransfer : Transfer Kept → Transfer Kept
-tagTransfer t =
-    record { pair = record { tid = t .pair .tid + tagAdded; tdest = t .pair .tdest }; lanes = t .lanes; last = t .last }
+abbrev pub raiseTransfer : Transfer Kept → Transfer Kept
+raiseTransfer t =
+    record { pair = record { tid = t .pair .tid + tidAdded; tdest = t .pair .tdest }; lanes = t .lanes; last = t .last }
 
-pub transfer-tagged : (s : Shape) (r : List ℕ) → 1 < length r → transferOf s (tagged r) ≡ tagTransfer (transferOf s r)
-transfer-tagged s [] h = absurd (omega arith)
-transfer-tagged s (f ∷ []) h = absurd (omega arith)
-transfer-tagged s (f ∷ t ∷ r) h = rw (user-kept s (t + 128) (f ∷ t ∷ r)) refl
+pub transfer-raised : (s : Shape) (r : List ℕ) → 1 < length r → transferOf s (raised r) ≡ raiseTransfer (transferOf s r)
+transfer-raised s [] h = absurd (omega arith)
+transfer-raised s (f ∷ []) h = absurd (omega arith)
+transfer-raised s (f ∷ t ∷ r) h = rw (user-kept s (t + 128) (f ∷ t ∷ r)) refl
 
-pub octets-tagged : (m : ℕ) (t : Transfer Kept) → octetsOf m (tagTransfer t) ≡ tagged (octetsOf m t)
-octets-tagged m t = refl
+pub octets-raised : (m : ℕ) (t : Transfer Kept) → octetsOf m (raiseTransfer t) ≡ raised (octetsOf m t)
+octets-raised m t = refl
 
 -- ---- lists of records
 
@@ -87,22 +87,22 @@ octets-tagged m t = refl
 pub sized-two : (s : Shape) (r : List ℕ) → length r ≡ size s → 1 < length r
 sized-two s r h = omega (arith, size-holds s)
 
-pub sized-tagged : (n : ℕ) (rs : List (List ℕ)) → Sized n rs → Sized n (map tagged rs)
-sized-tagged n [] h = tt
-sized-tagged n (r ∷ rs) h = (tagged-long r ∙ h .0, sized-tagged n rs (h .1))
+pub sized-raised : (n : ℕ) (rs : List (List ℕ)) → Sized n rs → Sized n (map raised rs)
+sized-raised n [] h = tt
+sized-raised n (r ∷ rs) h = (raised-long r ∙ h .0, sized-raised n rs (h .1))
 
-pub all-back : (rs : List (List ℕ)) → map restored (map tagged rs) ≡ rs
+pub all-back : (rs : List (List ℕ)) → map restored (map raised rs) ≡ rs
 all-back [] = refl
-all-back (r ∷ rs) = ap₂ (λ (x : List ℕ) (xs : List (List ℕ)). x ∷ xs) (tagged-back r) (all-back rs)
+all-back (r ∷ rs) = ap₂ (λ (x : List ℕ) (xs : List (List ℕ)). x ∷ xs) (raised-back r) (all-back rs)
 
 -- what goes out of port 0 is low, and what goes out of port 1 is high
 abbrev pub AllLow : List (List ℕ) → Type 0
 AllLow rs = All highTid false rs
 
-pub high-tagged : (s : Shape) (rs : List (List ℕ)) → Sized (size s) rs → All highTid true (map tagged rs)
-high-tagged s [] h = tt
-high-tagged s (r ∷ rs) h =
-    (le-leb tagAdded (tid (tagged r)) (rw (tagged-tid r (sized-two s r (h .0))) (omega arith)), high-tagged s rs (h .1))
+pub high-raised : (s : Shape) (rs : List (List ℕ)) → Sized (size s) rs → All highTid true (map raised rs)
+high-raised s [] h = tt
+high-raised s (r ∷ rs) h =
+    (le-leb tidAdded (tid (raised r)) (rw (raised-tid r (sized-two s r (h .0))) (omega arith)), high-raised s rs (h .1))
 
 -- the other way to say it
 pub all-not : (b : Bool) (rs : List (List ℕ)) → All highTid b rs → All lowTid (not b) rs

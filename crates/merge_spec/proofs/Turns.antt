@@ -1,12 +1,12 @@
 -- Turns over any type: all that a port has is passed on, record by record as code goes, and what holds of each turn. Assumes nothing.
 use mathlib.Core.Bool.{Bool, true, false, not, cond}
-use mathlib.Core.List.{List, [], _∷_, _++_, map, append-assoc, append-nil}
+use mathlib.Core.List.{List, [], _∷_, _++_, map, append-assoc, cons≢nil}
 use mathlib.Core.Logic.{_⊎_, inl, inr}
 use mathlib.Core.Path.{_≡_, refl, sym, ap, ap₂, _∙_}
 use Prim.Native.Nat.{ℕ, zero, suc}
 use lib.ListN.{getD}
 use Rattle.stream_spec.proofs.Pack.{map-append}
-use Rattle.merge_spec.specs.Turns.{inFront, turnsOf, alternate, passed, those, sending, line}
+use Rattle.merge_spec.specs.Turns.{intoFirst, turnsOf, alternate, passed, those, sending, goesOut}
 
 -- ---- what holds of each of a list
 
@@ -40,7 +40,7 @@ module _ {A : Type 0} (P : A → Type 0) where
   each-passed [] h = tt
   each-passed (t ∷ ts) h = each-append P t (passed ts) (h .0) (each-passed ts (h .1))
 
-  each-front : (x : A) (ts : List (List A)) → P x → EachTurn ts → EachTurn (inFront x ts)
+  each-front : (x : A) (ts : List (List A)) → P x → EachTurn ts → EachTurn (intoFirst x ts)
   each-front x [] h k = ((h, tt), tt)
   each-front x (t ∷ ts) h k = ((h, k .0), k .1)
 
@@ -79,6 +79,14 @@ module _ {A : Type 0} (is : A → Bool) where
   none-those [] h = refl
   none-those (x ∷ xs) h = rw (h .0) (none-those xs (h .1))
 
+  pub those-none : (xs : List A) → those is xs ≡ [] → All false xs
+  those-none [] e = tt
+  those-none (x ∷ xs) e = go (is x) refl (those-none xs)
+    where
+      go : (b : Bool) → is x ≡ b → (those is xs ≡ [] → All false xs) → All false (x ∷ xs)
+      go true h ih = let some : x ∷ those is xs ≡ [] = rw h at e in absurd (cons≢nil some)
+      go false h ih = (h, ih (rw h at e))
+
   all-passed : (b : Bool) (ts : List (List A)) → AllTurns b ts → All b (passed ts)
   all-passed b ts h = each-passed (λ x. is x ≡ b) ts h
 
@@ -102,7 +110,7 @@ module _ {A B : Type 0} (f : A → B) (is : B → Bool) (was : A → Bool) (same
 -- ---- what turns pass on
 
 module _ {A : Type 0} where
-  passed-front : (a : A) (ts : List (List A)) → passed (inFront a ts) ≡ a ∷ passed ts
+  passed-front : (a : A) (ts : List (List A)) → passed (intoFirst a ts) ≡ a ∷ passed ts
   passed-front a [] = refl
   passed-front a (t ∷ ts) = refl
 
@@ -161,7 +169,7 @@ module _ {A : Type 0} (last : A → Bool) where
   Ended [] = Unit {0}
   Ended (t ∷ ts) = Ends t ts × Ended ts
 
-  ended-front : (x : A) (ts : List (List A)) → last x ≡ false → Ended ts → Ended (inFront x ts)
+  ended-front : (x : A) (ts : List (List A)) → last x ≡ false → Ended ts → Ended (intoFirst x ts)
   ended-front x [] e h = (record { before = []; final = x; is = refl; unended = refl; ends = inr refl }, tt)
   ended-front x (t ∷ ts) e h = (
     record {
@@ -185,7 +193,7 @@ module _ {A : Type 0} (last : A → Bool) where
 -- ---- turns of what another list is made of
 
 module _ {A B : Type 0} (f : A → B) (last : B → Bool) (was : A → Bool) (same : (a : A) → last (f a) ≡ was a) where
-  map-front : (x : A) (ts : List (List A)) → inFront (f x) (map (map f) ts) ≡ map (map f) (inFront x ts)
+  map-front : (x : A) (ts : List (List A)) → intoFirst (f x) (map (map f) ts) ≡ map (map f) (intoFirst x ts)
   map-front x [] = refl
   map-front x (t ∷ ts) = refl
 
@@ -196,7 +204,7 @@ module _ {A B : Type 0} (f : A → B) (last : B → Bool) (was : A → Bool) (sa
       go : (b : Bool) → was x ≡ b → turnsOf last (map f xs) ≡ map (map f) (turnsOf was xs)
           → turnsOf last (map f (x ∷ xs)) ≡ map (map f) (turnsOf was (x ∷ xs))
       go true e ih = rw (same x, e) (ap {B = List (List B)} (λ l. (f x ∷ []) ∷ l) ih)
-      go false e ih = rw (same x, e) (ap (inFront (f x)) ih ∙ map-front x (turnsOf was xs))
+      go false e ih = rw (same x, e) (ap (intoFirst (f x)) ih ∙ map-front x (turnsOf was xs))
 
 pub alternate-map : {A B : Type 0} (f : List A → List B) (ts us : List (List A)) → alternate (map f ts) (map f us) ≡ map f (alternate ts us)
 alternate-map f [] us = refl
@@ -224,7 +232,7 @@ module _ {A B : Type 0} (f : A → B) (last : B → Bool) (was : A → Bool) (sa
 
 module _ {A : Type 0} (last : A → Bool) where
   -- a record in front of a turn that is not over
-  front-sent : (x : A) (ts us : List (List A)) → passed (alternate (inFront x ts) us) ≡ x ∷ passed (alternate ts us)
+  front-sent : (x : A) (ts us : List (List A)) → passed (alternate (intoFirst x ts) us) ≡ x ∷ passed (alternate ts us)
   front-sent x [] us = ap passed (alternate-swap (x ∷ []) [] us) ∙ ap (λ (l : List (List A)). x ∷ passed l) (alternate-nil us)
   front-sent x (t ∷ ts) us =
       ap passed (alternate-swap (x ∷ t) ts us) ∙ ap (λ (l : List (List A)). x ∷ passed l) (sym (alternate-swap t ts us))
@@ -239,32 +247,32 @@ module _ {A : Type 0} (last : A → Bool) where
   sent-skip : (ys : List A) → sending last [] ys ≡ sending last ys []
   sent-skip ys = ap passed (sym (alternate-nil (turnsOf last ys)))
 
-  pub line-first : (x : A) (xs ys : List A) → line last false (x ∷ xs) ys ≡ x ∷ line last (last x) xs ys
-  line-first x xs ys = go (last x) refl
+  pub goes-first : (x : A) (xs ys : List A) → goesOut last false (x ∷ xs) ys ≡ x ∷ goesOut last (last x) xs ys
+  goes-first x xs ys = go (last x) refl
     where
-      go : (b : Bool) → last x ≡ b → line last false (x ∷ xs) ys ≡ x ∷ line last b xs ys
+      go : (b : Bool) → last x ≡ b → goesOut last false (x ∷ xs) ys ≡ x ∷ goesOut last b xs ys
       go true e = sent-last x xs ys e
       go false e = sent-more x xs ys e
 
-  pub line-second : (xs : List A) (y : A) (ys : List A) → line last true xs (y ∷ ys) ≡ y ∷ line last (not (last y)) xs ys
-  line-second xs y ys = go (last y) refl
+  pub goes-second : (xs : List A) (y : A) (ys : List A) → goesOut last true xs (y ∷ ys) ≡ y ∷ goesOut last (not (last y)) xs ys
+  goes-second xs y ys = go (last y) refl
     where
-      go : (b : Bool) → last y ≡ b → line last true xs (y ∷ ys) ≡ y ∷ line last (not b) xs ys
+      go : (b : Bool) → last y ≡ b → goesOut last true xs (y ∷ ys) ≡ y ∷ goesOut last (not b) xs ys
       go true e = sent-last y ys xs e
       go false e = sent-more y ys xs e
 
   -- a port with nothing left is skipped
-  pub skip-first : (ys : List A) → line last false [] ys ≡ line last true [] ys
+  pub skip-first : (ys : List A) → goesOut last false [] ys ≡ goesOut last true [] ys
   skip-first ys = sent-skip ys
 
-  pub skip-second : (xs : List A) → line last true xs [] ≡ line last false xs []
+  pub skip-second : (xs : List A) → goesOut last true xs [] ≡ goesOut last false xs []
   skip-second xs = sent-skip xs
 
   -- and the other's list is passed on as it is
-  pub line-no-first : (b : Bool) (ys : List A) → line last b [] ys ≡ ys
-  line-no-first true ys = sym (sent-skip ys) ∙ turns-pass last ys
-  line-no-first false ys = turns-pass last ys
+  pub goes-no-first : (b : Bool) (ys : List A) → goesOut last b [] ys ≡ ys
+  goes-no-first true ys = sym (sent-skip ys) ∙ turns-pass last ys
+  goes-no-first false ys = turns-pass last ys
 
-  pub line-no-second : (b : Bool) (xs : List A) → line last b xs [] ≡ xs
-  line-no-second true xs = turns-pass last xs
-  line-no-second false xs = sym (sent-skip xs) ∙ turns-pass last xs
+  pub goes-no-second : (b : Bool) (xs : List A) → goesOut last b xs [] ≡ xs
+  goes-no-second true xs = turns-pass last xs
+  goes-no-second false xs = sym (sent-skip xs) ∙ turns-pass last xs

@@ -1,5 +1,5 @@
 -- Every promise of merging that has a premise, applied to worked lists: all its premises hold there, and what it says is what was typed by
--- hand. And the orders that the request does not allow break a promise. Assumes nothing.
+-- hand. And two orders that the request does not allow, one list after the other and record by record, break a promise. Assumes nothing.
 use mathlib.Core.Bool.{true, false}
 use mathlib.Core.List.{List, [], _∷_, _++_, map}
 use mathlib.Core.Logic.{_⊎_, _≢_}
@@ -7,7 +7,8 @@ use mathlib.Core.Path.{_≡_, refl, sym}
 use Prim.Native.Nat.{ℕ, _+_, _*_, _≤_}
 use native.Mathlib.Omega.{arith}
 use lib.ListN.{replicate, take, drop}
-use Rattle.refusal.specs.declared.Refusal.the-variants.{Tags}
+use Rattle.refusal.specs.declared.Refusal.{Refusal}
+use Rattle.refusal.specs.declared.Refusal.the-variants.{Length, Field, Room, Tags}
 use Rattle.stream_spec.specs.Layout.{tlast, size, records}
 use Rattle.stream_spec.specs.Answers.{repackAnswer, repackAfter}
 use Rattle.stream_spec.specs.Demand3.{Call, afterCalls, Part}
@@ -18,9 +19,9 @@ use Rattle.merge_spec.specs.declared.Merged.the-variants.{Records, Refus
 use Rattle.merge_spec.specs.Turns.{those}
 use Rattle.merge_spec.specs.Merge.{restored, highTid, lowTid, mergedRecords}
 use Rattle.merge_spec.specs.Answers.{mergeAnswer, mergeAfter}
-use Rattle.merge_spec.specs.Promises.{sentBy, InTurns}
+use Rattle.merge_spec.specs.Promises.{sentBy, InTurns, cutTurns}
 use Rattle.merge_spec.specs.Cases.{rec, flagged}
-use Rattle.merge_spec.proofs.Promises.{nothingRefused, tagsExactly, mergeWrites, shares, takesTurns, mergedOnly, fairTurns, mergedLegal, mergedCalls, mergedParts, packedShares, packedTurns}
+use Rattle.merge_spec.proofs.Promises.{nothingRefused, refusedInOrder, tagsExactly, memoryKept, mergeWrites, shares, takesTurns, mergedOnly, fairTurns, mergedLegal, mergedCalls, mergedParts, packedShares, packedTurns}
 
 -- ---- W01: two lists, and the merged one
 
@@ -59,9 +60,9 @@ pub written : (take 40 (mergeAfter (lanes 1) xs ys memory) ≡ linkOctets) × (d
 unfolding size
 written = let w = mergeWrites (lanes 1) xs ys memory 5 accepted in (w .result, w .behind)
 
-pub counted : (5 ≤ 3 + 2) × (5 * 8 ≤ 24 + 16)
+pub counted : (_≡_ {A = ℕ} 5 (3 + 2)) × (_≡_ {A = ℕ} (5 * 8) (24 + 16))
 unfolding size
-counted = let w = mergeWrites (lanes 1) xs ys memory 5 accepted in (omega (arith, w .count), omega (arith, w .long))
+counted = let w = mergeWrites (lanes 1) xs ys memory 5 accepted in (w .count, w .long)
 
 -- ---- shares and turns
 
@@ -116,16 +117,35 @@ not-after-each-other h = differ (h .1 .0 (some (rec 1 130 20) _))
 pub not-by-records : InTurns byRecords → ⊥
 not-by-records h = differ (sym (h .0 (some (rec 1 1 11) _)))
 
--- its first turn is port 0's two records; the last of them has TLAST, or port 0 has nothing later
-pub first-turn : (sentBy true (rec 0 1 10 ∷ rec 1 1 11 ∷ []) ≡ [])
-    × ((t : List ℕ) × ((tlast t ≡ true) ⊎ (sentBy false (rec 1 130 20 ∷ rec 0 1 12 ∷ rec 1 130 21 ∷ []) ≡ [])))
-unfolding size
-first-turn = let f = fairTurns (lanes 1) xs ys 41 5 accepted .fair .0 in (f .own, (f .final, f .ends))
+-- its first turn is port 0's two records: of those before the last none has TLAST, and the last has it, or port 0 has nothing later
+pub record FirstTurn : Type 0 where
+  pub before : List (List ℕ)
+  pub final : List ℕ
+  pub is : rec 0 1 10 ∷ rec 1 1 11 ∷ [] ≡ before ++ final ∷ []
+  pub own : sentBy true (rec 0 1 10 ∷ rec 1 1 11 ∷ []) ≡ []
+  pub unended : those tlast before ≡ []
+  pub ends : (tlast final ≡ true) ⊎ (sentBy false (rec 1 130 20 ∷ rec 0 1 12 ∷ rec 1 130 21 ∷ []) ≡ [])
 
--- W03: port 0 has two turns running at the end, and port 1 has nothing left
-pub running : sentBy true (rec 1 1 12 ∷ []) ≡ []
+pub first-turn : FirstTurn
+unfolding size
+first-turn =
+    let f = fairTurns (lanes 1) xs ys 41 5 accepted .fair .0 in
+    record { before = f .before; final = f .final; is = f .is; own = f .own; unended = f .unended; ends = f .ends }
+
+-- cut behind each TLAST and wherever the port changes, the merged list gives its turns
+pub found-again : cutTurns link ≡ (rec 0 1 10 ∷ rec 1 1 11 ∷ []) ∷ (rec 1 130 20 ∷ []) ∷ (rec 0 1 12 ∷ []) ∷ (rec 1 130 21 ∷ []) ∷ []
+unfolding size
+found-again = fairTurns (lanes 1) xs ys 41 5 accepted .found
+
+-- W04: port 1 has two turns running, and port 0 has no record from the second of them on
+pub running : sentBy false (rec 1 129 21 ∷ rec 0 129 22 ∷ []) ≡ []
 unfolding size mergeAnswer
-running = fairTurns (lanes 1) (rec 1 1 10 ++ rec 1 1 11 ++ rec 1 1 12) (rec 1 1 20) 32 4 refl .fair .2 .2 .1 refl
+running = fairTurns (lanes 1) (rec 1 1 10) (rec 1 1 20 ++ rec 1 1 21 ++ rec 0 1 22) 32 4 refl .fair .2 .1 refl
+
+-- W05: the first turn is port 1's, and port 0 has no record
+pub one-first : sentBy false (rec 0 129 20 ∷ rec 1 129 21 ∷ []) ≡ []
+unfolding size mergeAnswer
+one-first = fairTurns (lanes 1) [] (rec 0 1 20 ++ rec 1 1 21) 16 2 refl .starts refl
 
 -- ---- demand 3
 
@@ -157,10 +177,11 @@ halves =
     record { octets = rec 0 1 10 ++ (rec 1 1 11 ++ rec 1 130 20); lent = replicate {A = ℕ} 18 0xEE }
     ∷ record { octets = rec 0 1 12 ++ rec 1 130 21; lent = replicate {A = ℕ} 20 0xEE } ∷ []
 
-pub parts-join : (full 1 1 10 11 ++ half 1 130 20) ++ (half 0 1 12 ++ half 1 130 21) ≡ packedLink
+pub parts-join : ((full 1 1 10 11 ++ half 1 130 20) ++ (half 0 1 12 ++ half 1 130 21) ≡ packedLink) × (_≡_ {A = ℕ} (2 + 2) 4)
 unfolding size repackAnswer repackAfter
 parts-join =
-    mergedParts (lanes 1) xs ys 41 5 octets-xs octets-ys accepted 2 halves (2 ∷ 2 ∷ []) refl refl (dividesTested (lanes 1) halves .1 refl) .same
+    let j = mergedParts (lanes 1) xs ys 41 5 octets-xs octets-ys accepted 2 halves (2 ∷ 2 ∷ []) refl refl (dividesTested (lanes 1) halves .1 refl) in
+    (j .same, j .count)
 
 -- ---- the packed form
 
@@ -201,3 +222,26 @@ tags-one = refl
 
 pub tags-one-again : mergeAnswer (lanes 1) (rec 0 1 10) (one 0 128 0 0 0 0) 16 ≡ Refused 1 (Tags 0)
 tags-one-again = let t = tagsExactly (lanes 1) (rec 0 1 10) (one 0 128 0 0 0 0) 16 1 0 in t .1 (t .0 tags-one)
+
+-- ---- each line of the refusals' order, both ways; and the memory afterwards
+
+abbrev Again : List ℕ → List ℕ → ℕ → ℕ → Refusal → Type 0
+Again xs ys room port r = mergeAnswer (lanes 1) xs ys room ≡ Refused port r
+
+again : (xs ys : List ℕ) (room port : ℕ) (r : Refusal) → Again xs ys room port r → Again xs ys room port r
+again xs ys room port r e = let t = refusedInOrder (lanes 1) xs ys room port r in t .1 (t .0 e)
+
+pub in-order : Again (1 ∷ []) (1 ∷ []) 3 0 Length × Again (flagged 128) (1 ∷ []) 3 1 Length × Again (flagged 128) (flagged 1) 3 0 (Field 0)
+    × Again (rec 0 1 10) (flagged 128) 3 1 (Field 0) × Again (rec 0 1 10) (rec 0 1 20) 15 0 Room
+unfolding size mergeAnswer
+in-order = (
+  again (1 ∷ []) (1 ∷ []) 3 0 Length refl,
+  again (flagged 128) (1 ∷ []) 3 1 Length refl,
+  again (flagged 128) (flagged 1) 3 0 (Field 0) refl,
+  again (rec 0 1 10) (flagged 128) 3 1 (Field 0) refl,
+  again (rec 0 1 10) (rec 0 1 20) 15 0 Room refl,
+)
+
+pub kept : mergeAfter (lanes 1) (rec 0 1 10) (rec 0 1 20) (replicate {A = ℕ} 15 0xEE) ≡ replicate {A = ℕ} 15 0xEE
+unfolding size mergeAnswer
+kept = memoryKept (lanes 1) (rec 0 1 10) (rec 0 1 20) (replicate {A = ℕ} 15 0xEE) 0 Room refl

@@ -1,6 +1,7 @@
 -- Worked merges: turns, what goes out, and each refusal alone and beside its neighbours in the order. One statement covers the whole list
 -- (`every-case` of proofs/Cases). Each entry has an id (W01 and on) by which docs/PROMISES.md may cite it: a new one takes the next free id,
--- and none is given twice. All are worked by hand from the request (paper 02, T-08); in the entries only `one`, shapes and lists are definitions.
+-- and none is given twice. All are worked by hand from the request (paper 02, T-08); in the entries only records,
+-- shapes and lists are definitions.
 use mathlib.Core.List.{List, [], _∷_, _++_}
 use Prim.Native.Nat.{ℕ}
 use lib.ListN.{length, replicate}
@@ -77,7 +78,7 @@ turnCases =
     -- W09: port 0's last turn ends with its list, and then port 1 goes on, turn after turn
     ∷ writes (lanes 1) (rec 1 1 10 ++ rec 0 1 11) (rec 1 1 20 ++ rec 1 1 21 ++ rec 1 1 22) 5 40
     (rec 1 1 10 ++ rec 1 129 20 ++ rec 0 1 11 ++ rec 1 129 21 ++ rec 1 129 22)
-    -- W10: a record with TLAST and no item is a turn
+    -- W10: an all-null record with TLAST is a turn
     ∷ writes (lanes 1) (one 1 1 0 0 0 0 ++ rec 1 1 11) (one 1 2 0 0 0 0 ++ rec 1 2 21) 4 32
     (one 1 1 0 0 0 0 ++ one 1 130 0 0 0 0 ++ rec 1 1 11 ++ rec 1 130 21)
     -- W11: all-null records are passed on, with their idle data; position bytes keep theirs

@@ -1,22 +1,25 @@
 -- What is proved of merging, a statement each. Words in quotes are T-08's (paper 02). The proofs are in proofs/Promises.
-use mathlib.Core.Bool.{Bool, true, false, not, cond}
+use mathlib.Core.Bool.{Bool, Bool·beq, true, false, not, _||_, cond}
 use mathlib.Core.List.{List, [], _∷_, _++_, map}
 use mathlib.Core.Logic.{_⊎_, _↔_, _≢_}
+use mathlib.Core.Option.{none, some}
 use mathlib.Core.Path.{_≡_}
 use Prim.Native.Nat.{ℕ, _+_, _*_, _%_, _≤_, _<_}
 use lib.ListN.{length, getD, take, drop}
-use Rattle.refusal.specs.declared.Refusal.the-variants.{Tags}
+use Rattle.refusal.specs.Checks.{first}
+use Rattle.refusal.specs.declared.Refusal.{Refusal}
+use Rattle.refusal.specs.declared.Refusal.the-variants.{Room, Tags}
 use Rattle.stream_spec.specs.declared.Shape.{Shape}
 use Rattle.stream_spec.specs.Layout.{tlast, size, atWidth, records, recordCount, joined, packedTransfers, packed}
-use Rattle.stream_spec.specs.Checks.{transferFlags, fieldFault, reservedFault}
+use Rattle.stream_spec.specs.Checks.{lengthCheck, takeChecks, transferFlags, fieldFault, reservedFault}
 use Rattle.stream_spec.specs.Legal.{Octets, Legal}
 use Rattle.stream_spec.specs.Demand3.{Call, CallsKeep, Part, whole, AllAccepted, resultsJoined, sum, Divides}
 use Rattle.merge_spec.specs.declared.Merged.the-variants.{Records, Refused}
-use Rattle.merge_spec.specs.Turns.{passed, those}
+use Rattle.merge_spec.specs.Turns.{intoFirst, passed, those}
 use Rattle.merge_spec.specs.Merge.{tid, restored, highTid, lowTid, turns, mergedRecords, merged}
-use Rattle.merge_spec.specs.Answers.{mergeAnswer, mergeAfter}
+use Rattle.merge_spec.specs.Answers.{portChecks, mergeAnswer, mergeAfter}
 
--- ---- what is accepted, and what is refused with 17
+-- ---- what is accepted, and what is refused
 
 -- record k of a list
 abbrev pub recordOf : Shape → List ℕ → ℕ → List ℕ
@@ -28,17 +31,17 @@ pub record Sound (s : Shape) (r : List ℕ) : Type 0 where
   pub reserved : reservedFault s r ≡ false
   pub low : tid r < 128
 
--- the numbers of both lists are not refused: neither 1, nor 16, nor 2
+abbrev pub AllSound : Shape → List ℕ → Type 0
+AllSound s xs = (k : ℕ) → k < recordCount s xs → Sound s (recordOf s xs k)
+
+-- neither 1, nor 16, nor 2 for either list
 pub record Readable (s : Shape) (xs ys : List ℕ) : Type 0 where
   pub width : (1 ≤ s .width) × (s .width ≤ 16)
   pub user : s .user ≤ 4
   pub first : (length xs ≤ 65536) × (length xs % size s ≡ 0)
   pub second : (length ys ≤ 65536) × (length ys % size s ≡ 0)
 
-abbrev pub AllSound : Shape → List ℕ → Type 0
-AllSound s xs = (k : ℕ) → k < recordCount s xs → Sound s (recordOf s xs k)
-
--- A call is accepted exactly where both lists are sound and the output has room for both; it answers the records of both.
+-- A call is accepted exactly where both lists are sound and the output has room for both; it answers the number of records of both.
 pub record Mergeable (s : Shape) (xs ys : List ℕ) (room : ℕ) : Type 0 where
   pub readable : Readable s xs ys
   pub first : AllSound s xs
@@ -50,8 +53,23 @@ NothingRefused =
     (s : Shape) (xs ys : List ℕ) (room : ℕ)
     → (mergeAnswer s xs ys room ≡ Records (recordCount s xs + recordCount s ys)) ↔ Mergeable s xs ys room
 
--- 17: "for a TID of 128 or more in that record", with "the record in its own list", whatever else the record is; nothing before it has a
--- fault, and the record has neither 3 nor 4
+-- "1, 2 for port 0's list before port 1's, then port 0's records before port 1's with 3, 4, then 17 .., and ROOM last", each with the port
+-- that it names. A line for each: the port, what has passed before it, and what gives the refusal.
+abbrev pub RefusedBy : Shape → List ℕ → List ℕ → ℕ → ℕ → Refusal → Type 0
+RefusedBy s xs ys room port r =
+    ((port ≡ 0) × (first (takeChecks s xs) ≡ some r))
+    ⊎ ((port ≡ 1) × (first (takeChecks s xs) ≡ none) × (first (lengthCheck s ys ∷ []) ≡ some r))
+    ⊎ ((port ≡ 0) × Readable s xs ys × (first (portChecks s xs) ≡ some r))
+    ⊎ ((port ≡ 1) × Readable s xs ys × AllSound s xs × (first (portChecks s ys) ≡ some r))
+    ⊎ ((port ≡ 0) × Readable s xs ys × AllSound s xs × AllSound s ys × (room < length xs + length ys) × (r ≡ Room))
+
+abbrev pub RefusedInOrder : Type 0
+RefusedInOrder =
+    (s : Shape) (xs ys : List ℕ) (room port : ℕ) (r : Refusal)
+    → (mergeAnswer s xs ys room ≡ Refused port r) ↔ RefusedBy s xs ys room port r
+
+-- 17: "for a TID of 128 or more in that record", with items or without, and "the record in its own list"; it has neither 3 nor 4, and
+-- nothing before it has a fault
 pub record HighAt (s : Shape) (xs : List ℕ) (k : ℕ) : Type 0 where
   pub within : k < recordCount s xs
   pub field : fieldFault transferFlags s (recordOf s xs k) ≡ false
@@ -59,7 +77,6 @@ pub record HighAt (s : Shape) (xs : List ℕ) (k : ℕ) : Type 0 where
   pub high : 128 ≤ tid (recordOf s xs k)
   pub earlier : (j : ℕ) → j < k → Sound s (recordOf s xs j)
 
--- "port 0's records before port 1's"
 abbrev pub HighBy : Shape → List ℕ → List ℕ → ℕ → ℕ → Type 0
 HighBy s xs ys port k = ((port ≡ 0) × HighAt s xs k) ⊎ ((port ≡ 1) × AllSound s xs × HighAt s ys k)
 
@@ -68,18 +85,24 @@ TagsExactly =
     (s : Shape) (xs ys : List ℕ) (room port k : ℕ)
     → (mergeAnswer s xs ys room ≡ Refused port (Tags k)) ↔ (Readable s xs ys × HighBy s xs ys port k)
 
+-- "A refused call changes no octet of lent memory" (demand 1).
+abbrev pub MemoryKept : Type 0
+MemoryKept =
+    (s : Shape) (xs ys out : List ℕ) (port : ℕ) (r : Refusal) → mergeAnswer s xs ys (length out) ≡ Refused port r
+    → mergeAfter s xs ys out ≡ out
+
 -- ---- what is written
 
 -- An accepted call answers the number of records of both lists. So many records stand at the front of the lent memory, the merged list, and
 -- the memory behind them is as it was.
-pub record Writes (s : Shape) (xs ys out : List ℕ) (n : ℕ) : Type 0 where
+pub record BothWritten (s : Shape) (xs ys out : List ℕ) (n : ℕ) : Type 0 where
   pub count : n ≡ recordCount s xs + recordCount s ys
   pub long : n * size s ≡ length xs + length ys
   pub result : take (n * size s) (mergeAfter s xs ys out) ≡ merged s xs ys
   pub behind : drop (n * size s) (mergeAfter s xs ys out) ≡ drop (n * size s) out
 
 abbrev pub MergeWrites : Type 0
-MergeWrites = (s : Shape) (xs ys out : List ℕ) (n : ℕ) → mergeAnswer s xs ys (length out) ≡ Records n → Writes s xs ys out n
+MergeWrites = (s : Shape) (xs ys out : List ℕ) (n : ℕ) → mergeAnswer s xs ys (length out) ≡ Records n → BothWritten s xs ys out n
 
 -- "Each port's records, its TIDs restored, are its share of the merged list in order": every octet of every record
 pub record SharesKept (s : Shape) (xs ys : List ℕ) : Type 0 where
@@ -146,10 +169,23 @@ abbrev pub Fair : List (List (List ℕ)) → Type 0
 Fair [] = Unit {0}
 Fair (t ∷ ts) = IsTurn (portOf t) t (passed ts) × GoesOver (portOf t) ts × Fair ts
 
--- the turns of the merged list, one after the other
+-- whether a turn is over behind a record, seen in a merged list alone: at TLAST, and where the next record is the other port's
+abbrev pub isOver : List ℕ → List (List ℕ) → Bool
+isOver r [] = tlast r
+isOver r (q ∷ rs) = tlast r || not (Bool·beq (highTid r) (highTid q))
+
+-- a merged list cut there
+abbrev pub cutTurns : List (List ℕ) → List (List (List ℕ))
+cutTurns [] = []
+cutTurns (r ∷ rs) = cond (isOver r rs) ((r ∷ []) ∷ cutTurns rs) (intoFirst r (cutTurns rs))
+
+-- the turns of the merged list, one after the other: port 0 has the first one, unless it has no record, and so on; and whoever holds the
+-- merged list alone finds them again
 pub record TurnsTaken (s : Shape) (xs ys : List ℕ) : Type 0 where
+  pub starts : GoesOver true (turns s xs ys)
   pub fair : Fair (turns s xs ys)
   pub all : passed (turns s xs ys) ≡ records s (merged s xs ys)
+  pub found : cutTurns (records s (merged s xs ys)) ≡ turns s xs ys
 
 abbrev pub FairTurns : Type 0
 FairTurns = (s : Shape) (xs ys : List ℕ) (room n : ℕ) → mergeAnswer s xs ys room ≡ Records n → TurnsTaken s xs ys

@@ -37,8 +37,8 @@ module _ (s : Shape) (xs ys out : List ℕ) (fits : ListsFit s xs ys out) (z : �
       → Merging z xs ys out out (record { port1 = p; at0 = 0; at1 = 0 }) 0
   lists-start p e =
       rw q
-      (merging-start (size s) xs ys out p e (fits .zeroth .whole) (fits .oneth .whole) (faultless-low s 0 (records s ys) (fits .sound) .1)
-      (omega (arith, merged-both s xs ys (fits .zeroth .whole) (fits .oneth .whole), fits .room)))
+      (merging-start (size s) xs ys out p e (fits .list0 .whole) (fits .list1 .whole) (faultless-low s 0 (records s ys) (fits .sound) .1)
+      (omega (arith, merged-both s xs ys (fits .list0 .whole) (fits .list1 .whole), fits .room)))
 
   pub lists-end : (after : List ℕ) (t : Turn) (to : ℕ) → Merging z xs ys out after t to → length xs + length ys ≤ to
       → after ≡ inFront (merged s xs ys) out
@@ -95,7 +95,7 @@ module _ (s : Shape) (xs ys before : List ℕ) where
               ∙ rw (lt-ltb (length before) (length (merged s xs ys)) (omega (arith, both-long))) refl)
 
           pub lists-fit : length xs + length ys ≤ length before → ListsFit s xs ys before
-          lists-fit h = record { zeroth = first-passed; oneth = second-passed; sound = seconds; room = h }
+          lists-fit h = record { list0 = first-passed; list1 = second-passed; sound = seconds; room = h }
 
           pub all-written : length xs + length ys ≤ length before → (z : ℕ) → z ≡ size s → (after : List ℕ) → after ≡ inFront (merged s xs ys) before
               → PortsMerged s xs ys before after (Records ((length xs + length ys) / z))

@@ -9,7 +9,7 @@ use lib.Seq.{take-all, take-add, take-take, length-take-le, set-append-left}
 use Rattle.words.specs.Splice.{splice}
 use Rattle.words.proofs.Splice.{splice-long, splice-over}
 use Rattle.stream_spec.specs.Memory.{inFront}
-use Rattle.merge_spec.specs.Merge.{tagAdded, tid, tagged}
+use Rattle.merge_spec.specs.Merge.{tidAdded, tid, raised}
 
 -- the first j octets of the record stand in the output
 abbrev pub copied : List ℕ → List ℕ → ℕ → List ℕ
@@ -38,7 +38,7 @@ module _ (rec out : List ℕ) (room : length rec ≤ length out) where
       ∙ ap (λ (k : ℕ). rec ++ drop k out) (let z : 0 + length rec ≡ length rec = omega arith in z)
 
 -- the TID of the copy
-pub copied-tag : (rec out : List ℕ) → 1 < length rec → set (inFront rec out) 1 (getD rec 1 0 + 128) ≡ inFront (tagged rec) out
+pub copied-tag : (rec out : List ℕ) → 1 < length rec → set (inFront rec out) 1 (getD rec 1 0 + 128) ≡ inFront (raised rec) out
 copied-tag rec out h =
     set-append-left rec (drop (length rec) out) 1 (getD rec 1 0 + 128) h
-    ∙ ap (λ (k : ℕ). tagged rec ++ drop k out) (sym (length-set rec 1 (getD rec 1 0 + 128)))
+    ∙ ap (λ (k : ℕ). raised rec ++ drop k out) (sym (length-set rec 1 (getD rec 1 0 + 128)))

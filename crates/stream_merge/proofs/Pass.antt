@@ -14,21 +14,21 @@ use Rattle.stream_spec.specs.Memory.{inFront, Writing}
 use Rattle.stream_spec.specs.Walk.{LeftBy, recordAt}
 use Rattle.stream_spec.proofs.Memory.{writing-start, writing-as, writing-end, piece-room, lent-long, part-writes}
 use Rattle.stream_spec.proofs.Walk.{piece-fits, piece-long, left-behind, pieces-next, no-pieces}
-use Rattle.merge_spec.specs.Turns.{line}
-use Rattle.merge_spec.specs.Merge.{tagAdded, tid, tagged, highTid}
-use Rattle.merge_spec.proofs.Turns.{All, line-first, line-second, skip-first, skip-second, line-no-first}
-use Rattle.merge_spec.proofs.Tags.{tagged-long, tagged-last}
+use Rattle.merge_spec.specs.Turns.{goesOut}
+use Rattle.merge_spec.specs.Merge.{tidAdded, tid, raised, highTid}
+use Rattle.merge_spec.proofs.Turns.{All, goes-first, goes-second, skip-first, skip-second, goes-no-first}
+use Rattle.merge_spec.proofs.Tags.{raised-long, raised-last}
 use Rattle.stream_merge.specs.declared.Turn.{Turn}
 use Rattle.stream_merge.specs.Merging.{sentAs, Picks, pickedFrom, whoseTurn, turnBehind, Ready, Passes, leftOf}
 
 pub sent-long : (port1 : Bool) (r : List ℕ) → length (sentAs port1 r) ≡ length r
-sent-long true r = tagged-long r
+sent-long true r = raised-long r
 sent-long false r = refl
 
 -- ---- one record, as the code passes it on
 
 module _ (z : ℕ) (xs ys : List ℕ) (t : Turn) (out : List ℕ) (to : ℕ) (ready : Ready z xs ys t out to) where
-  pub ready-long : length (pickedFrom z xs ys t) ≡ z
+  ready-long : length (pickedFrom z xs ys t) ≡ z
   ready-long = go (t .port1) refl
     where
       part : (l : List ℕ) (at : ℕ) → at + z ≤ length l → length (recordAt l at z) ≡ z
@@ -37,8 +37,11 @@ module _ (z : ℕ) (xs ys : List ℕ) (t : Turn) (out : List ℕ) (to : ℕ) (re
           rw n (length-take-le z (drop at l) (omega (arith, length-drop at l)))
 
       go : (b : Bool) → t .port1 ≡ b → length (pickedFrom z xs ys t) ≡ z
-      go true e = rw e (part ys (t .at1) (ready .picks .oneth e))
-      go false e = rw e (part xs (t .at0) (ready .picks .zeroth e))
+      go true e = rw e (part ys (t .at1) (ready .picks .list1 e))
+      go false e = rw e (part xs (t .at0) (ready .picks .list0 e))
+
+  pub picked-size : (rec : List ℕ) → rec ≡ pickedFrom z xs ys t → length rec ≡ z
+  picked-size rec e = rw e ready-long
 
   -- it stands at its place in what the output comes back as
   module _ (rec : List ℕ) (is : rec ≡ pickedFrom z xs ys t) (part : List ℕ)
@@ -68,44 +71,44 @@ module _ (z : ℕ) (xs ys : List ℕ) (t : Turn) (out : List ℕ) (to : ℕ) (re
 
 -- a port with nothing left is skipped
 module _ (z : ℕ) (xs ys : List ℕ) (at0 at1 : ℕ) where
-  abbrev zeroth : List (List ℕ)
-  zeroth = piecesOf z (drop at0 xs)
+  abbrev list0 : List (List ℕ)
+  list0 = piecesOf z (drop at0 xs)
 
-  abbrev oneth : List (List ℕ)
-  oneth = map tagged (piecesOf z (drop at1 ys))
+  abbrev list1 : List (List ℕ)
+  list1 = map raised (piecesOf z (drop at1 ys))
 
   abbrev turn : Bool → Bool
   turn wanted = whoseTurn wanted (ltb at0 (length xs)) (ltb at1 (length ys))
 
-  pub skipped : (wanted : Bool) → line tlast (turn wanted) zeroth oneth ≡ line tlast wanted zeroth oneth
+  pub skipped : (wanted : Bool) → goesOut tlast (turn wanted) list0 list1 ≡ goesOut tlast wanted list0 list1
   skipped true = go (ltb at1 (length ys)) refl
     where
-      go : (b : Bool) → ltb at1 (length ys) ≡ b → line tlast b zeroth oneth ≡ line tlast true zeroth oneth
+      go : (b : Bool) → ltb at1 (length ys) ≡ b → goesOut tlast b list0 list1 ≡ goesOut tlast true list0 list1
       go true e = refl
       go false e =
-          let none : oneth ≡ [] = ap (map tagged) (no-pieces ys at1 (ltb-false at1 (length ys) e) z) in
-          rw none (sym (skip-second tlast zeroth))
+          let none : list1 ≡ [] = ap (map raised) (no-pieces ys at1 (ltb-false at1 (length ys) e) z) in
+          rw none (sym (skip-second tlast list0))
   skipped false = go (ltb at0 (length xs)) refl
     where
-      go : (b : Bool) → ltb at0 (length xs) ≡ b → line tlast (not b) zeroth oneth ≡ line tlast false zeroth oneth
+      go : (b : Bool) → ltb at0 (length xs) ≡ b → goesOut tlast (not b) list0 list1 ≡ goesOut tlast false list0 list1
       go true e = refl
       go false e =
-          let none : zeroth ≡ [] = no-pieces xs at0 (ltb-false at0 (length xs) e) z in
-          rw none (sym (skip-first tlast oneth))
+          let none : list0 ≡ [] = no-pieces xs at0 (ltb-false at0 (length xs) e) z in
+          rw none (sym (skip-first tlast list1))
 
   -- while something is left, the port that has the turn has something
   module _ (some : at0 + at1 < length xs + length ys) (h : at0 ≤ length xs) (k : at1 ≤ length ys) where
-    pub has-zeroth : (wanted : Bool) → turn wanted ≡ false → at0 < length xs
-    has-zeroth true e = omega (arith, ltb-false at1 (length ys) e)
-    has-zeroth false e = go (ltb at0 (length xs)) refl e
+    pub has-list0 : (wanted : Bool) → turn wanted ≡ false → at0 < length xs
+    has-list0 true e = omega (arith, ltb-false at1 (length ys) e)
+    has-list0 false e = go (ltb at0 (length xs)) refl e
       where
         go : (b : Bool) → ltb at0 (length xs) ≡ b → not b ≡ false → at0 < length xs
         go true f e = ltb-true at0 (length xs) f
         go false f e = let u : _≡_ {A = ℕ} 0 1 = cc in absurd (omega arith)
 
-    pub has-oneth : (wanted : Bool) → turn wanted ≡ true → at1 < length ys
-    has-oneth true e = ltb-true at1 (length ys) e
-    has-oneth false e = go (ltb at0 (length xs)) refl e
+    pub has-list1 : (wanted : Bool) → turn wanted ≡ true → at1 < length ys
+    has-list1 true e = ltb-true at1 (length ys) e
+    has-list1 false e = go (ltb at0 (length xs)) refl e
       where
         go : (b : Bool) → ltb at0 (length xs) ≡ b → not b ≡ true → at1 < length ys
         go true f e = let u : _≡_ {A = ℕ} 0 1 = cc in absurd (omega arith)
@@ -115,14 +118,14 @@ module _ (z : ℕ) (xs ys : List ℕ) (at0 at1 : ℕ) where
 
 -- all that is to be written
 abbrev pub wholeOf : ℕ → List ℕ → List ℕ → List ℕ
-wholeOf z xs ys = joined (line tlast false (piecesOf z xs) (map tagged (piecesOf z ys)))
+wholeOf z xs ys = joined (goesOut tlast false (piecesOf z xs) (map raised (piecesOf z ys)))
 
 -- where the lists stand: a record of z octets begins, or a list is at its end, and the turn is the one that was wanted, or the other's
 pub record Stands (z : ℕ) (xs ys : List ℕ) (t : Turn) (to : ℕ) : Type 0 where
   pub wanted : Bool
   pub is : t .port1 ≡ turn z xs ys (t .at0) (t .at1) wanted
-  pub zeroth : LeftBy z xs (t .at0)
-  pub oneth : LeftBy z ys (t .at1)
+  pub list0 : LeftBy z xs (t .at0)
+  pub list1 : LeftBy z ys (t .at1)
   pub low : All highTid false (piecesOf z (drop (t .at1) ys))
   pub count : to ≡ t .at0 + t .at1
 
@@ -136,15 +139,15 @@ pub merging-start : (z : ℕ) (xs ys out : List ℕ) (p : Bool) → p ≡ whoseT
     → length xs % z ≡ 0 → length ys % z ≡ 0 → All highTid false (piecesOf z ys) → length (wholeOf z xs ys) ≤ length out
     → Merging z xs ys out out (record { port1 = p; at0 = 0; at1 = 0 }) 0
 merging-start z xs ys out p e w w' low room =
-    let same : line tlast false (piecesOf z xs) (map tagged (piecesOf z ys)) ≡ line tlast p (piecesOf z xs) (map tagged (piecesOf z ys)) =
+    let same : goesOut tlast false (piecesOf z xs) (map raised (piecesOf z ys)) ≡ goesOut tlast p (piecesOf z xs) (map raised (piecesOf z ys)) =
     rw e (sym (skipped z xs ys 0 0 false)) in
     record {
       stands =
           record {
             wanted = false;
             is = e;
-            zeroth = record { within = omega arith; whole = w };
-            oneth = record { within = omega arith; whole = w' };
+            list0 = record { within = omega arith; whole = w };
+            list1 = record { within = omega arith; whole = w' };
             low = low;
             count = omega arith;
           };
@@ -157,9 +160,9 @@ merging-start z xs ys out p e w w' low room =
 pub merging-end : (z : ℕ) (xs ys before out : List ℕ) (t : Turn) (to : ℕ) → Merging z xs ys before out t to → length xs + length ys ≤ to
     → out ≡ inFront (wholeOf z xs ys) before
 merging-end z xs ys before out t to m h =
-    let none0 : piecesOf z (drop (t .at0) xs) ≡ [] = no-pieces xs (t .at0) (omega (arith, m .stands .count, m .stands .zeroth .within, m .stands .oneth .within)) z in
-    let none1 : piecesOf z (drop (t .at1) ys) ≡ [] = no-pieces ys (t .at1) (omega (arith, m .stands .count, m .stands .zeroth .within, m .stands .oneth .within)) z in
-    let nothing : leftOf z xs ys t ≡ [] = rw (none0, none1) (line-no-first tlast (t .port1) []) in
+    let none0 : piecesOf z (drop (t .at0) xs) ≡ [] = no-pieces xs (t .at0) (omega (arith, m .stands .count, m .stands .list0 .within, m .stands .list1 .within)) z in
+    let none1 : piecesOf z (drop (t .at1) ys) ≡ [] = no-pieces ys (t .at1) (omega (arith, m .stands .count, m .stands .list0 .within, m .stands .list1 .within)) z in
+    let nothing : leftOf z xs ys t ≡ [] = rw (none0, none1) (goes-no-first tlast (t .port1) []) in
     writing-end before out (wholeOf z xs ys) to
     (writing-as before out (wholeOf z xs ys) (joined (leftOf z xs ys t)) [] to (ap joined nothing) (m .writing))
 
@@ -167,39 +170,39 @@ merging-end z xs ys before out t to m h =
 
 -- of port 0, and of port 1: it is the first of those left, and the others are left behind it
 module _ (z : ℕ) (pos : 0 < z) (xs ys : List ℕ) (at0 at1 : ℕ) where
-  step-zeroth : LeftBy z xs at0 → at0 < length xs
-      → line tlast false (zeroth z xs ys at0 at1) (oneth z xs ys at0 at1)
+  step-list0 : LeftBy z xs at0 → at0 < length xs
+      → goesOut tlast false (list0 z xs ys at0 at1) (list1 z xs ys at0 at1)
       ≡ recordAt xs at0 z
-      ∷ line tlast (turn z xs ys (at0 + z) at1 (tlast (recordAt xs at0 z))) (zeroth z xs ys (at0 + z) at1) (oneth z xs ys at0 at1)
-  step-zeroth left more =
+      ∷ goesOut tlast (turn z xs ys (at0 + z) at1 (tlast (recordAt xs at0 z))) (list0 z xs ys (at0 + z) at1) (list1 z xs ys at0 at1)
+  step-list0 left more =
       let r = recordAt xs at0 z in
-      ap (λ (rs : List (List ℕ)). line tlast false rs (oneth z xs ys at0 at1)) (pieces-next z pos xs at0 left more)
-      ∙ line-first tlast r (zeroth z xs ys (at0 + z) at1) (oneth z xs ys at0 at1)
+      ap (λ (rs : List (List ℕ)). goesOut tlast false rs (list1 z xs ys at0 at1)) (pieces-next z pos xs at0 left more)
+      ∙ goes-first tlast r (list0 z xs ys (at0 + z) at1) (list1 z xs ys at0 at1)
       ∙ ap {B = List (List ℕ)} (λ l. r ∷ l) (sym (skipped z xs ys (at0 + z) at1 (tlast r)))
 
-  step-oneth : LeftBy z ys at1 → at1 < length ys
-      → line tlast true (zeroth z xs ys at0 at1) (oneth z xs ys at0 at1)
-      ≡ tagged (recordAt ys at1 z)
-      ∷ line tlast (turn z xs ys at0 (at1 + z) (not (tlast (recordAt ys at1 z)))) (zeroth z xs ys at0 at1) (oneth z xs ys at0 (at1 + z))
-  step-oneth left more =
+  step-list1 : LeftBy z ys at1 → at1 < length ys
+      → goesOut tlast true (list0 z xs ys at0 at1) (list1 z xs ys at0 at1)
+      ≡ raised (recordAt ys at1 z)
+      ∷ goesOut tlast (turn z xs ys at0 (at1 + z) (not (tlast (recordAt ys at1 z)))) (list0 z xs ys at0 at1) (list1 z xs ys at0 (at1 + z))
+  step-list1 left more =
       let r = recordAt ys at1 z in
-      ap (λ (rs : List (List ℕ)). line tlast true (zeroth z xs ys at0 at1) (map tagged rs)) (pieces-next z pos ys at1 left more)
-      ∙ line-second tlast (zeroth z xs ys at0 at1) (tagged r) (oneth z xs ys at0 (at1 + z))
-      ∙ ap (λ (b : Bool). tagged r ∷ line tlast (not b) (zeroth z xs ys at0 at1) (oneth z xs ys at0 (at1 + z))) (tagged-last r)
-      ∙ ap {B = List (List ℕ)} (λ l. tagged r ∷ l) (sym (skipped z xs ys at0 (at1 + z) (not (tlast r))))
+      ap (λ (rs : List (List ℕ)). goesOut tlast true (list0 z xs ys at0 at1) (map raised rs)) (pieces-next z pos ys at1 left more)
+      ∙ goes-second tlast (list0 z xs ys at0 at1) (raised r) (list1 z xs ys at0 (at1 + z))
+      ∙ ap (λ (b : Bool). raised r ∷ goesOut tlast (not b) (list0 z xs ys at0 at1) (list1 z xs ys at0 (at1 + z))) (raised-last r)
+      ∙ ap {B = List (List ℕ)} (λ l. raised r ∷ l) (sym (skipped z xs ys at0 (at1 + z) (not (tlast r))))
 
 module _ (z : ℕ) (low : sizeLeast ≤ z) (high : z ≤ sizeMost) (xs ys before out : List ℕ) (t : Turn) (to : ℕ) (m : Merging z xs ys before out t to)
     (some : to < length xs + length ys) where
   pos : 0 < z
   pos = omega arith
 
-  more-zeroth : t .port1 ≡ false → t .at0 < length xs
-  more-zeroth e =
-      has-zeroth z xs ys (t .at0) (t .at1) (omega (arith, m .stands .count)) (m .stands .zeroth .within) (m .stands .oneth .within) (m .stands .wanted) (sym (m .stands .is) ∙ e)
+  more-list0 : t .port1 ≡ false → t .at0 < length xs
+  more-list0 e =
+      has-list0 z xs ys (t .at0) (t .at1) (omega (arith, m .stands .count)) (m .stands .list0 .within) (m .stands .list1 .within) (m .stands .wanted) (sym (m .stands .is) ∙ e)
 
-  more-oneth : t .port1 ≡ true → t .at1 < length ys
-  more-oneth e =
-      has-oneth z xs ys (t .at0) (t .at1) (omega (arith, m .stands .count)) (m .stands .zeroth .within) (m .stands .oneth .within) (m .stands .wanted) (sym (m .stands .is) ∙ e)
+  more-list1 : t .port1 ≡ true → t .at1 < length ys
+  more-list1 e =
+      has-list1 z xs ys (t .at0) (t .at1) (omega (arith, m .stands .count)) (m .stands .list0 .within) (m .stands .list1 .within) (m .stands .wanted) (sym (m .stands .is) ∙ e)
 
   abbrev piece : List ℕ
   piece = sentAs (t .port1) (pickedFrom z xs ys t)
@@ -208,15 +211,15 @@ module _ (z : ℕ) (low : sizeLeast ≤ z) (high : z ≤ sizeMost) (xs ys before
   behind = turnBehind z (tlast (pickedFrom z xs ys t)) (length xs) (length ys) t
 
   picked-long : (b : Bool) → t .port1 ≡ b → length (pickedFrom z xs ys t) ≡ z
-  picked-long true e = rw e (piece-long z pos ys (t .at1) (m .stands .oneth) (more-oneth e))
-  picked-long false e = rw e (piece-long z pos xs (t .at0) (m .stands .zeroth) (more-zeroth e))
+  picked-long true e = rw e (piece-long z pos ys (t .at1) (m .stands .list1) (more-list1 e))
+  picked-long false e = rw e (piece-long z pos xs (t .at0) (m .stands .list0) (more-list0 e))
 
   piece-size : length piece ≡ z
   piece-size = sent-long (t .port1) (pickedFrom z xs ys t) ∙ picked-long (t .port1) refl
 
   left-is : (b : Bool) → t .port1 ≡ b → joined (leftOf z xs ys t) ≡ piece ++ joined (leftOf z xs ys behind)
-  left-is true e = rw e (ap joined (step-oneth z pos xs ys (t .at0) (t .at1) (m .stands .oneth) (more-oneth e)))
-  left-is false e = rw e (ap joined (step-zeroth z pos xs ys (t .at0) (t .at1) (m .stands .zeroth) (more-zeroth e)))
+  left-is true e = rw e (ap joined (step-list1 z pos xs ys (t .at0) (t .at1) (m .stands .list1) (more-list1 e)))
+  left-is false e = rw e (ap joined (step-list0 z pos xs ys (t .at0) (t .at1) (m .stands .list0) (more-list0 e)))
 
   writing : Writing before out to (wholeOf z xs ys) (piece ++ joined (leftOf z xs ys behind))
   writing =
@@ -227,18 +230,18 @@ module _ (z : ℕ) (low : sizeLeast ≤ z) (high : z ≤ sizeMost) (xs ys before
 
   -- the TIDs of port 1's records that are left: of this one, and of the others
   lows : t .port1 ≡ true → All highTid false (recordAt ys (t .at1) z ∷ piecesOf z (drop (t .at1 + z) ys))
-  lows e = rw (pieces-next z pos ys (t .at1) (m .stands .oneth) (more-oneth e)) at (m .stands .low)
+  lows e = rw (pieces-next z pos ys (t .at1) (m .stands .list1) (more-list1 e)) at (m .stands .low)
 
   tag-low : t .port1 ≡ true → tid (pickedFrom z xs ys t) < 128
-  tag-low e = rw e (leb-false tagAdded (tid (recordAt ys (t .at1) z)) (lows e .0))
+  tag-low e = rw e (leb-false tidAdded (tid (recordAt ys (t .at1) z)) (lows e .0))
 
   pub asks : Ready z xs ys t out to
   asks =
       record {
         picks =
             record {
-              zeroth = λ e. piece-fits z pos xs (t .at0) (m .stands .zeroth) (more-zeroth e);
-              oneth = λ e. piece-fits z pos ys (t .at1) (m .stands .oneth) (more-oneth e);
+              list0 = λ e. piece-fits z pos xs (t .at0) (m .stands .list0) (more-list0 e);
+              list1 = λ e. piece-fits z pos ys (t .at1) (m .stands .list1) (more-list1 e);
             };
         low = low;
         high = high;
@@ -253,8 +256,8 @@ module _ (z : ℕ) (low : sizeLeast ≤ z) (high : z ≤ sizeMost) (xs ys before
       (record {
         wanted = not (tlast (recordAt ys (t .at1) z));
         is = refl;
-        zeroth = m .stands .zeroth;
-        oneth = left-behind z pos ys (t .at1) (m .stands .oneth) (more-oneth e);
+        list0 = m .stands .list0;
+        list1 = left-behind z pos ys (t .at1) (m .stands .list1) (more-list1 e);
         low = lows e .1;
         count = omega (arith, m .stands .count);
       })
@@ -263,8 +266,8 @@ module _ (z : ℕ) (low : sizeLeast ≤ z) (high : z ≤ sizeMost) (xs ys before
       (record {
         wanted = tlast (recordAt xs (t .at0) z);
         is = refl;
-        zeroth = left-behind z pos xs (t .at0) (m .stands .zeroth) (more-zeroth e);
-        oneth = m .stands .oneth;
+        list0 = left-behind z pos xs (t .at0) (m .stands .list0) (more-list0 e);
+        list1 = m .stands .list1;
         low = m .stands .low;
         count = omega (arith, m .stands .count);
       })

@@ -12,8 +12,8 @@ use Rattle.stream_spec.specs.declared.Shape.{Shape}
 use Rattle.stream_spec.specs.Layout.{sizeLeast, sizeMost, tlast, piecesOf}
 use Rattle.stream_spec.specs.Memory.{Writes}
 use Rattle.stream_spec.specs.Walk.{Passed, recordAt}
-use Rattle.merge_spec.specs.Turns.{line}
-use Rattle.merge_spec.specs.Merge.{tid, tagged}
+use Rattle.merge_spec.specs.Turns.{goesOut}
+use Rattle.merge_spec.specs.Merge.{tid, raised}
 use Rattle.merge_spec.specs.Answers.{portChecks}
 use Rattle.stream_merge.specs.declared.Turn.{Turn}
 
@@ -27,9 +27,10 @@ pub record Copies (rec out : List ℕ) : Type 0 where
 
 -- as it goes out of port 1, or of port 0
 abbrev pub sentAs : Bool → List ℕ → List ℕ
-sentAs true r = tagged r
+sentAs true r = raised r
 sentAs false r = r
 
+-- TLAST of a record; in the code that name is a function's
 abbrev pub lastOf : List ℕ → Bool
 lastOf r = tlast r
 
@@ -37,8 +38,8 @@ lastOf r = tlast r
 
 -- the port that has the turn has a record of z octets left
 pub record Picks (z : ℕ) (xs ys : List ℕ) (t : Turn) : Type 0 where
-  pub zeroth : t .port1 ≡ false → t .at0 + z ≤ length xs
-  pub oneth : t .port1 ≡ true → t .at1 + z ≤ length ys
+  pub list0 : t .port1 ≡ false → t .at0 + z ≤ length xs
+  pub list1 : t .port1 ≡ true → t .at1 + z ≤ length ys
 
 abbrev pub pickedFrom : ℕ → List ℕ → List ℕ → Turn → List ℕ
 pickedFrom z xs ys t = cond (t .port1) (recordAt ys (t .at1) z) (recordAt xs (t .at0) z)
@@ -49,8 +50,8 @@ whoseTurn wanted left0 left1 = cond wanted left1 (not left0)
 
 -- the same of numbers: n0 and n1 are the octets of the lists
 pub record TurnFits (z n0 n1 : ℕ) (t : Turn) : Type 0 where
-  pub zeroth : t .port1 ≡ false → t .at0 + z ≤ n0
-  pub oneth : t .port1 ≡ true → t .at1 + z ≤ n1
+  pub list0 : t .port1 ≡ false → t .at0 + z ≤ n0
+  pub list1 : t .port1 ≡ true → t .at1 + z ≤ n1
 
 -- behind a record that is the last of its turn, or is not
 abbrev pub turnBehind : ℕ → Bool → ℕ → ℕ → Turn → Turn
@@ -78,11 +79,11 @@ pub record Passes (z : ℕ) (xs ys : List ℕ) (t : Turn) (before : List ℕ) (t
 
 -- two lists whose tests have passed, and an output with room for both
 pub record ListsFit (s : Shape) (xs ys out : List ℕ) : Type 0 where
-  pub zeroth : Passed s xs
-  pub oneth : Passed s ys
+  pub list0 : Passed s xs
+  pub list1 : Passed s ys
   pub sound : first (portChecks s ys) ≡ none
   pub room : length xs + length ys ≤ length out
 
 -- the records, of z octets each, that are left where this is the turn
 abbrev pub leftOf : ℕ → List ℕ → List ℕ → Turn → List (List ℕ)
-leftOf z xs ys t = line tlast (t .port1) (piecesOf z (drop (t .at0) xs)) (map tagged (piecesOf z (drop (t .at1) ys)))
+leftOf z xs ys t = goesOut tlast (t .port1) (piecesOf z (drop (t .at0) xs)) (map raised (piecesOf z (drop (t .at1) ys)))

@@ -23,7 +23,7 @@ ghost use Rattle.merge_spec.specs.Answers.{portFaults, portChecks, PortsMerged}
 ghost use Rattle.stream_merge.specs.Merging.{Copies, sentAs, Picks, pickedFrom, lastOf, whoseTurn, TurnFits, turnBehind, Ready, Passes, ListsFit};
 
 // So much is added to port 1's TIDs. A TID from here on is refused.
-const TAG_ADDED: u8 = 0x80;
+const TID_ADDED: u8 = 0x80;
 
 // Whether port 1 has the turn, and where the next record of port 0 and of port 1 starts. A port with nothing left has no turn, unless
 // neither has anything.
@@ -44,7 +44,7 @@ fn port_fault(s: Shape, rec: &[u8], k: usize) -> Checked
         }
         Checked::Passed => {}
     }
-    if TAG_ADDED <= rec[TID] {
+    if TID_ADDED <= rec[TID] {
         return Checked::Refused(Refusal::Tags(k));
     }
     Checked::Passed
@@ -107,7 +107,7 @@ fn put_picked(rec: &[u8], out: &mut [u8], port1: bool)
 {
     copy_record(rec, out);
     if port1 {
-        out[TID] = rec[TID] + TAG_ADDED;
+        out[TID] = rec[TID] + TID_ADDED;
     }
 }
 

@@ -1,9 +1,8 @@
 -- `stream_merge::pass_on` meets its contract: the picked record stands at its place, and the turn behind it is told. Assumes nothing.
-use mathlib.Core.Path.{ap, _∙_}
 use native.Mathlib.Omega.{arith}
-use lib.ListN.{length, length-drop}
+use lib.ListN.{length-drop}
 use Rattle.stream_spec.proofs.Memory.{lent-rest}
-use Rattle.stream_merge.proofs.Pass.{ready-long, passes-of}
+use Rattle.stream_merge.proofs.Pass.{picked-size, passes-of}
 use borrow.Author.Needs.{needs}
 use Rattle.stream_merge.proofs.pass_on.Statement.{statement}
 use Rattle.stream_merge.proofs.pass_on.Tie as tie
@@ -24,7 +23,7 @@ put-picked-requires : tie.Need-put-picked-requires
 put-picked-requires c κs =
     let e = c .before .before .before .before .before in
     let a = e .args in
-    let long = ap length (c .before .pick .ensures) ∙ ready-long (a .z) (a .first .now) (a .second .now) (a .t) (a .out .now) (a .to) (e .pre) in (
+    let long = picked-size (a .z) (a .first .now) (a .second .now) (a .t) (a .out .now) (a .to) (e .pre) (c .before .pick .result .now) (c .before .pick .ensures) in (
       record {
         low = omega (arith, long, e .pre .low);
         high = omega (arith, long, e .pre .high);
@@ -37,8 +36,8 @@ ends-turn-requires : tie.Need-ends-turn-requires
 ends-turn-requires c κs =
     let e = c .before .before .before .before .before .before .before .before in
     let a = e .args in
-    omega
-    (arith, ap length (c .before .before .before .before .pick .ensures), ready-long (a .z) (a .first .now) (a .second .now) (a .t) (a .out .now) (a .to) (e .pre), e .pre .low)
+    let picked = c .before .before .before .before .pick in
+    omega (arith, picked-size (a .z) (a .first .now) (a .second .now) (a .t) (a .out .now) (a .to) (e .pre) (picked .result .now) (picked .ensures), e .pre .low)
 
 turn-behind-requires : tie.Need-turn-behind-requires
 turn-behind-requires c κs = search needs

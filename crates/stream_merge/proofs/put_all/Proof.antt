@@ -45,11 +45,11 @@ abbrev long : Turns → ℕ
 long t = t .before .before .record-size .result
 
 least : (t : Turns) → sizeLeast ≤ long t
-least t = omega (arith, t .before .before .record-size .ensures, size-least (shape t) (entry t .pre .zeroth .low))
+least t = omega (arith, t .before .before .record-size .ensures, size-least (shape t) (entry t .pre .list0 .low))
 
 most : (t : Turns) → long t ≤ sizeMost
 most t =
-    omega (arith, t .before .before .record-size .ensures, size-most (shape t) (entry t .pre .zeroth .high) (entry t .pre .zeroth .user))
+    omega (arith, t .before .before .record-size .ensures, size-most (shape t) (entry t .pre .list0 .high) (entry t .pre .list0 .user))
 
 room : (c : tie.In-loop Inv-loop μ-loop) → c .before .loop .to + long (c .before) ≤ length (c .before .loop .out)
 room c =
@@ -65,10 +65,10 @@ turn c = c .before .before .before .before
 record-size-requires : tie.Need-record-size-requires Inv-loop μ-loop
 record-size-requires c κs =
     let e = c .before .before .before in
-    passed-narrow (e .args .s) (e .args .first .now) (e .pre .zeroth)
+    passed-narrow (e .args .s) (e .args .first .now) (e .pre .list0)
 
 add-total : tie.Need-add-total Inv-loop μ-loop
-add-total c = let e = c .before .before .before .before in omega (arith, e .pre .zeroth .short, e .pre .oneth .short)
+add-total c = let e = c .before .before .before .before in omega (arith, e .pre .list0 .short, e .pre .list1 .short)
 
 whose-turn-requires : tie.Need-whose-turn-requires Inv-loop μ-loop
 whose-turn-requires c κs = search needs

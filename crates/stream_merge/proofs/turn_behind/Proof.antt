@@ -6,7 +6,7 @@ use Rattle.stream_merge.proofs.turn_behind.Statement.{statement}
 use Rattle.stream_merge.proofs.turn_behind.Tie as tie
 
 add-at1 : tie.Need-add-at1
-add-at1 c = let e = c .before .before in omega (arith, e .pre .oneth (c .before .if1 .taken), e .fits .n1)
+add-at1 c = let e = c .before .before in omega (arith, e .pre .list1 (c .before .if1 .taken), e .fits .n1)
 
 whose-turn-requires : tie.Need-whose-turn-requires
 whose-turn-requires c κs = search needs
@@ -15,7 +15,7 @@ returns : tie.Need-returns
 returns c = rw (c .whose-turn .ensures, c .before .before .before .if1 .taken) refl
 
 add-at0 : tie.Need-add-at0
-add-at0 c = let e = c .before .before in omega (arith, e .pre .zeroth (c .before .if1 .left), e .fits .n0)
+add-at0 c = let e = c .before .before in omega (arith, e .pre .list0 (c .before .if1 .left), e .fits .n0)
 
 whose-turn-requires-2 : tie.Need-whose-turn-requires-2
 whose-turn-requires-2 c κs = search needs
