@@ -132,7 +132,7 @@ urd_write_answer urd_judge_writes(uint32_t start, uint32_t len, uint32_t size, u
 
 /* ---- streams ---- */
 
-/* width and user say what a record is, above; urd_repack and urd_downsize read and write records of the same user. The number `user`
+/* width and user say what a record is, above; urd_repack, urd_downsize and urd_merge read and write records of the same user. The number `user`
  * is there since T-06: what a program compiled before asks is refused with 1 or 16, so compile it anew, with user 0. */
 
 /* What a stream call answers. */
@@ -193,9 +193,10 @@ typedef struct urd_merge_answer {
 
 /* Merges the transfer records `first` of port 0 and `second` of port 1 onto one port, by turns, port 0 first: count of records. A turn
  * passes on a port's records up to and with its next TLAST, whatever the TID and TDEST, or to the end of its list; a port with nothing
- * left is skipped. Every record goes out as it is, all-null ones too, but port 1's TIDs have 128 added, so a TID below 128 in `out` says
- * port 0. `out` is as long as both lists together, 131,072 octets at most; urd_repack takes 65,536: hand it whole turns, one or several at
- * a time, and its results joined are the packed form of all.
+ * left is skipped. Every record goes out as it is, all-null ones too, but port 1's TIDs have 128 added: a TID of 128 or more in `out` says
+ * port 1. What is written has the octets of both lists together, 131,072 at most, where other calls take 65,536. For urd_repack cut it
+ * behind each record with TLAST and wherever the next record is the other port's: these are the turns, none longer than a list, and the
+ * packed forms of one or several of them at a time, joined in order, are the packed form of all.
  * Refusals: 1 and 16, 2 for `first`, 2 for `second`, then record by record of `first` and then of `second` 3, 4 and 17 (place: the
  * record), 5.
  * Lent memory: `out` gets the records and is unchanged after them; refused, it is unchanged. */

@@ -205,9 +205,10 @@ def downsize(width, user, v, octets, out):
 
 
 def merge(width, user, first, second, out):
-    """Merges the transfer records of port 0 and of port 1 into out by turns, port 0 first, port 1's TIDs with 128 added: count of records.
-    A turn is a port's records up to and with its next TLAST, or to the end of its list. As long as both lists together is always
-    enough. Refusals 1, 16, 2, then 3, 4 and 17 of the first list's records, then of the second's, 5; `port` says whose."""
+    """Merges the transfer records of port 0 and of port 1 into out by turns, port 0 first: count of records. A turn is a port's records up
+    to and with its next TLAST, or to the end of its list; a port with nothing left is skipped. Every record goes out as it is, but port 1's
+    TIDs have 128 added. `out` needs the octets of both lists together. Refusals 1, 16, 2 of the first list, 2 of the second, then 3, 4
+    and 17 (a TID of 128 or more) of the first list's records, then of the second's, 5; `port` says whose, and is 0 for 1, 16 and 5."""
     first, second, lent = _read(first), _read(second), _lend(out)
     answer = _merge(*_sizes(width, user), first, len(first), second, len(second), ctypes.addressof(lent), len(lent))
     return _plain(MergeAnswer, answer)

@@ -1,30 +1,29 @@
 -- The records of the two lists: what no fault in them means, both ways, and when exactly 17 is given. Assumes nothing.
 use mathlib.Core.Bool.{Bool, true, false, cond}
 use mathlib.Core.List.{List, [], _∷_}
-use mathlib.Core.Logic.{_⊎_, inl, inr}
 use mathlib.Core.Option.{Option, none, some}
-use mathlib.Core.Path.{_≡_, refl, sym, ap, _∙_, subst}
-use Prim.Native.Nat.{ℕ, suc, _+_, _%_, _≤_, _<_}
+use mathlib.Core.Path.{_≡_, refl, ap, subst}
+use Prim.Native.Nat.{ℕ, suc, _+_}
 use native.Mathlib.Nat.{zero-add}
 use native.Mathlib.Omega.{arith}
 use borrow.Author.Tests.{leb-true, leb-false, le-leb, lt-leb}
 use lib.ListN.{length}
-use Rattle.refusal.specs.Checks.{Check, check, first}
+use Rattle.refusal.specs.Checks.{check, first}
 use Rattle.refusal.specs.declared.Refusal.{Refusal}
-use Rattle.refusal.specs.declared.Refusal.the-variants.{Width, UserBits, Length, Field, Reserved, Room, Tags}
-use Rattle.refusal.proofs.First.{first-none, none-first, append-none, none-append, append-found}
+use Rattle.refusal.specs.declared.Refusal.the-variants.{Field, Reserved, Tags}
+use Rattle.refusal.proofs.First.{first-none, none-first, append-none, none-append}
 use Rattle.stream_spec.specs.declared.Shape.{Shape}
 use Rattle.stream_spec.specs.Layout.{size, records, recordCount}
-use Rattle.stream_spec.specs.Checks.{widthCheck, userCheck, lengthCheck, takeChecks, each, transferFlags, fieldFault, reservedFault, transferFaults, transferChecks, roomCheck}
+use Rattle.stream_spec.specs.Checks.{lengthCheck, takeChecks, each, transferFlags, fieldFault, reservedFault, transferFaults, transferChecks}
 use Rattle.stream_spec.specs.Walk.{Passed}
-use Rattle.stream_spec.proofs.Passed.{length-fits, fits-length, take-passed, checks-passed, passed-checks, passed-shape}
+use Rattle.stream_spec.proofs.Passed.{length-fits, fits-length, checks-passed, passed-checks}
 use Rattle.stream_spec.proofs.Records.{length-pieces}
 use Rattle.stream_spec.proofs.RecordChecks.{FoundIn, each-none, each-all, all-each, each-at, at-each}
-use Rattle.merge_spec.specs.Merge.{tidAdded, tid, highTid, merged}
-use Rattle.merge_spec.specs.Answers.{Named, naming, portFaults, portChecks, mergeRefusal}
-use Rattle.merge_spec.specs.Promises.{recordOf, Sound, AllSound, Readable, HighAt, HighBy}
+use Rattle.merge_spec.specs.Merge.{tidAdded, tid, highTid}
+use Rattle.merge_spec.specs.Answers.{portFaults, portChecks}
+use Rattle.merge_spec.specs.Promises.{recordOf, Sound, AllSound, Readable, HighAt}
 use Rattle.merge_spec.proofs.Tags.{AllLow}
-use Rattle.merge_spec.proofs.Refusals.{clash, named, naming-first, naming-none, named-some, append-some, roomed, fourth, third, second, after-other, after-firsts}
+use Rattle.merge_spec.proofs.Refusals.{clash, second}
 
 -- ---- one record
 

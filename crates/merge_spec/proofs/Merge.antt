@@ -12,7 +12,7 @@ use lib.ListN.{length, length-append, length-map}
 use Rattle.refusal.specs.Checks.{first}
 use Rattle.stream_spec.specs.declared.Shape.{Shape}
 use Rattle.stream_spec.specs.Layout.{tlast, size, records, recordCount, joined}
-use Rattle.stream_spec.specs.Checks.{lengthCheck, takeChecks, transferFlags, fieldFault, reservedFault, transferChecks}
+use Rattle.stream_spec.specs.Checks.{transferFlags, fieldFault, reservedFault, transferChecks}
 use Rattle.stream_spec.specs.Legal.{Octets, Legal}
 use Rattle.stream_spec.specs.Walk.{Passed}
 use Rattle.stream_spec.proofs.Legal.{octets-append, Faultless, faultless-of, of-faultless, EachOctets, pieces-octets}
@@ -20,8 +20,8 @@ use Rattle.stream_spec.proofs.Records.{Sized, length-joined, records-joined, re
 use Rattle.merge_spec.specs.Turns.{turnsOf, alternate, passed, those}
 use Rattle.merge_spec.specs.Merge.{tidAdded, tid, raised, restored, highTid, lowTid, turns, mergedRecords, merged}
 use Rattle.merge_spec.specs.Promises.{SharesKept, Next, InTurns, Fair, cutTurns, TurnsTaken}
-use Rattle.merge_spec.proofs.Turns.{EachIn, EachTurn, each-passed, each-alternate, each-turns, All, AllTurns, all-turns, those-first, those-second, turns-pass, turns-end}
-use Rattle.merge_spec.proofs.Tags.{raised-long, raised-octets, raised-field, raised-reserved, raised-back, sized-raised, all-back, AllLow, high-raised, all-not}
+use Rattle.merge_spec.proofs.Turns.{EachIn, each-passed, each-alternate, each-turns, All, AllTurns, all-turns, those-first, those-second, turns-pass, turns-end}
+use Rattle.merge_spec.proofs.Tags.{raised-long, raised-octets, raised-field, raised-reserved, sized-raised, all-back, AllLow, high-raised, all-not}
 use Rattle.merge_spec.proofs.Refusals.{Accepts}
 use Rattle.merge_spec.proofs.Faults.{readable-of, passed-first, passed-second, faultless-low}
 use Rattle.merge_spec.proofs.Order.{goes, goes-only, over-both, fair-both, cut-fair}

@@ -11,7 +11,7 @@ use Rattle.stream_spec.specs.Layout.{tlast}
 use Rattle.merge_spec.specs.Turns.{intoFirst, alternate, passed, those, goesOut}
 use Rattle.merge_spec.specs.Merge.{highTid, lowTid}
 use Rattle.merge_spec.specs.Promises.{sentBy, Next, turnAfter, InTurns, IsTurn, GoesOver, portOf, Fair, isOver, cutTurns}
-use Rattle.merge_spec.proofs.Turns.{All, AllTurns, EachTurn, all-those, none-those, those-none, all-twice, each-passed, Ends, Ended, alternate-nil, goes-first, goes-second, skip-first, skip-second, goes-no-first, goes-no-second}
+use Rattle.merge_spec.proofs.Turns.{All, AllTurns, all-those, none-those, those-none, all-twice, each-passed, Ends, Ended, alternate-nil, goes-first, goes-second, skip-first, skip-second, goes-no-first, goes-no-second}
 use Rattle.merge_spec.proofs.Tags.{AllLow, all-not}
 
 -- ---- what a port sent

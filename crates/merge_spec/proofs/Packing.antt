@@ -1,11 +1,11 @@
 -- The packed form of a merged list: turns are packed apart, so each port's share of it is that port's own packed form, and another TID
 -- changes nothing else in it. Assumes nothing.
-use mathlib.Core.Bool.{Bool, true, false, not, cond, _&&_}
+use mathlib.Core.Bool.{Bool, true, false, not, _&&_}
 use mathlib.Core.List.{List, [], _∷_, _++_, map, head?, getLast?, append-assoc, append-nil}
 use mathlib.Core.Logic.{_⊎_, inl, inr}
 use mathlib.Core.Option.{Option, none, some}
 use mathlib.Core.Path.{_≡_, refl, sym, ap, ap₂, _∙_}
-use Prim.Native.Nat.{ℕ, zero, suc, _+_, _-_, _/_, _≤_, _<_}
+use Prim.Native.Nat.{ℕ, zero, suc, _+_, _-_, _/_}
 use native.Mathlib.Omega.{arith}
 use borrow.Author.Tests.{leb-true, leb-false, eq-eqb, ne-eqb, eqb-true, eqb-false}
 use lib.Dec.{eqb, leb}
@@ -18,7 +18,7 @@ use Rattle.stream_spec.proofs.Pack.{map-append, items-append, pack-parted}
 use Rattle.stream_spec.proofs.Each.{EachLane, EachTransfer, EachItem, each-items, each-pack}
 use Rattle.merge_spec.specs.Turns.{turnsOf, alternate, passed, those}
 use Rattle.merge_spec.specs.Merge.{tidAdded}
-use Rattle.merge_spec.proofs.Turns.{EachIn, EachTurn, each-passed, All, AllTurns, all-twice, those-first, those-second, Ends, Ended, alternate-nil, alternate-map, passed-append, turns-pass, turns-end, all-turns}
+use Rattle.merge_spec.proofs.Turns.{each-passed, All, AllTurns, all-twice, those-first, those-second, Ends, Ended, alternate-nil, alternate-map, passed-append, turns-pass, turns-end, all-turns}
 use Rattle.merge_spec.proofs.Tags.{raiseTransfer}
 
 -- ---- whose a transfer is

@@ -2,14 +2,13 @@
 use mathlib.Core.List.{List}
 use mathlib.Core.Option.{none}
 use mathlib.Core.Path.{_≡_, refl, sym, ap, _∙_}
-use Prim.Native.Nat.{ℕ, _+_, _*_, _≤_}
+use Prim.Native.Nat.{ℕ, _+_, _*_}
 use native.Mathlib.Omega.{arith}
 use lib.ListN.{length, take, drop}
 use lib.Seq.{take-at, drop-at}
 use Rattle.refusal.specs.declared.Refusal.the-variants.{Tags}
 use Rattle.stream_spec.specs.declared.Shape.{Shape}
 use Rattle.stream_spec.specs.Layout.{size, recordCount}
-use Rattle.stream_spec.specs.Demand3.{Part}
 use Rattle.stream_spec.proofs.Demand3.{calls, parts}
 use Rattle.merge_spec.specs.declared.Merged.the-variants.{Records}
 use Rattle.merge_spec.specs.Merge.{mergedRecords, merged}

@@ -8,12 +8,11 @@ use Prim.Native.Nat.{ℕ, _≤_}
 use native.Mathlib.Omega.{arith}
 use borrow.Author.Tests.{ltb-false, le-ltb}
 use lib.ListN.{length}
-use Rattle.refusal.specs.Checks.{Check, check, first}
+use Rattle.refusal.specs.Checks.{Check, first}
 use Rattle.refusal.specs.declared.Refusal.{Refusal}
 use Rattle.refusal.proofs.First.{first-none, append-none, append-found, append-passed}
 use Rattle.stream_spec.specs.declared.Shape.{Shape}
 use Rattle.stream_spec.specs.Checks.{lengthCheck, takeChecks, roomCheck}
-use Rattle.merge_spec.specs.declared.Merged.{Merged}
 use Rattle.merge_spec.specs.declared.Merged.the-variants.{Records, Refused}
 use Rattle.merge_spec.specs.Merge.{mergedRecords, merged}
 use Rattle.merge_spec.specs.Answers.{Named, naming, portChecks, mergeRefusal, mergedBy, lentBy, mergeAnswer, mergeAfter, mergedValues, valuesFor, PortsMerged}

@@ -2,19 +2,18 @@
 use mathlib.Core.Bool.{Bool, true, false, not}
 use mathlib.Core.List.{List, [], _∷_, map}
 use mathlib.Core.Path.{_≡_, refl, sym, ap, ap₂, _∙_}
-use Prim.Native.Nat.{ℕ, _+_, _-_, _≤_, _<_}
+use Prim.Native.Nat.{ℕ, _+_, _-_, _<_}
 use native.Mathlib.Omega.{arith}
-use borrow.Author.Tests.{leb-true, leb-false, le-leb, lt-leb}
+use borrow.Author.Tests.{le-leb}
 use lib.ListN.{length, set, length-set}
 use Rattle.stream_spec.specs.declared.Shape.{Shape}
 use Rattle.stream_spec.specs.Items.{Transfer}
-use Rattle.stream_spec.specs.Layout.{tidAt, size, Kept, flags, pairOf, tkeep, tstrb, tlast, userNumber, transferOf, octetsOf}
-use Rattle.stream_spec.specs.Checks.{transferFlags, headFault, fieldFault, reservedFault}
+use Rattle.stream_spec.specs.Layout.{tidAt, size, Kept, tlast, userNumber, transferOf, octetsOf}
+use Rattle.stream_spec.specs.Checks.{transferFlags, fieldFault, reservedFault}
 use Rattle.stream_spec.specs.Legal.{Octets}
 use Rattle.stream_spec.proofs.Size.{size-holds}
 use Rattle.stream_spec.proofs.Users.{users-behind}
 use Rattle.stream_spec.proofs.Records.{Sized}
-use Rattle.merge_spec.specs.Turns.{those}
 use Rattle.merge_spec.specs.Merge.{tidAdded, tid, raised, restored, highTid, lowTid}
 use Rattle.merge_spec.proofs.Turns.{All}
 
@@ -77,9 +76,6 @@ pub transfer-raised : (s : Shape) (r : List ℕ) → 1 < length r → transferOf
 transfer-raised s [] h = absurd (omega arith)
 transfer-raised s (f ∷ []) h = absurd (omega arith)
 transfer-raised s (f ∷ t ∷ r) h = rw (user-kept s (t + 128) (f ∷ t ∷ r)) refl
-
-pub octets-raised : (m : ℕ) (t : Transfer Kept) → octetsOf m (raiseTransfer t) ≡ raised (octetsOf m t)
-octets-raised m t = refl
 
 -- ---- lists of records
 

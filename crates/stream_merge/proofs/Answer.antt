@@ -2,8 +2,8 @@
 use mathlib.Core.Bool.{Bool, false}
 use mathlib.Core.List.{List, [], _∷_, _++_}
 use mathlib.Core.Option.{none, some}
-use mathlib.Core.Path.{_≡_, refl, sym, ap, ap₂, _∙_}
-use Prim.Native.Nat.{ℕ, _+_, _*_, _/_, _≤_, _<_}
+use mathlib.Core.Path.{_≡_, refl, sym, ap₂, _∙_}
+use Prim.Native.Nat.{ℕ, _+_, _/_, _≤_, _<_}
 use native.Mathlib.Nat.{mul-div-cancel}
 use native.Mathlib.Omega.{arith}
 use borrow.Author.Tests.{lt-ltb}
@@ -22,7 +22,7 @@ use Rattle.stream_spec.proofs.Passed.{take-passed, checks-passed, passed-shape,
 use Rattle.stream_spec.proofs.Size.{size-pos}
 use Rattle.merge_spec.specs.declared.Merged.the-variants.{Records, Refused}
 use Rattle.merge_spec.specs.Merge.{mergedRecords, merged}
-use Rattle.merge_spec.specs.Answers.{Named, naming, portChecks, mergeRefusal, PortsMerged}
+use Rattle.merge_spec.specs.Answers.{Named, naming, portChecks, PortsMerged}
 use Rattle.merge_spec.proofs.Refusals.{named, naming-first, second, third, fourth, roomed, after-take, after-other, after-firsts, after-seconds, after-all, merged-refused, merged-written}
 use Rattle.merge_spec.proofs.Faults.{faultless-low}
 use Rattle.merge_spec.proofs.Merge.{merged-long, merged-both}

@@ -1,24 +1,20 @@
 -- One record copied, eight octets at a time, and port 1's TID in the copy. Assumes nothing.
-use mathlib.Core.Bool.{true, false}
 use mathlib.Core.List.{List, _++_}
-use mathlib.Core.Path.{_≡_, refl, sym, ap, ap₂, _∙_}
+use mathlib.Core.Path.{_≡_, sym, ap, _∙_}
 use Prim.Native.Nat.{ℕ, _+_, _≤_, _<_}
 use native.Mathlib.Omega.{arith}
 use lib.ListN.{length, getD, take, drop, set, length-set, length-drop}
 use lib.Seq.{take-all, take-add, take-take, length-take-le, set-append-left}
 use Rattle.words.specs.Splice.{splice}
-use Rattle.words.proofs.Splice.{splice-long, splice-over}
+use Rattle.words.proofs.Splice.{splice-over}
 use Rattle.stream_spec.specs.Memory.{inFront}
-use Rattle.merge_spec.specs.Merge.{tidAdded, tid, raised}
+use Rattle.merge_spec.specs.Merge.{raised}
 
 -- the first j octets of the record stand in the output
 abbrev pub copied : List ℕ → List ℕ → ℕ → List ℕ
 copied rec out j = splice 0 (take j rec) out
 
 module _ (rec out : List ℕ) (room : length rec ≤ length out) where
-  pub copied-long : (j : ℕ) → j ≤ length rec → length (copied rec out j) ≡ length out
-  copied-long j h = splice-long 0 (take j rec) out (omega (arith, length-take-le j rec h))
-
   -- eight octets more, from octet a on: those that stand there already are written once more
   pub copied-more : (a j : ℕ) → a ≤ j → j ≤ a + 8 → a + 8 ≤ length rec
       → splice a (take 8 (drop a rec)) (copied rec out j) ≡ copied rec out (a + 8)

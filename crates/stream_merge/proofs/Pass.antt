@@ -2,7 +2,7 @@
 -- Assumes nothing.
 use mathlib.Core.Bool.{Bool, true, false, not}
 use mathlib.Core.List.{List, [], _∷_, _++_, map}
-use mathlib.Core.Path.{_≡_, refl, sym, ap, ap₂, _∙_}
+use mathlib.Core.Path.{_≡_, refl, sym, ap, _∙_}
 use Prim.Native.Nat.{ℕ, _+_, _-_, _%_, _≤_, _<_}
 use native.Mathlib.Omega.{arith}
 use borrow.Author.Tests.{ltb-true, ltb-false, leb-false}
@@ -19,7 +19,7 @@ use Rattle.merge_spec.specs.Merge.{tidAdded, tid, raised, highTid}
 use Rattle.merge_spec.proofs.Turns.{All, goes-first, goes-second, skip-first, skip-second, goes-no-first}
 use Rattle.merge_spec.proofs.Tags.{raised-long, raised-last}
 use Rattle.stream_merge.specs.declared.Turn.{Turn}
-use Rattle.stream_merge.specs.Merging.{sentAs, Picks, pickedFrom, whoseTurn, turnBehind, Ready, Passes, leftOf}
+use Rattle.stream_merge.specs.Merging.{sentAs, pickedFrom, whoseTurn, turnBehind, Ready, Passes, leftOf}
 
 pub sent-long : (port1 : Bool) (r : List ℕ) → length (sentAs port1 r) ≡ length r
 sent-long true r = raised-long r
