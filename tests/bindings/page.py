@@ -1,4 +1,4 @@
-"""The examples of two pages, run from top to bottom as they stand there: each answers what the page prints below it, and each page
+"""The examples of three pages, run from top to bottom as they stand there: each answers what the page prints below it, and each page
 has one of every answer that is named here. It is run from the project's root with bindings/python on PYTHONPATH. The last line is
 'N passed, M failed'."""
 import doctest
@@ -11,6 +11,9 @@ PAGES = {
     "docs/FOLLOWING-USER-BITS.md": {
         "two records": "StreamAnswer(refusal=0, rule=0, place=0, count=2)", "R3": "StreamAnswer(refusal=0, rule=3,",
         "padding": "StreamAnswer(refusal=3,"},
+    "docs/TWO-CAMERAS.md": {
+        "merged": "MergeAnswer(refusal=0, port=0, place=0, count=5)", "17": "MergeAnswer(refusal=17, port=0, place=1,",
+        "3 of port 1": "MergeAnswer(refusal=3, port=1,", "2 of port 1": "MergeAnswer(refusal=2, port=1,", "5": "MergeAnswer(refusal=5, port=0,"},
 }
 
 
