@@ -36,10 +36,13 @@ lastOf r = tlast r
 
 -- ---- whose turn it is
 
--- the port that has the turn has a record of z octets left
-pub record Picks (z : ℕ) (xs ys : List ℕ) (t : Turn) : Type 0 where
-  pub list0 : t .port1 ≡ false → t .at0 + z ≤ length xs
-  pub list1 : t .port1 ≡ true → t .at1 + z ≤ length ys
+-- the port that has the turn has a record of z octets left, in lists of so many octets
+pub record TurnFits (z n0 n1 : ℕ) (t : Turn) : Type 0 where
+  pub list0 : t .port1 ≡ false → t .at0 + z ≤ n0
+  pub list1 : t .port1 ≡ true → t .at1 + z ≤ n1
+
+abbrev pub Picks : ℕ → List ℕ → List ℕ → Turn → Type 0
+Picks z xs ys t = TurnFits z (length xs) (length ys) t
 
 abbrev pub pickedFrom : ℕ → List ℕ → List ℕ → Turn → List ℕ
 pickedFrom z xs ys t = cond (t .port1) (recordAt ys (t .at1) z) (recordAt xs (t .at0) z)
@@ -47,11 +50,6 @@ pickedFrom z xs ys t = cond (t .port1) (recordAt ys (t .at1) z) (recordAt xs (t 
 -- "A port with nothing left is skipped."
 abbrev pub whoseTurn : Bool → Bool → Bool → Bool
 whoseTurn wanted left0 left1 = cond wanted left1 (not left0)
-
--- the same of numbers: n0 and n1 are the octets of the lists
-pub record TurnFits (z n0 n1 : ℕ) (t : Turn) : Type 0 where
-  pub list0 : t .port1 ≡ false → t .at0 + z ≤ n0
-  pub list1 : t .port1 ≡ true → t .at1 + z ≤ n1
 
 -- behind a record that is the last of its turn, or is not
 abbrev pub turnBehind : ℕ → Bool → ℕ → ℕ → Turn → Turn
