@@ -20,8 +20,8 @@
  *   octet 3, 4  TKEEP, low octet first; octet 5, 6 TSTRB, the same way; bits at or above width are zero
  *   octet 7 on  data of lane 0, lane 1, up to width - 1
  *   then        user bits, low octet first: those of lane x are bits x * user to x * user + user - 1; bits at or above
- *               width * user are zero. A null lane may have any in a record that is read, and has zeros where urd_repack
- *               wrote it; where user is 0 there are no such octets
+ *               width * user are zero. A null lane may have any in a record that is read, and has zeros where urd_repack or
+ *               urd_downsize wrote it; where user is 0 there are no such octets
  * A take of write beats is records of 1 + bus/8 octets, bus/8 rounded up, at most 65,536 octets in all, too:
  *   octet 0     bit 0 WLAST; the other bits are zero
  *   octet 1 on  WSTRB, low octet first, lane 0 in the lowest bit; bits at or above bus are zero
@@ -44,7 +44,7 @@ extern "C" {
 #define URD_FIELD 3     /* a bit that must be zero is set, or TDEST is above 15 */
 #define URD_RESERVED 4  /* a transfer record has a lane with TKEEP low and TSTRB high */
 #define URD_ROOM 5      /* the lent output, or the lent row, is shorter than the answer */
-/* 6 was RATIO, of downsizing, which T-09 withdrew: it is never given again, and no other refusal gets its number. */
+#define URD_RATIO 6     /* downsizing: v does not divide width */
 #define URD_BUS 7       /* bus is none of 1, 2, 4, 8, 16, 32, 64, 128 */
 #define URD_SIZE 8      /* AxSIZE is above 7, or a beat is wider than the bus */
 #define URD_TYPE 9      /* kind is 3 or more */
@@ -56,7 +56,6 @@ extern "C" {
 #define URD_SHEET 15    /* the setup sheet is not as it must be: the report only */
 #define URD_USERBITS 16 /* user is above 4 */
 #define URD_TAGS 17     /* merging: a transfer record has a TID of 128 or more */
-#define URD_RETIRED 18  /* the setup sheet has mode=lanes, which T-09 withdrew, and no fault: the report only */
 
 /* The kinds of a burst, AxBURST. */
 #define URD_FIXED 0
@@ -133,7 +132,7 @@ urd_write_answer urd_judge_writes(uint32_t start, uint32_t len, uint32_t size, u
 
 /* ---- streams ---- */
 
-/* width and user say what a record is, above; urd_repack and urd_merge read and write records of the same user. The number `user`
+/* width and user say what a record is, above; urd_repack, urd_downsize and urd_merge read and write records of the same user. The number `user`
  * is there since T-06: what a program compiled before asks is refused with 1 or 16, so compile it anew, with user 0. */
 
 /* What a stream call answers. */
@@ -173,11 +172,16 @@ urd_stream_answer urd_fill_in(size_t width, size_t user, uint8_t *capture, size_
 /* Writes the packed form, at width v, of a stream of transfer records: count of records. Data and position bytes keep their user
  * bits. No legal stream of v lanes and the same user that carries the same data and position bytes, user bits and packet ends, each with
  * its TID and TDEST, in the same order, has fewer records (T-07). No result is longer than 377,424 octets: 2,621 records of 16 items with
- * a user bit each, to records of one lane. A file that lane-keeping downsizing wrote before T-09 is a stream of transfer records like any
- * other, and repacking it gives what repacking its original gives, where both are at most 65,536 octets.
+ * a user bit each, to records of one lane.
  * Refusals: 1 (either width), 16, 2, then record by record 3 and 4 (place: the record), 5.
  * Lent memory: `out` gets the records and is unchanged after them; refused, it is unchanged. */
 urd_stream_answer urd_repack(size_t width, size_t user, size_t v, const uint8_t *input, size_t input_length, uint8_t *out, size_t out_length);
+
+/* Cuts each transfer record into width/v records of width v, lane by lane, nulls kept: count of records. Data and position bytes keep
+ * their user bits. 377,424 octets are always enough, as for urd_repack.
+ * Refusals: 1 (either width), 16, 6, 2, then record by record 3 and 4 (place: the record), 5.
+ * Lent memory: `out` gets the records and is unchanged after them; refused, it is unchanged. */
+urd_stream_answer urd_downsize(size_t width, size_t user, size_t v, const uint8_t *input, size_t input_length, uint8_t *out, size_t out_length);
 
 /* What urd_merge answers. The rule of its refusals is always 0, so it has no field. */
 typedef struct urd_merge_answer {
@@ -225,8 +229,8 @@ typedef struct urd_report_answer {
 
 /* The report on cycle records by a setup sheet. `sheet_read` and `capture_read` are 0 where the file can't be read, else not.
  * In the sheet `tlast=none` fills in high and `tlast=low` low; before T-03 `none` was low. Since T-06 each sheet has a fifth line,
- * `user=0` to `user=9`, and one of four lines is refused (15). Since T-09 one with `mode=lanes` is refused (18): `mode=pack` is the only mode.
- * Refusals: 15, 18, 1 (either width), 16, 2 (a capture that can't be read, too), 3 (place: the record), 5.
+ * `user=0` to `user=9`, and one of four lines is refused (15).
+ * Refusals: 15, 1 (either width), 16, 6 (lanes mode), 2 (a capture that can't be read, too), 3 (place: the record), 5.
  * Lent memory: `out` gets the result if clean, `text` the report's lines if they fit; nothing else in them changes. */
 urd_report_answer urd_report(const uint8_t *sheet, size_t sheet_length, uint32_t sheet_read, const uint8_t *capture, size_t capture_length, uint32_t capture_read, uint8_t *out, size_t out_length, uint8_t *text, size_t text_length);
 

@@ -1,7 +1,6 @@
 /* Paper 01's bench cases P1, S1 to S7 and B1 to B6 through C, with every answer and every octet typed from the paper;
- * then cuts, write beats, user bits, merging and what lane-keeping downsizing left (paper 02, T-02, T-05, T-06, T-08 and T-09),
- * the layout of the structs, the refusals that no bench case gives, and numbers at the edges.
- * It is run from the project's root, because it reads the folder examples/archive.
+ * then cuts, write beats, user bits and merging (paper 02, T-02, T-05, T-06 and T-08), the layout of the structs, the refusals
+ * that no bench case gives, and numbers at the edges.
  * The last line is 'N passed, M failed'. A case passes if all its checks do. */
 #include "urdhvasolk.h"
 
@@ -168,11 +167,8 @@ static void report_refusals(void)
     reports(SHEET, 1, TAKE, 1, 17, 128, room, "verdict=refused\nrefusal=5\nat=0\n", "", "one octet too few");
 }
 
-#define S1 "01 01 02 07 00 05 00 11 00 44 00"
-#define S2 "00 01 02 01 00 01 00 11 00 01 01 02 03 00 02 00 00 44" /* P1's transfer as lane-keeping downsizing sliced it */
-
-static void s1(void) { writes(urd_repack, 4, 0, 4, TRANSFER, 1, S1); }
-static void s2(void) { writes(urd_repack, 2, 0, 4, S2, 1, S1); }
+static void s1(void) { writes(urd_repack, 4, 0, 4, TRANSFER, 1, "01 01 02 07 00 05 00 11 00 44 00"); }
+static void s2(void) { writes(urd_downsize, 4, 0, 2, TRANSFER, 2, "00 01 02 01 00 01 00 11 00 01 01 02 03 00 02 00 00 44"); }
 static void s3(void) { writes(urd_repack, 1, 0, 1, ITEM " " END_ONLY, 1, "01 00 00 01 00 01 00 AA"); }
 static void s4(void) { writes(urd_repack, 1, 0, 1, END_ONLY " " END_ONLY, 2, END_ONLY " " END_ONLY); }
 static void s5(void) { writes(urd_repack, 1, 0, 1, "00 00 00 00 00 00 00 00", 0, ""); }
@@ -481,6 +477,7 @@ static void user_bits(void)
     stream_is(urd_judge(4, 2, take, length), 0, 0, 0, 2, "judged clean, 2 transfers");
     writes(harvest, 4, 2, 4, TAKE TAGS, 1, TRANSFER TAGS);
     writes(urd_repack, 4, 2, 2, TRANSFER TAGS, 2, "00 01 02 03 00 01 00 11 00 09 01 01 02 01 00 01 00 44 00 03");
+    writes(urd_downsize, 4, 2, 2, TRANSFER TAGS, 2, "00 01 02 01 00 01 00 11 00 01 01 01 02 03 00 02 00 00 44 0E");
     writes(urd_repack, 3, 3, 2, "00 01 02 05 00 01 00 11 22 33 B9 01 01 01 02 01 00 01 00 44 55 66 05 00", 2,
            "00 01 02 03 00 01 00 11 00 31 01 01 02 01 00 01 00 44 00 05");
     urd_part_answer a = urd_data_octets(4, 2, take, length, 1);
@@ -550,6 +547,7 @@ static void user_refusals(void)
         refuses(harvest, 1, user[i], 1, "02 00 00 00 00 00 00 00", URD_USERBITS, 0, 0, "16 before 14");
         refuses(urd_repack, 1, user[i], 17, ITEM, URD_WIDTH, 0, 0, "1 of the width out before 16");
         refuses(urd_repack, 1, user[i], 1, "02", URD_USERBITS, 0, 0, "repack");
+        refuses(urd_downsize, 4, user[i], 3, "", URD_USERBITS, 0, 0, "16 before 6");
     }
     stream_is(urd_judge(16, 4, take, 0), 0, 0, 0, 0, "4 are allowed");
 }
@@ -565,6 +563,7 @@ static void user_report(void)
     reports(USER_SHEET("4", "2", "pack", "2"), 1, TAKE TAGS, 1, 20, 128, clean, "verdict=clean\ntransfers=1\npackets=1\nrecords=2\n",
             "00 01 02 03 00 01 00 11 00 09 01 01 02 01 00 01 00 44 00 03", "P1 with user bits");
     reports(USER_SHEET("4", "2", "pack", "5"), 1, TAKE TAGS, 0, 20, 128, user, no_user, "", "16 before 2");
+    reports(USER_SHEET("4", "3", "lanes", "9"), 1, TAKE TAGS, 1, 20, 128, user, no_user, "", "16 before 6");
     reports(USER_SHEET("17", "2", "pack", "5"), 1, TAKE TAGS, 1, 20, 128, width, no_width, "", "1 before 16");
     reports(USER_SHEET("4", "2", "pack", "10"), 1, TAKE TAGS, 1, 20, 128, sheet, no_sheet, "", "two digits");
     reports("width_in=4\nwidth_out=2\nmode=pack\ntlast=wired\n", 1, TAKE, 1, 20, 128, sheet, no_sheet, "", "a sheet of four lines");
@@ -781,81 +780,6 @@ static void merge_longest(void)
     merge_is(urd_merge(1, 0, first, 65536, second, 65536, out, 131072), URD_FIELD, 0, 8191, 0, "3 in the last one of port 0");
 }
 
-/* ---- what lane-keeping downsizing left (paper 02, T-09) ---- */
-
-#define S2_TAGS "00 01 02 01 00 01 00 11 00 01 01 01 02 03 00 02 00 00 44 0E" /* the slices of TRANSFER TAGS */
-#define ARCHIVE "examples/archive/"
-
-/* A record of four lanes with three items and its slices of two, to every width and into rooms of every length: the same numbers and octets. */
-static void alike(size_t user, const char *original, const char *sliced)
-{
-    uint8_t record[12], slices[20], room[2][32];
-    size_t record_length = octets_of(original, record), slices_length = octets_of(sliced, slices);
-    for (size_t v = 1; v <= 16; v++)
-        for (size_t lent = 0; lent <= sizeof room[0]; lent++) {
-            memset(room, TAIL, sizeof room);
-            urd_stream_answer a = urd_repack(4, user, v, record, record_length, room[0], lent);
-            stream_is(urd_repack(2, user, v, slices, slices_length, room[1], lent), a.refusal, 0, 0, a.count, "the same numbers");
-            check(memcmp(room[0], room[1], sizeof room[0]) == 0, "the same octets");
-            check(lent < sizeof room[0] || a.count == (3 + v - 1) / v, "three items");
-        }
-}
-
-static void slices_repack(void)
-{
-    alike(0, TRANSFER, S2);
-    alike(2, TRANSFER TAGS, S2_TAGS);
-    writes(urd_repack, 2, 2, 4, S2_TAGS, 1, S1 " 39");
-}
-
-static size_t file_octets(const char *name, uint8_t *to, size_t most)
-{
-    FILE *file = fopen(name, "rb");
-    size_t n = file == NULL ? 0 : fread(to, 1, most, file);
-    if (file != NULL)
-        fclose(file);
-    return n;
-}
-
-/* An old folder: its out.bin repacked is what the report gives on its take with mode=pack. */
-static void archived_folder(void)
-{
-    const char *sheet = USER_SHEET("4", "4", "pack", "0"), *result = S1 " 01 01 02 0F 00 0F 00 21 22 23 24";
-    uint8_t take[64], old[64], out[64], text[128];
-    size_t take_length = file_octets(ARCHIVE "take.bin", take, sizeof take), old_length = file_octets(ARCHIVE "out.bin", old, sizeof old);
-    check(take_length == 5 * 11 && old_length == 6 * 9, "both files are there");
-    memset(out, TAIL, sizeof out);
-    urd_report_answer a = urd_report((const uint8_t *)sheet, strlen(sheet), 1, take, take_length, 1, out, sizeof out, text, sizeof text);
-    check(a.verdict == URD_CLEAN && a.transfers == 3 && a.packets == 2 && a.records == 2 && a.octets == 2 * 11, "the take with mode=pack");
-    room_is(out, sizeof out, result, "its result");
-    memset(out, TAIL, sizeof out);
-    stream_is(urd_repack(2, 0, 4, old, old_length, out, sizeof out), 0, 0, 0, 2, "out.bin repacked");
-    room_is(out, sizeof out, result, "the same octets");
-}
-
-/* mode=lanes in a sheet without a fault is 18, whatever widths, user bits, take and room are; a sheet with a fault is 15 as before. */
-static void lanes_retired(void)
-{
-    static const char *const lanes[] = {USER_SHEET("4", "2", "lanes", "0"), USER_SHEET("17", "2", "lanes", "0"), USER_SHEET("4", "0", "lanes", "0"),
-                                        USER_SHEET("4", "3", "lanes", "0"), USER_SHEET("4", "2", "lanes", "9"), USER_SHEET("0", "99", "lanes", "9"),
-                                        "width_in=4\nwidth_out=2\nmode=lanes\ntlast=none\nuser=0\n", "width_in=4\nwidth_out=2\nmode=lanes\ntlast=low\nuser=0\n"};
-    static const char *const faulty[] = {USER_SHEET("4", "2", "lanes", "10"), USER_SHEET("4", "2", "lanes", ""), USER_SHEET("04", "2", "lanes", "0"),
-                                         USER_SHEET("4", "2", "lane", "0"), "width_in=4\nwidth_out=2\nmode=lanes\ntlast=wired\n"};
-    static const char *const takes[] = {TAKE, TAKE " 00", "1F 01 02 0D 00 09 00 11 22 33 44", "0A 01 02 0D 00 09 00 11 22 33 44 " TAKE, ""};
-    const urd_report_answer retired = {URD_REFUSED, URD_RETIRED, 0, 0, 0, 0, 0, 0, 0}, sheet = {URD_REFUSED, URD_SHEET, 0, 0, 0, 0, 0, 0, 0};
-    const char *told = "verdict=refused\nrefusal=18\nat=0\n", *no_sheet = "verdict=refused\nrefusal=15\nat=0\n";
-    for (size_t t = 0; t < sizeof takes / sizeof takes[0]; t++)
-        for (size_t room = 0; room <= 128; room += 128)
-            for (uint32_t read = 0; read < 2; read++) {
-                for (size_t i = 0; i < sizeof lanes / sizeof lanes[0]; i++)
-                    reports(lanes[i], 1, takes[t], read, room, 128, retired, told, "", lanes[i]);
-                for (size_t i = 0; i < sizeof faulty / sizeof faulty[0]; i++)
-                    reports(faulty[i], 1, takes[t], read, room, 128, sheet, no_sheet, "", faulty[i]);
-            }
-    reports(lanes[0], 0, TAKE, 1, 128, 128, sheet, no_sheet, "", "a sheet with it that can't be read");
-    reports(lanes[0], 1, TAKE, 1, 128, strlen(told) - 1, retired, "", "", "no room for the text");
-}
-
 /* ---- what no bench case shows ---- */
 
 /* A field's offset and its octets. */
@@ -974,7 +898,9 @@ static void findings(void)
 static void refusals(void)
 {
     refuses(urd_repack, 2, 0, 17, FIELD " 00", URD_WIDTH, 0, 0, "1 before 2 and 3");
-    refuses(urd_repack, 2, 0, 1, FIELD " 00", URD_LENGTH, 0, 0, "2 before 3");
+    refuses(urd_downsize, 2, 0, 0, FIELD " 00", URD_WIDTH, 0, 0, "1 before 6");
+    refuses(urd_downsize, 2, 0, 3, FIELD " 00", URD_RATIO, 0, 0, "6 before 2");
+    refuses(urd_downsize, 2, 0, 1, FIELD " 00", URD_LENGTH, 0, 0, "2 before 3");
     refuses(urd_repack, 2, 0, 1, GOOD " " FIELD, URD_FIELD, 0, 1, "3 before 4 in record 1");
     refuses(urd_repack, 2, 0, 1, GOOD " " RESERVED " " FIELD, URD_RESERVED, 0, 1, "4 of an earlier record");
     refuses(harvest, 1, 0, 1, "02 00 00 00 00 00 00 00 10 00 00 00 00 00 00 00", URD_FIELD, 0, 1, "3 before 14");
@@ -995,6 +921,7 @@ static void edges(void)
         stream_is(urd_fill_in(width[i], 0, over, 8, 1), URD_WIDTH, 0, 0, 0, "fill-in");
         stream_is(urd_repack(width[i], 0, 1, over, 8, out, 8), URD_WIDTH, 0, 0, 0, "repack from");
         stream_is(urd_repack(1, 0, width[i], over, 8, out, 8), URD_WIDTH, 0, 0, 0, "repack to");
+        stream_is(urd_downsize(width[i], 0, width[i], over, 8, out, 8), URD_WIDTH, 0, 0, 0, "downsize");
         merge_is(urd_merge(width[i], 0, over, 8, over, 0, out, 8), URD_WIDTH, 0, 0, 0, "merge");
         merge_is(urd_merge(1, width[i] | 5, over, 8, over, 0, out, 8), URD_USERBITS, 0, 0, 0, "merge, user bits of 5 and more");
     }
@@ -1053,9 +980,6 @@ static void run_requests(void)
     run("T-08, each bit of a record", merge_bits);
     run("T-08, refusals", merge_refusals);
     run("T-08, the longest", merge_longest);
-    run("T-09, slices repack as their original", slices_repack);
-    run("T-09, the archived folder", archived_folder);
-    run("T-09, mode=lanes", lanes_retired);
 }
 
 int main(void)

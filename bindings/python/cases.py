@@ -1,7 +1,6 @@
 """Paper 01's bench cases P1, S1 to S7 and B1 to B6 through Python, typed from the paper; then what no bench case shows.
 
-It is run from the project's root, because it reads the folder examples/archive. The last line is 'N passed, M failed'. A case
-passes if all its checks do.
+The last line is 'N passed, M failed'. A case passes if all its checks do.
 """
 import sys
 
@@ -77,10 +76,6 @@ def report(verdict, text, refusal=0, rule=0, place=0, counts=(0, 0, 0), result="
     return urd.ReportAnswer(verdict, refusal, rule, place, *counts, text, octets(result))
 
 
-def refused(number, place=0):
-    return report(urd.REFUSED, f"verdict=refused\nrefusal={number}\nat={place}\n", refusal=number, place=place)
-
-
 @case("P1, the report")
 def _():
     told = "verdict=clean\ntransfers=1\npackets=1\nrecords=2\n"
@@ -90,6 +85,8 @@ def _():
 
 @case("the report refused, and broken")
 def _():
+    def refused(number, place=0):
+        return report(urd.REFUSED, f"verdict=refused\nrefusal={number}\nat={place}\n", refusal=number, place=place)
     same(urd.report(None, octets(TAKE)), refused(urd.SHEET), "no sheet")
     same(urd.report(b"width_in=4\n", None), refused(urd.SHEET), "a sheet of one line, no take")
     same(urd.report(SHEET, None), refused(urd.LENGTH), "no take")
@@ -97,22 +94,19 @@ def _():
     same(urd.report(SHEET, octets(TAKE + "1" + TAKE[1:])), refused(urd.FIELD, 1), "a field of record 1")
     broken = report(urd.BROKEN, "verdict=broken\ncycle=1\nrule=3\n", rule=3, place=1)
     same(urd.report(SHEET, octets("0A" + TAKE[2:] + TAKE)), broken, "TLAST changed while waiting")
-    wide = b"width_in=16\nwidth_out=1\nmode=pack\ntlast=none\nuser=0\n"
-    same(urd.report(wide, octets("0E 00 00 FF FF FF FF" + " 00" * 16) * 513), refused(urd.ROOM), "a result of 65,664 octets")
-
-
-S1 = "01 01 02 07 00 05 00 11 00 44 00"
-S2 = "00 01 02 01 00 01 00 11 00 01 01 02 03 00 02 00 00 44"  # P1's transfer as lane-keeping downsizing sliced it
+    wide = b"width_in=16\nwidth_out=1\nmode=lanes\ntlast=none\nuser=0\n"
+    same(urd.report(wide, octets("0E" + " 00" * 22) * 513), refused(urd.ROOM), "a result of 65,664 octets")
 
 
 @case("S1")
 def _():
-    packs(4, 4, TRANSFER, 1, S1)
+    packs(4, 4, TRANSFER, 1, "01 01 02 07 00 05 00 11 00 44 00")
 
 
 @case("S2")
 def _():
-    packs(2, 4, S2, 1, S1)
+    result = "00 01 02 01 00 01 00 11 00 01 01 02 03 00 02 00 00 44"
+    writes(lambda out: urd.downsize(4, 0, 2, octets(TRANSFER), out), 2, result)
 
 
 @case("S3")
@@ -351,6 +345,8 @@ def _():
     same(urd.judge(4, 2, take), stream(count=2), "judged")
     writes(lambda out: urd.harvest(4, 2, octets(TAKE + TAGS), out), 1, TRANSFER + TAGS)
     packs(4, 2, TRANSFER + TAGS, 2, "00 01 02 03 00 01 00 11 00 09 01 01 02 01 00 01 00 44 00 03", user=2)
+    result = "00 01 02 01 00 01 00 11 00 01 01 01 02 03 00 02 00 00 44 0E"
+    writes(lambda out: urd.downsize(4, 2, 2, octets(TRANSFER + TAGS), out), 2, result)
     packs(3, 2, "00 01 02 05 00 01 00 11 22 33 B9 01 01 01 02 01 00 01 00 44 55 66 05 00", 2,
           "00 01 02 03 00 01 00 11 00 31 01 01 02 01 00 01 00 44 00 05", user=3)
     same(urd.data_octets(4, 2, take, 1), urd.PartAnswer(0, 19, 4), "data octets without the user bits")
@@ -389,6 +385,7 @@ def _():
         same(urd.fill_in(1, user, bytearray(), True), refused, f"fill-in, {user}")
         same(urd.repack(1, user, 17, b"", bytearray()), stream(urd.WIDTH), f"1 of the width out before 16, {user}")
         same(urd.repack(1, user, 16, b"", bytearray()), refused, f"repack, {user}")
+        same(urd.downsize(4, user, 3, b"", bytearray()), refused, f"16 before 6, {user}")
         same(urd.data_octets(1, user, b"", 0), urd.PartAnswer(urd.USERBITS, 0, 0), f"16 before 13, {user}")
     told = "verdict=clean\ntransfers=1\npackets=1\nrecords=2\n"
     result = "00 01 02 03 00 01 00 11 00 09 01 01 02 01 00 01 00 44 00 03"
@@ -544,45 +541,6 @@ def _():
     same(room, result, "merged in place")
 
 
-@case("T-09, slices repack as their original")
-def _():
-    tagged = "00 01 02 01 00 01 00 11 00 01 01 01 02 03 00 02 00 00 44 0E"  # the slices of TRANSFER + TAGS
-    packs(2, 4, tagged, 1, S1 + "39", user=2)
-    for user, original, sliced in ((0, TRANSFER, S2), (2, TRANSFER + TAGS, tagged)):
-        for v in range(1, 17):
-            for size in range(33):
-                rooms = [bytearray([TAIL] * size) for _ in range(2)]
-                answer = urd.repack(4, user, v, octets(original), rooms[0])
-                same((urd.repack(2, user, v, octets(sliced), rooms[1]), rooms[1]), (answer, rooms[0]), f"to width {v}, room {size}")
-            same(answer, stream(count=(3 + v - 1) // v), f"three items to width {v}")
-
-
-def archive(name):
-    with open(f"examples/archive/{name}", "rb") as file:
-        return file.read()
-
-
-@case("T-09, the archived folder")
-def _():
-    told, result = "verdict=clean\ntransfers=3\npackets=2\nrecords=2\n", S1 + "01 01 02 0F 00 0F 00 21 22 23 24"
-    sheet = SHEET.replace(b"width_out=2", b"width_out=4")
-    same(urd.report(sheet, archive("take.bin")), report(urd.CLEAN, told, counts=(3, 2, 2), result=result), "the take with mode=pack")
-    writes(lambda out: urd.repack(2, 0, 4, archive("out.bin"), out), 2, result)
-
-
-@case("T-09, mode=lanes")
-def _():
-    lanes = SHEET.replace(b"mode=pack", b"mode=lanes")
-    changes = ((b"", b""), (b"in=4", b"in=17"), (b"out=2", b"out=0"), (b"out=2", b"out=3"), (b"wired", b"low"), (b"user=0", b"user=9"))
-    faults = ((b"user=0", b"user=10"), (b"user=0\n", b""), (b"in=4", b"in=04"), (b"lanes", b"lane"))
-    for take in (octets(TAKE), octets(TAKE + "00"), octets("1" + TAKE[1:]), octets("0A" + TAKE[2:] + TAKE), bytes(65537), b"", None):
-        for old, new in changes:
-            same(urd.report(lanes.replace(old, new, 1), take), refused(urd.RETIRED), f"mode=lanes, {new}")
-        for old, new in faults:
-            same(urd.report(lanes.replace(old, new, 1), take), refused(urd.SHEET), f"15 before 18, {new}")
-    same((hasattr(urd, "downsize"), hasattr(urd, "RATIO")), (False, False), "withdrawn")
-
-
 @case("findings and UNCLEAN")
 def _():
     cycle = " 00 00 01 00 01 00 55"
@@ -618,6 +576,7 @@ def _():
         same(urd.judge(wide, 0, octets(TAKE)), stream(urd.WIDTH), f"judge {wide}")
         same(urd.repack(wide, 0, 1, b"", bytearray()), stream(urd.WIDTH), f"repack from {wide}")
         same(urd.repack(1, 0, wide, b"", bytearray()), stream(urd.WIDTH), f"repack to {wide}")
+        same(urd.downsize(wide, 0, wide, b"", bytearray()), stream(urd.WIDTH), f"downsize {wide}")
         same(urd.fill_in(wide, 0, bytearray(), True), stream(urd.WIDTH), f"fill-in {wide}")
     for big in (-1, 2**32 - 1, 2**32 + 1, 2**64 + 1):
         same(urd.burst_judge(0, 0, 0, 1, big), burst(urd.BUS), f"bus {big}")

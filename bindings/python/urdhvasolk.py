@@ -14,10 +14,8 @@ import operator
 import os
 from collections import namedtuple
 
-WIDTH, LENGTH, FIELD, RESERVED, ROOM = range(1, 6)
-# 6 was RATIO, of downsizing, which T-09 withdrew: it is never given again, and no other refusal gets its number.
-BUS, SIZE, TYPE, COUNT, ALIGN, FENCE, INDEX, UNCLEAN, SHEET = range(7, 16)
-USERBITS, TAGS, RETIRED = 16, 17, 18
+WIDTH, LENGTH, FIELD, RESERVED, ROOM, RATIO, BUS, SIZE, TYPE, COUNT, ALIGN, FENCE, INDEX, UNCLEAN, SHEET = range(1, 16)
+USERBITS, TAGS = 16, 17
 FIXED, INCR, WRAP = range(3)
 CLEAN, BROKEN, REFUSED = range(3)
 
@@ -86,6 +84,7 @@ _judge = _call("urd_judge", _Stream, *_shape, *_input)
 _harvest = _call("urd_harvest", _Stream, *_shape, *_input, *_lent)
 _fill_in = _call("urd_fill_in", _Stream, *_shape, *_lent, _u32)
 _repack = _call("urd_repack", _Stream, *_shape, _size, *_input, *_lent)
+_downsize = _call("urd_downsize", _Stream, *_shape, _size, *_input, *_lent)
 _merge = _call("urd_merge", _Merge, *_shape, *_input, *_input, *_lent)
 _data_octets = _call("urd_data_octets", _Part, *_shape, *_input, _size)
 _report = _call("urd_report", _Report, *_input, _u32, *_input, _u32, *_lent, *_lent)
@@ -187,14 +186,22 @@ def fill_in(width, user, capture, level):
     return _plain(StreamAnswer, _fill_in(*_sizes(width, user), ctypes.addressof(lent), len(lent), high))
 
 
+def _convert(function, width, user, v, octets, out):
+    octets, lent = _read(octets), _lend(out)
+    answer = function(*_sizes(width, user, v), octets, len(octets), ctypes.addressof(lent), len(lent))
+    return _plain(StreamAnswer, answer)
+
+
 def repack(width, user, v, octets, out):
     """Writes the packed form at width v of transfer records into out, each byte with its user bits: count of records, the least
     of any legal stream of width v and the same user that carries the same bytes, user bits and packet ends, with their TIDs and
-    TDESTs, in the same order (T-07). 377,424 octets are always enough. What lane-keeping downsizing wrote before T-09 are transfer
-    records like any other. Refusals 1, 16, 2, 3, 4, 5."""
-    octets, lent = _read(octets), _lend(out)
-    answer = _repack(*_sizes(width, user, v), octets, len(octets), ctypes.addressof(lent), len(lent))
-    return _plain(StreamAnswer, answer)
+    TDESTs, in the same order (T-07). 377,424 octets are always enough. Refusals 1, 16, 2, 3, 4, 5."""
+    return _convert(_repack, width, user, v, octets, out)
+
+
+def downsize(width, user, v, octets, out):
+    """Cuts transfer records into width/v records each, lane by lane, into out. Refusals 1, 16, 6, 2, 3, 4, 5."""
+    return _convert(_downsize, width, user, v, octets, out)
 
 
 def merge(width, user, first, second, out):
@@ -222,8 +229,7 @@ def _file(octets):
 def report(sheet, take):
     """The report on a take by its setup sheet, each None where it can't be read: verdict and numbers, the lines as a str, and
     the octets of the result, none unless clean. In the sheet tlast=none fills in high, tlast=low low; before T-03 none was low.
-    Since T-06 a sheet has a fifth line, user=0 to user=9; since T-09 one with mode=lanes is refused. Refusals 15, 18, 1, 16, 2, 3, 5,
-    the last for a result above 65,536 octets."""
+    Since T-06 a sheet has a fifth line, user=0 to user=9. Refusals 15, 1, 16, 6, 2, 3, 5, the last for a result above 65,536 octets."""
     out, text = bytearray(65536), bytearray(128)
     lent_out, lent_text = _lend(out), _lend(text)
     a = _report(*_file(sheet), *_file(take), ctypes.addressof(lent_out), len(out), ctypes.addressof(lent_text), len(text))

@@ -55,9 +55,9 @@ static void fill(int kind, int bad)
         take[i] |= 14; /* TVALID, TREADY, ARESETn */
 }
 
-static void write_sheet(const char *tlast)
+static void write_sheet(int lanes, const char *tlast)
 {
-    sheet_length = (size_t)snprintf((char *)sheet, sizeof sheet, "width_in=%zu\nwidth_out=%zu\nmode=pack\ntlast=%s\nuser=%zu\n", w, v, tlast, m);
+    sheet_length = (size_t)snprintf((char *)sheet, sizeof sheet, "width_in=%zu\nwidth_out=%zu\nmode=%s\ntlast=%s\nuser=%zu\n", w, v, lanes ? "lanes" : "pack", tlast, m);
 }
 
 /* Write beats of one byte each, of each kind of burst, on a bus of 1 to 128 bytes: clean ones of DATA, else as many as a take can have.
@@ -86,6 +86,7 @@ static uint32_t harvest(void) { return urd_harvest(w, m, take, length, lent.octe
 static uint32_t fill_in(void) { return urd_fill_in(w, m, take, length, (uint32_t)v % 2).refusal; }
 static uint32_t data_octets(void) { return urd_data_octets(w, m, take, length, v).refusal; }
 static uint32_t repack(void) { return urd_repack(w, m, v, transfers, length, lent.octets, sizeof lent.octets).refusal; }
+static uint32_t downsize(void) { return urd_downsize(w, m, v, transfers, length, lent.octets, sizeof lent.octets).refusal; }
 static uint32_t merge(void) { return urd_merge(w, m, transfers, length - v % 2 * record_size(), transfers, length, lent.octets, sizeof lent.octets).refusal; }
 static uint32_t report(void) { return urd_report(sheet, sheet_length, 1, take, length, 1, lent.octets, sizeof lent.octets, text, sizeof text).refusal; }
 static uint32_t burst_judge(void) { return urd_burst_judge(64, 15, 2, (uint32_t)v % 3, 4).refusal; }
@@ -96,7 +97,7 @@ static uint32_t judge_writes(void) { return urd_judge_writes(0, burst_len(), 0, 
 
 /* limit: which argument of the program is the call's. */
 static const struct { const char *name; uint32_t (*call)(void); int limit; } calls[] = {
-    {"urd_report", report, 1}, {"urd_repack", repack, 2}, {"urd_judge", judge, 3},
+    {"urd_report", report, 1}, {"urd_repack", repack, 2}, {"urd_downsize", downsize, 3}, {"urd_judge", judge, 3},
     {"urd_harvest", harvest, 3}, {"urd_fill_in", fill_in, 3}, {"urd_data_octets", data_octets, 3},
     {"urd_burst_judge", burst_judge, 3}, {"urd_burst_beat", burst_beat, 3}, {"urd_burst_step", burst_step, 3}, {"urd_axi3_cut", axi3_cut, 3},
     {"urd_judge_writes", judge_writes, 3}, {"urd_merge", merge, 3},
@@ -133,17 +134,17 @@ static void measure(void)
     pthread_attr_destroy(&attributes);
 }
 
-/* One input at some widths out; the report with each word for TLAST. */
+/* One input at some widths out; the report in both modes, with each word for TLAST. */
 static void measure_widths(int kind, int bad)
 {
     static const size_t widths[] = {1, 2, 3, 8, 9, 16};
     static const char *const words[] = {"wired", "none", "low"};
     for (size_t i = 0; i < sizeof widths / sizeof widths[0]; i++)
-        for (int word = 0; word < (asked == report ? 3 : 1); word++) {
+        for (int sheets = 0; sheets < (asked == report ? 6 : 1); sheets++) {
             v = widths[i];
             fill(kind, bad);
             fill_beats(kind, bad);
-            write_sheet(words[word]);
+            write_sheet(sheets % 2, words[sheets / 2]);
             measure();
         }
 }

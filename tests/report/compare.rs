@@ -148,7 +148,7 @@ fn main() {
     }
     if only.is_none() {
         let rules = [1, 2, 3, 4].map(|n| format!("broken by rule {n}"));
-        let refusals = [1, 2, 3, 5, 15, 16, 18].map(|n| format!("refused {n}"));
+        let refusals = [1, 2, 3, 5, 6, 15, 16].map(|n| format!("refused {n}"));
         let others = ["clean", "clean with 65536 octets", "nothing printed, out.bin can't be written"].map(String::from);
         let every: Vec<&str> = rules.iter().chain(&refusals).chain(&others).map(String::as_str).collect();
         t.show_verdicts(&every);

@@ -18,15 +18,14 @@ struct Maker { r: Random, group: &'static str, list: Vec<Folder> }
 const WORDS: [&str; 3] = ["wired", "none", "low"]; // T-03's, in a sheet's fourth line
 const USERS: [usize; 8] = [0, 0, 0, 0, 1, 2, 3, 4]; // T-06's user bits to a byte, in its fifth
 const P1_TAKE: [u8; 11] = [0x0F, 1, 2, 0x0D, 0, 9, 0, 0x11, 0x22, 0x33, 0x44];
-const ARCHIVED: [u8; 18] = [0, 1, 2, 1, 0, 1, 0, 0x11, 0, 1, 1, 2, 3, 0, 2, 0, 0, 0x44]; // paper 01's case S2, made from P1 by the word that T-09 retired
 
 pub fn all(seed: u64) -> Vec<Folder> {
     let mut m = Maker { r: Random(seed.max(1)), group: "", list: Vec::new() };
-    let parts: [(&'static str, fn(&mut Maker)); 16] = [
+    let parts: [(&'static str, fn(&mut Maker)); 15] = [
         ("P1, and out.bin there before", p1), ("sheets: every octet", sheet_octets), ("sheets: lines", sheet_lines),
         ("sheets: values", sheet_values), ("widths", widths), ("files that are no files", files), ("lengths", lengths),
         ("each field bit", field_bits), ("user and padding bits", user_bits), ("rules", rules), ("TLAST moves during a wait", moving), ("room", rooms),
-        ("room for each word", rooms_of_words), ("the retired word", retired), ("several faults at once", orders), ("random takes", random),
+        ("room for each word", rooms_of_words), ("several faults at once", orders), ("random takes", random),
     ];
     for (group, make) in parts {
         m.group = group;
@@ -61,7 +60,7 @@ fn of_lines(values: [&str; 5]) -> Vec<u8> {
 /// Paper 01's own sheet, and the longest good one, each with a good take.
 fn good(m: &mut Maker) -> [(Vec<u8>, Vec<u8>); 2] {
     let wide = cycles(&mut m.r, 16, 4, 3);
-    [(sheet(4, 2, "pack", "wired", 0), P1_TAKE.to_vec()), (sheet(16, 16, "pack", "wired", 4), wide)]
+    [(sheet(4, 2, "pack", "wired", 0), P1_TAKE.to_vec()), (sheet(16, 16, "lanes", "wired", 4), wide)]
 }
 
 fn p1(m: &mut Maker) {
@@ -75,33 +74,18 @@ fn p1(m: &mut Maker) {
     }
 }
 
-/// All octets of the good sheets; of the other words and numbers only from their line on, since the lines before are P1's. Of the
-/// retired mode its own line: the lines behind it are P1's, too.
+/// All octets of the good sheets; of the other words and numbers only from their line on, since the lines before are P1's.
 fn sheet_octets(m: &mut Maker) {
-    for (good, take) in good(m) { from_octet(m, &good, 0, &take); }
+    for (good, take) in good(m) { each_octet(m, &good, 0, &take); }
     let line = sheet(4, 2, "pack", "", 0).len() - b"tlast=\nuser=0\n".len();
-    for tlast in ["none", "low"] { from_octet(m, &sheet(4, 2, "pack", tlast, 0), line, &P1_TAKE); }
-    from_octet(m, &sheet(4, 2, "pack", "wired", 5), line + b"tlast=wired\n".len(), &[&P1_TAKE[..], &[0x0E]].concat());
-    let mode = line - b"mode=pack\n".len();
-    each_octet(m, &sheet(4, 2, "lanes", "wired", 0), mode..mode + b"mode=lanes\n".len(), &P1_TAKE);
+    for tlast in ["none", "low"] { each_octet(m, &sheet(4, 2, "pack", tlast, 0), line, &P1_TAKE); }
+    each_octet(m, &sheet(4, 2, "pack", "wired", 5), line + b"tlast=wired\n".len(), &[&P1_TAKE[..], &[0x0E]].concat());
 }
 
-/// Each octet from there on, the end too; and octets behind the sheet.
-fn from_octet(m: &mut Maker, good: &[u8], from: usize, take: &[u8]) {
-    each_octet(m, good, from..good.len() + 1, take);
-    for octets in (good.len() + 1..=70).chain([127, 128, 129, 255, 256, 257, 4096, 65_535, 65_536, 65_537, 100_000]) {
-        for tail in *b"\n0\0" {
-            let mut long = good.to_vec();
-            long.resize(octets, tail);
-            m.files(&long, take);
-        }
-    }
-}
-
-/// Each of these octets left out, doubled, exchanged with the next, each bit of it changed, something put before it, and the sheet
-/// cut off there.
-fn each_octet(m: &mut Maker, good: &[u8], octets: std::ops::Range<usize>, take: &[u8]) {
-    for at in octets {
+/// Each octet from there on left out, doubled, exchanged with the next, each bit of it changed,
+/// something put before it, and the sheet cut off there; and octets behind the sheet.
+fn each_octet(m: &mut Maker, good: &[u8], from: usize, take: &[u8]) {
+    for at in from..=good.len() {
         m.files(&good[..at], take);
         for put in *b"\n\r \0=04a" { m.files(&[&good[..at], &[put], &good[at..]].concat(), take); }
         if at == good.len() { continue; }
@@ -114,6 +98,13 @@ fn each_octet(m: &mut Maker, good: &[u8], octets: std::ops::Range<usize>, take: 
             let mut other = good.to_vec();
             other[at] ^= 1 << bit;
             m.files(&other, take);
+        }
+    }
+    for octets in (good.len() + 1..=70).chain([127, 128, 129, 255, 256, 257, 4096, 65_535, 65_536, 65_537, 100_000]) {
+        for tail in *b"\n0\0" {
+            let mut long = good.to_vec();
+            long.resize(octets, tail);
+            m.files(&long, take);
         }
     }
 }
@@ -171,10 +162,10 @@ fn sheet_values(m: &mut Maker) {
     }
 }
 
-/// Every pair of widths, every third one in the retired mode too, with some word and some number of user bits, perhaps too many.
+/// Every pair of widths, in both modes, with some word and some number of user bits, perhaps too many.
 fn widths(m: &mut Maker) {
     for (w, v) in (0..=18).flat_map(|w| (0..=18).map(move |v| (w, v))) {
-        for mode in ["pack", "lanes"].into_iter().take(if (w + v) % 3 == 0 { 2 } else { 1 }) {
+        for mode in ["pack", "lanes"] {
             let (tlast, user) = (m.r.pick(&WORDS), m.r.pick(&USERS));
             let take = cycles(&mut m.r, w.clamp(1, 16), user, 6);
             let user = if m.r.one_in(6) { 5 + m.r.below(5) } else { user };
@@ -188,7 +179,7 @@ fn files(m: &mut Maker) {
     let odd = |own| [Missing, Entry::Folder, Link("/dev/null"), Link("/dev/zero"), Link("/proc/self/mem"), Link(own),
         File(vec![]), File(vec![0; MOST_OCTETS + 1])];
     let sheets = [sheet(4, 2, "pack", "wired", 0), sheet(4, 2, "lanes", "none", 0), sheet(4, 2, "pack", "low", 0), sheet(17, 2, "pack", "wired", 5),
-        sheet(4, 0, "pack", "none", 0), sheet(17, 3, "lanes", "low", 5), sheet(4, 3, "pack", "low", 5), sheet(4, 2, "pack", "wired", 1), b"width_in=4\n".to_vec()];
+        sheet(4, 0, "pack", "none", 0), sheet(4, 3, "lanes", "low", 4), sheet(4, 3, "lanes", "low", 5), sheet(4, 2, "pack", "wired", 1), b"width_in=4\n".to_vec()];
     let broken = [P1_TAKE.to_vec(), [&[0x06], &P1_TAKE[1..]].concat()].concat();
     let takes = [P1_TAKE.to_vec(), broken, [&[0x1F], &P1_TAKE[1..]].concat()].map(File);
     for setup in odd("setup.txt").into_iter().chain(sheets.map(File)) {
@@ -312,7 +303,7 @@ fn rules(m: &mut Maker) {
             next[bit / 8] ^= 1 << (bit % 8);
             let (n, tlast) = (m.r.below(4), m.r.pick(&["wired", "wired", "none", "low"]));
             let before = full(&mut m.r, w, user, n, false);
-            m.files(&sheet(w, 1, "pack", tlast, user), &[before, wait, next].concat());
+            m.files(&sheet(w, 1, "lanes", tlast, user), &[before, wait, next].concat());
         }
     }
     for (w, flags) in [1, 2, 8, 9, 16].into_iter().flat_map(|w| (0..16).map(move |flags| (w, flags))) {
@@ -339,13 +330,13 @@ fn moving(m: &mut Maker) {
             cycle[0] = flags | (levels >> at & 1);
             take.extend(&cycle);
         }
-        let v = m.r.pick(&[w, 16, 1]);
-        for tlast in WORDS { m.files(&sheet(w, v, "pack", tlast, user), &take); }
+        let (v, mode) = m.r.pick(&[(w, "pack"), (16, "pack"), (1, "lanes")]);
+        for tlast in WORDS { m.files(&sheet(w, v, mode, tlast, user), &take); }
     }
 }
 
-/// Results of just 65,536 octets, or as near below as records of that width come, and of one more; for every pair of widths.
-/// Without a wire the take's own TLAST is the other level, so that only the filled take has this result.
+/// Results of just 65,536 octets, or as near below as records of that width come, and of one more; for every pair of widths,
+/// and sliced by lanes. Without a wire the take's own TLAST is the other level, so that only the filled take has this result.
 fn rooms(m: &mut Maker) {
     for (w, v) in (1..=16).flat_map(|w| (1..=16).map(move |v| (w, v))) {
         let user = m.r.pick(&USERS);
@@ -363,6 +354,11 @@ fn rooms(m: &mut Maker) {
                 full(&mut m.r, w, user, most / w.div_ceil(v) + more, last)
             };
             m.files(&sheet(w, v, "pack", tlast, user), &take);
+            if w % v == 0 {
+                let (last, tlast) = (m.r.one_in(2), m.r.pick(&WORDS));
+                let take = full(&mut m.r, w, user, most / (w / v) + more, last);
+                m.files(&sheet(w, v, "lanes", tlast, user), &take);
+            }
         }
     }
 }
@@ -384,44 +380,11 @@ fn rooms_of_words(m: &mut Maker) {
     }
 }
 
-/// Takes of four lanes without user bits: what can't be read, over-long ones, an odd length, a wrong field, each rule broken, a result
-/// that is over-long at every width but 4, one that was archived, and clean ones.
-fn takes(m: &mut Maker) -> Vec<Entry> {
-    let p1 = |flags: u8, at: usize, octet: u8| { let mut cycle = P1_TAKE; (cycle[0], cycle[at]) = (flags, octet); cycle.to_vec() };
-    let wait = p1(0x0B, 1, 1);
-    let good = [P1_TAKE.to_vec(), Vec::new(), cycles(&mut m.r, 4, 0, 20)];
-    let over = [vec![0; MOST_OCTETS + 1], P1_TAKE.repeat(5_958), full(&mut m.r, 4, 0, 5_957, true)];
-    let broken = [p1(0x07, 1, 1), [wait.clone(), p1(0x09, 1, 1)].concat(), [wait, p1(0x0F, 7, 0x12)].concat(), p1(0x0F, 5, 0x0B)];
-    let others = [P1_TAKE[..10].to_vec(), p1(0x1F, 1, 1), p1(0x0F, 2, 0x10), ARCHIVED.to_vec()];
-    let unread = [Missing, Entry::Folder, Link("/dev/zero"), Link("take.bin")];
-    unread.into_iter().chain(good.into_iter().chain(over).chain(broken).chain(others).map(File)).collect()
-}
-
-/// T-09: the retired word with each other fault beside it is 18, and with a fault in its own sheet, four lines among them, 15. The
-/// out.bin there before may be the archived one that the word made.
-fn retired(m: &mut Maker) {
-    let outs = [File(ARCHIVED.to_vec()), Missing, File(vec![0x5B; 300]), Entry::Folder];
-    for (i, take) in takes(m).into_iter().enumerate() {
-        for (k, (w, v)) in [(4, 2), (4, 4), (4, 3), (0, 2), (4, 0), (17, 2), (4, 99)].into_iter().enumerate() {
-            for user in [0, 5] {
-                let setup = File(sheet(w, v, "lanes", WORDS[(i + k) % 3], user));
-                let part = if k % 3 == 2 { File(b"left behind".to_vec()) } else { Missing };
-                m.list.push(Folder { group: m.group, setup, take: take.clone(), out: outs[(i + k + user) % 4].clone(), part });
-            }
-        }
-        let five = sheet(4, 2, "lanes", WORDS[i % 3], 0);
-        let four = &five[..five.len() - b"user=0\n".len()];
-        for text in [four, &[four, b"user=10\n"].concat(), &[four, b"user=0"].concat(), &[b"0", &five[..]].concat()] {
-            m.list.push(Folder { group: m.group, setup: File(text.to_vec()), take: take.clone(), out: outs[i % 4].clone(), part: Missing });
-        }
-    }
-}
-
 /// Each fault is there or not, so that their order shows.
 fn orders(m: &mut Maker) {
     for _ in 0..800 {
         let mut faulty = || m.r.one_in(3);
-        let (bad_sheet, bad_width, bad_user, lanes) = (faulty() && faulty(), faulty() && faulty(), faulty() && faulty(), faulty() && faulty());
+        let (bad_sheet, bad_width, bad_user, bad_ratio) = (faulty() && faulty(), faulty() && faulty(), faulty() && faulty(), faulty());
         let (bad_length, bad_field, broken, too_long) = (faulty(), faulty(), faulty(), faulty());
         let (w, user) = (m.r.pick(&[4, 8, 16]), m.r.pick(&USERS));
         let size = record_octets(w, user);
@@ -430,8 +393,8 @@ fn orders(m: &mut Maker) {
         if broken { take[m.r.pick(&[0, last])] = 2; }
         if bad_field { take[m.r.pick(&[2, last + 2])] = 16; }
         if bad_length { take.push(0); }
-        let v = if bad_width { m.r.pick(&[0, 17, 99]) } else { m.r.pick(&[1, 3]) };
-        let mode = if lanes { "lanes" } else { "pack" };
+        let v = if bad_width { m.r.pick(&[0, 17, 99]) } else if bad_ratio { 3 } else { 1 };
+        let mode = m.r.pick(&["pack", "lanes"]);
         let tlast = if bad_sheet { m.r.pick(&["high", "Low", "lo"]) } else { m.r.pick(&WORDS) };
         let user = if bad_user { 5 + m.r.below(5) } else { user };
         m.files(&sheet(w, v, mode, tlast, user), &take);
@@ -443,7 +406,7 @@ fn random(m: &mut Maker) {
         let (w, user, n) = (1 + m.r.below(16), m.r.pick(&USERS), m.r.below(60));
         let v = if m.r.one_in(2) { 1 + m.r.below(16) } else { m.r.pick(&[w, 1, w.div_ceil(2), w / 2 + 1]) };
         let mut take = cycles(&mut m.r, w, user, n);
-        let (mode, tlast) = (if m.r.one_in(12) { "lanes" } else { "pack" }, m.r.pick(&WORDS));
+        let (mode, tlast) = (m.r.pick(&["pack", "pack", "lanes"]), m.r.pick(&WORDS));
         if tlast != "wired" { for cycle in take.chunks_mut(record_octets(w, user)) { cycle[0] ^= m.r.below(2) as u8; } } // any level, without a wire
         if m.r.one_in(3) { damage(&mut m.r, w, user, &mut take); }
         m.files(&sheet(w, v, mode, tlast, user), &take);

@@ -1,7 +1,7 @@
-//! The second program's report: paper 01, "The report program", with the words of T-03, the line of T-06
-//! and the word that T-09 withdrew, done plainly. Written from the papers alone, over the stream model of
-//! tests/second. Which file can't be read, or written, is the comparer's business.
-use crate::stream::{self, LENGTH, MOST_OCTETS, RETIRED, ROOM, StreamAnswer, UNCLEAN};
+//! The second program's report: paper 01, "The report program", with the words of T-03 and the line of
+//! T-06, done plainly. Written from the papers alone, over the stream model of tests/second. Which file
+//! can't be read, or written, is the comparer's business.
+use crate::stream::{self, LENGTH, MOST_OCTETS, ROOM, StreamAnswer, UNCLEAN};
 
 pub const SHEET: u32 = 15;
 
@@ -9,9 +9,9 @@ pub const SHEET: u32 = 15;
 pub struct Report { pub text: String, pub out: Option<Vec<u8>> }
 
 /// `fill` is the level that TLAST is filled in with, high or low; a wired port has none.
-struct Sheet { width_in: usize, width_out: usize, retired: bool, fill: Option<bool>, user: usize }
+struct Sheet { width_in: usize, width_out: usize, lanes: bool, fill: Option<bool>, user: usize }
 
-const MODES: [(&str, bool); 2] = [("pack", false), ("lanes", true)]; // whether the word is retired
+const MODES: [(&str, bool); 2] = [("pack", false), ("lanes", true)];
 const TLASTS: [(&str, Option<bool>); 3] = [("wired", None), ("none", Some(true)), ("low", Some(false))];
 
 /// 0 up to that number, no leading zeros.
@@ -28,7 +28,7 @@ fn sheet(octets: &[u8]) -> Option<Sheet> {
     Some(Sheet {
         width_in: number(width_in.strip_prefix("width_in=")?, 99)?,
         width_out: number(width_out.strip_prefix("width_out=")?, 99)?,
-        retired: word(mode.strip_prefix("mode=")?, &MODES)?,
+        lanes: word(mode.strip_prefix("mode=")?, &MODES)?,
         fill: word(tlast.strip_prefix("tlast=")?, &TLASTS)?,
         user: number(user.strip_prefix("user=")?, 9)?,
     })
@@ -45,18 +45,18 @@ fn not_clean(a: StreamAnswer) -> Report {
 
 fn refused(refusal: u32) -> StreamAnswer { StreamAnswer { refusal, ..StreamAnswer::default() } }
 
-/// SHEET first of all, then RETIRED, WIDTH, USERBITS, LENGTH, FIELD, broken, and ROOM last.
+/// SHEET first of all, then WIDTH, USERBITS, RATIO, LENGTH, FIELD, broken, and ROOM last.
 fn clean(sheet_octets: Option<&[u8]>, take: Option<&[u8]>) -> Result<Report, StreamAnswer> {
     let s = sheet_octets.and_then(sheet).ok_or(refused(SHEET))?;
-    if s.retired { return Err(refused(RETIRED)); }
-    stream::check_widths(&[s.width_in, s.width_out], s.user)?;
+    let convert = if s.lanes { stream::downsize_plan } else { stream::repack_plan };
+    convert(s.width_in, s.user, s.width_out, &[])?; // WIDTH, USERBITS and RATIO, as of an empty stream
     let mut take = take.ok_or(refused(LENGTH))?.to_vec();
     if let Some(high) = s.fill {
         let filled = stream::fill_in(s.width_in, s.user, &mut take, high);
         if filled.refusal != 0 { return Err(filled); }
     }
     let harvest = stream::harvest_plan(s.width_in, s.user, &take)?;
-    let out = stream::repack_plan(s.width_in, s.user, s.width_out, &harvest)?;
+    let out = convert(s.width_in, s.user, s.width_out, &harvest)?;
     if out.len() > MOST_OCTETS { return Err(refused(ROOM)); }
     let text = format!(
         "verdict=clean\ntransfers={}\npackets={}\nrecords={}\n",

@@ -17,6 +17,7 @@ pub struct StreamCalls {
     pub fill_in: FillInCall,
     pub data_octets: fn(usize, usize, &[u8], usize) -> (StreamAnswer, [u64; 2]),
     pub repack: ConvertCall,
+    pub downsize: ConvertCall,
 }
 
 pub type ConvertCall = fn(usize, usize, usize, &[u8], &mut [u8]) -> StreamAnswer;
@@ -218,11 +219,11 @@ fn fill_ins(t: &mut Tally, fill_in: FillInCall) {
 }
 
 pub const P1_TAKE: &str = "0F 01 02 0D 00 09 00 11 22 33 44";
-pub const P1_TRANSFER: &str = "01 01 02 0D 00 09 00 11 22 33 44";
-pub const S1: &str = "01 01 02 07 00 05 00 11 00 44 00";
+const P1_TRANSFER: &str = "01 01 02 0D 00 09 00 11 22 33 44";
 const END_ONLY: &str = "01 00 00 00 00 00 00 00"; // the second record of S3
 
 pub fn streams(t: &mut Tally, c: &StreamCalls) {
+    let p1 = hex(P1_TRANSFER);
     let pack = |t: &mut Tally, w: usize, v: usize, input: &str, count: u64, octets: &str| {
         writes(t, |out| (c.repack)(w, 0, v, &hex(input), out), count, octets)
     };
@@ -237,7 +238,8 @@ pub fn streams(t: &mut Tally, c: &StreamCalls) {
         fills(t, c.fill_in, 4, 0, &take, 1, &low);
         fills(t, c.fill_in, 4, 1, &low, 1, &take);
     });
-    t.group("case S1", |t| pack(t, 4, 4, P1_TRANSFER, 1, S1));
+    t.group("case S1", |t| pack(t, 4, 4, P1_TRANSFER, 1, "01 01 02 07 00 05 00 11 00 44 00"));
+    t.group("case S2", |t| writes(t, |out| (c.downsize)(4, 0, 2, &p1, out), 2, "00 01 02 01 00 01 00 11 00 01 01 02 03 00 02 00 00 44"));
     t.group("case S3", |t| pack(t, 1, 1, &format!("00 00 00 01 00 01 00 AA {END_ONLY}"), 1, "01 00 00 01 00 01 00 AA"));
     t.group("case S4", |t| pack(t, 1, 1, &format!("{END_ONLY} {END_ONLY}"), 2, &format!("{END_ONLY} {END_ONLY}")));
     t.group("case S5", |t| pack(t, 1, 1, "00 00 00 00 00 00 00 00", 0, ""));
@@ -268,9 +270,10 @@ pub fn streams(t: &mut Tally, c: &StreamCalls) {
         let good = "00 00 00 03 00 03 00 11 22";
         let field = "02 00 00 00 00 03 00 11 22"; // octet 0 wrong, both lanes reserved
         let reserved = "00 00 00 01 00 03 00 11 22";
-        let calls: [(&str, fn(&StreamCalls, &[u8]) -> StreamAnswer, String, StreamAnswer); 10] = [
-            ("repack 2 to 0", |c, i| (c.repack)(2, 0, 0, i, &mut []), format!("{field} 00"), refused(1, 0, 0)),
-            ("repack 2 to 3", |c, i| (c.repack)(2, 0, 3, i, &mut []), format!("{field} 00"), refused(2, 0, 0)),
+        let calls: [(&str, fn(&StreamCalls, &[u8]) -> StreamAnswer, String, StreamAnswer); 11] = [
+            ("downsize 2 to 0", |c, i| (c.downsize)(2, 0, 0, i, &mut []), format!("{field} 00"), refused(1, 0, 0)),
+            ("downsize 2 to 3", |c, i| (c.downsize)(2, 0, 3, i, &mut []), format!("{field} 00"), refused(6, 0, 0)),
+            ("downsize 2 to 1", |c, i| (c.downsize)(2, 0, 1, i, &mut []), format!("{field} 00"), refused(2, 0, 0)),
             ("repack 2 to 17", |c, i| (c.repack)(2, 0, 17, i, &mut []), format!("{field} 00"), refused(1, 0, 0)),
             ("3 before 4 in a record", |c, i| (c.repack)(2, 0, 1, i, &mut []), format!("{good} {field}"), refused(3, 1, 0)),
             ("4 of an earlier record", |c, i| (c.repack)(2, 0, 1, i, &mut []), format!("{good} {reserved} {field}"), refused(4, 1, 0)),

@@ -1,7 +1,6 @@
 //! The self test: the model against the papers' own cases and formulas.
 #![allow(dead_code)]
 mod cases;
-mod cases_archive;
 mod cases_fewest;
 mod cases_merge;
 mod cases_user;
@@ -153,9 +152,8 @@ fn packing_twice(t: &mut Tally, r: &mut Random, m: usize) {
     let once = model::packed(v, m, &list);
     t.same(model::items(v, m, &once), list.clone(), || format!("items after packing, user bits {m}, {stream:02x?}"));
     t.same(model::packed(u, m, &model::items(v, m, &once)), model::packed(u, m, &list), || format!("{w} {v} {u}, user bits {m}, {stream:02x?}"));
-    if w % v == 0 {
-        let sliced = model::slices(w, m, v, &stream);
-        t.same(model::items(v, m, &sliced), list, || format!("items after slicing {w} to {v}, user bits {m}, {stream:02x?}"));
+    if let Ok(sliced) = model::downsize_plan(w, m, v, &stream) {
+        t.same(model::items(v, m, &sliced), list, || format!("items after downsizing {w} to {v}, user bits {m}, {stream:02x?}"));
     }
 }
 
@@ -177,11 +175,10 @@ fn main() {
         fill_in: |w, m, take, level| model::fill_in(w, m, take, level != 0),
         data_octets: model::data_octets,
         repack: model::repack,
+        downsize: model::downsize,
     };
     cases::streams(&mut t, &calls);
     cases_user::users(&mut t, &calls);
-    cases_archive::definition(&mut t, model::slices);
-    cases_archive::files(&mut t, calls.repack);
     cases_fewest::all(&mut t, calls.repack);
     cases_merge::merges_of(&mut t, |w, m, [first, second], out| model_merge::merge(w, m, [first, second], out));
     t.group("pseudo code and formulas agree", |t| for _ in 0..20_000 {
@@ -194,8 +191,8 @@ fn main() {
             t.check((-1920..=128).contains(&step) && (step >= 0 || b.kind == WRAP), || format!("{b:?} step {step}"));
         }
     });
-    t.group("packing twice, and slicing first, change nothing", |t| for _ in 0..2_000 { packing_twice(t, &mut r, 0) });
-    t.seeded_group("T-06 packing twice, and slicing first, change nothing", |t, r| for round in 0..4_000 { packing_twice(t, r, 1 + round % 4) });
+    t.group("packing twice, and downsizing first, change nothing", |t| for _ in 0..2_000 { packing_twice(t, &mut r, 0) });
+    t.seeded_group("T-06 packing twice, and downsizing first, change nothing", |t, r| for round in 0..4_000 { packing_twice(t, r, 1 + round % 4) });
     cut_bursts(&mut t, &mut r);
     masks_of_bursts(&mut t, &mut r);
     write_beats(&mut t, &mut r);

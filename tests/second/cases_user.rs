@@ -5,10 +5,10 @@ use crate::model::StreamAnswer;
 use crate::tally::{Random, Tally};
 
 /// The octets of a record.
-pub fn size(w: usize, m: usize) -> usize { 7 + w + (w * m + 7) / 8 }
+fn size(w: usize, m: usize) -> usize { 7 + w + (w * m + 7) / 8 }
 
 /// A conversion: width, user bits, output width, the transfers, and the records written. A `|` stands between records.
-pub type Hand = (usize, usize, usize, &'static str, &'static str);
+type Hand = (usize, usize, usize, &'static str, &'static str);
 
 // P1's transfer (data 11, null, position, data 44) with the lanes' bits 0 1 1 1; 1 2 3 0; 7 5 2 6; 8 F 4 1.
 const P1_1: &str = "01 01 02 0D 00 09 00 11 22 33 44 0E";
@@ -72,8 +72,7 @@ const PACKED: [Hand; 35] = [
     (1, 4, 2, "00 00 00 01 00 01 00 77 0F 01 00 00 01 00 01 00 78 06", "01 00 00 03 00 03 00 77 78 6F"),
 ];
 
-/// T-09: no call makes these any more; they are cases of the definition, and archived files.
-pub const SLICED: [Hand; 14] = [
+const SLICED: [Hand; 14] = [
     (4, 1, 2, P1_1, "00 01 02 01 00 01 00 11 00 00 | 01 01 02 03 00 02 00 00 44 03"),
     (4, 1, 4, P1_1, "01 01 02 0D 00 09 00 11 00 00 44 0C"),
     (4, 2, 2, P1_2, "00 01 02 01 00 01 00 11 00 01 | 01 01 02 03 00 02 00 00 44 03"),
@@ -90,12 +89,9 @@ pub const SLICED: [Hand; 14] = [
     (1, 3, 1, END_ONLY, "01 07 00 00 00 00 00 00 00"),
 ];
 
-/// The octets of records with a `|` between them.
-pub fn octets(records: &str) -> Vec<u8> { hex(&records.replace('|', " ")) }
-
-pub fn converts(t: &mut Tally, call: ConvertCall, (w, m, v, input, output): Hand) {
+fn converts(t: &mut Tally, call: ConvertCall, (w, m, v, input, output): Hand) {
     let count = output.split('|').filter(|record| !record.is_empty()).count() as u64;
-    writes(t, |out| call(w, m, v, &octets(input), out), count, &output.replace('|', " "));
+    writes(t, |out| call(w, m, v, &hex(input), out), count, &output.replace('|', " "));
 }
 
 /// Two cycles: width, user bits, both, and (refusal, place, rule, count) of judging.
@@ -117,7 +113,7 @@ const FINDINGS: [Finding; 12] = [
 ];
 
 fn finds(t: &mut Tally, c: &StreamCalls, (w, m, cycles, (refusal, place, rule, count)): Finding) {
-    let take = octets(cycles);
+    let take = hex(&cycles.replace('|', " "));
     t.same((c.judge)(w, m, &take), StreamAnswer { refusal, rule, place, count }, || format!("judge {w}, user bits {m}, {cycles}"));
     if count > 0 { return; }
     let refusal = if refusal == 0 { 14 } else { refusal };
@@ -142,10 +138,10 @@ fn other_calls(t: &mut Tally, c: &StreamCalls) {
 
 /// Refusals of every call in order: widths, user bits and what all of them give on two octets, which are no record of any shape.
 fn in_order(t: &mut Tally, c: &StreamCalls) {
-    for (w, m, v, cycles, pack) in [
-        (17, 5, 3, 1, 1), (0, 5, 3, 1, 1), (4, 5, 17, 16, 1), (4, 5, 0, 16, 1), (17, 4, 3, 1, 1), (4, 4, 17, 2, 1),
-        (17, usize::MAX, 17, 1, 1), (4, usize::MAX, 17, 16, 1), (4, 5, 3, 16, 16), (4, usize::MAX, 3, 16, 16),
-        (16, 1 << 60, 3, 16, 16), (4, 5, 2, 16, 16), (4, 4, 3, 2, 2), (4, 4, 2, 2, 2), (4, 0, 3, 2, 2),
+    for (w, m, v, cycles, pack, slice) in [
+        (17, 5, 3, 1, 1, 1), (0, 5, 3, 1, 1, 1), (4, 5, 17, 16, 1, 1), (4, 5, 0, 16, 1, 1), (17, 4, 3, 1, 1, 1), (4, 4, 17, 2, 1, 1),
+        (17, usize::MAX, 17, 1, 1, 1), (4, usize::MAX, 17, 16, 1, 1), (4, 5, 3, 16, 16, 16), (4, usize::MAX, 3, 16, 16, 16),
+        (16, 1 << 60, 3, 16, 16, 16), (4, 5, 2, 16, 16, 16), (4, 4, 3, 2, 2, 6), (4, 4, 2, 2, 2, 2), (4, 0, 3, 2, 2, 6),
     ] {
         let refused = |refusal| StreamAnswer { refusal, ..Default::default() };
         let text = || format!("{w} to {v}, user bits {m}");
@@ -155,10 +151,13 @@ fn in_order(t: &mut Tally, c: &StreamCalls) {
         for level in [0, 1] { fill_leaves(t, c.fill_in, w, m, level, &two, refused(cycles), &two); }
         t.same((c.data_octets)(w, m, &two, 9), (refused(cycles), [0, 0]), text);
         t.same((c.repack)(w, m, v, &two, &mut []), refused(pack), text);
+        t.same((c.downsize)(w, m, v, &two, &mut []), refused(slice), text);
     }
     let (reserved, both, good) = ("00 00 00 00 00 01 00 55 01", "00 00 00 00 00 01 00 55 02", "00 00 00 01 00 01 00 55 01");
     for (records, refusal, place) in [(format!("{good} {both}"), 3, 1), (format!("{reserved} {both}"), 4, 0), (good.to_string(), 5, 0)] {
-        t.same((c.repack)(1, 1, 1, &hex(&records), &mut []), StreamAnswer { refusal, place, ..Default::default() }, || records.clone());
+        for call in [c.repack, c.downsize] {
+            t.same(call(1, 1, 1, &hex(&records), &mut []), StreamAnswer { refusal, place, ..Default::default() }, || records.clone());
+        }
     }
 }
 
@@ -179,8 +178,8 @@ fn padding(t: &mut Tally, c: &StreamCalls) {
         for (bit, at) in (w * m..8 * (size(w, m) - 7 - w)).flat_map(|bit| (0..3).map(move |at| (bit, at))) {
             let bad = all_high(w, m, at, 1 << bit);
             let field = StreamAnswer { refusal: 3, place: at as u64, ..Default::default() };
-            let got = [(c.judge)(w, m, &bad), (c.harvest)(w, m, &bad, &mut []), (c.repack)(w, m, 1, &bad, &mut [])];
-            t.same(got, [field; 3], text);
+            let got = [(c.judge)(w, m, &bad), (c.harvest)(w, m, &bad, &mut []), (c.repack)(w, m, 1, &bad, &mut []), (c.downsize)(w, m, 1, &bad, &mut [])];
+            t.same(got, [field; 4], text);
             t.same((c.data_octets)(w, m, &bad, at).0, StreamAnswer::default(), text);
             t.same((c.fill_in)(w, m, &mut bad.clone(), 1), StreamAnswer { count: 3, ..Default::default() }, text);
         }
@@ -195,11 +194,8 @@ fn numbers(record: &[u8], w: usize) -> (u16, u16, u64) {
     (u16::from_le_bytes([record[3], record[4]]), u16::from_le_bytes([record[5], record[6]]), user)
 }
 
-/// TKEEP, TSTRB, octet and user bits of a lane.
-pub type Lane = (bool, bool, u8, u64);
-
-/// Each lane of all records.
-pub fn lanes(w: usize, m: usize, stream: &[u8]) -> Vec<Lane> {
+/// (TKEEP, TSTRB, octet, bits) of each lane of all records.
+fn lanes(w: usize, m: usize, stream: &[u8]) -> Vec<(bool, bool, u8, u64)> {
     stream.chunks(size(w, m)).flat_map(|record| {
         let (keep, strb, user) = numbers(record, w);
         (0..w).map(move |x| (keep >> x & 1 == 1, strb >> x & 1 == 1, record[7 + x], user >> (x * m) & ((1 << m) - 1))).collect::<Vec<_>>()
@@ -207,7 +203,7 @@ pub fn lanes(w: usize, m: usize, stream: &[u8]) -> Vec<Lane> {
 }
 
 /// Data lanes with octet and bits, position lanes with their bits alone.
-fn kept(lanes: &[Lane]) -> Vec<(Option<u8>, u64)> {
+fn kept(lanes: &[(bool, bool, u8, u64)]) -> Vec<(Option<u8>, u64)> {
     lanes.iter().filter(|lane| lane.0).map(|lane| (Some(lane.2).filter(|_| lane.1), lane.3)).collect()
 }
 
@@ -226,7 +222,7 @@ fn some_transfers(r: &mut Random, w: usize, m: usize) -> Vec<u8> {
     stream
 }
 
-pub fn result(call: ConvertCall, w: usize, m: usize, v: usize, input: &[u8]) -> (StreamAnswer, Vec<u8>) {
+fn result(call: ConvertCall, w: usize, m: usize, v: usize, input: &[u8]) -> (StreamAnswer, Vec<u8>) {
     let mut room = vec![0xC3; input.len() * 16];
     let answer = call(w, m, v, input, &mut room);
     room.truncate((answer.count as usize).saturating_mul(size(v, m)));
@@ -249,6 +245,9 @@ fn nulls_are_free(t: &mut Tally, c: &StreamCalls, r: &mut Random, w: usize, m: u
     let mut without = with.clone();
     for record in without.chunks_mut(size(w, m)) { clear_nulls(record, w, m); }
     for v in 1..=16 { t.same(result(c.repack, w, m, v, &with), result(c.repack, w, m, v, &without), || format!("repack {w} to {v}, user bits {m}, {with:02x?}")); }
+    for v in (1..=w).filter(|v| w % v == 0) {
+        t.same(result(c.downsize, w, m, v, &with), result(c.downsize, w, m, v, &without), || format!("downsize {w} to {v}, user bits {m}, {with:02x?}"));
+    }
     for stream in [with, without] { harvested_as_sampled(t, c, w, m, &stream); }
 }
 
@@ -271,6 +270,7 @@ fn harvested_as_sampled(t: &mut Tally, c: &StreamCalls, w: usize, m: usize, stre
 
 pub fn users(t: &mut Tally, c: &StreamCalls) {
     t.group("T-06 packed by hand", |t| for hand in PACKED { converts(t, c.repack, hand) });
+    t.group("T-06 sliced by hand", |t| for hand in SLICED { converts(t, c.downsize, hand) });
     t.group("T-06 findings by hand", |t| for finding in FINDINGS { finds(t, c, finding) });
     t.group("T-06 other calls by hand", |t| other_calls(t, c));
     t.group("T-06 refusals in order", |t| in_order(t, c));
@@ -279,6 +279,7 @@ pub fn users(t: &mut Tally, c: &StreamCalls) {
         let (w, m) = (1 + r.below(16), r.below(5));
         let input = some_transfers(r, w, m);
         for v in 1..=16 { bits_stay(t, c.repack, w, m, v, &input); }
+        for v in (1..=w).filter(|v| w % v == 0) { bits_stay(t, c.downsize, w, m, v, &input); }
     });
     t.seeded_group("T-06 bits of null lanes", |t, r| for _ in 0..600 {
         let (w, m) = (1 + r.below(16), 1 + r.below(4));

@@ -52,19 +52,21 @@ fn at_the_bound(t: &mut Tally, r: &mut Random, v: usize, m: usize) {
     }
 }
 
-/// `records` of a clean report: the least number for the transfers as TLAST was filled in.
+/// `records` of a clean report: with `mode=pack` the least number for the transfers as TLAST was filled in; with `mode=lanes` no fewer.
 fn report(t: &mut Tally, r: &mut Random, n: usize) {
     let (w, m) = (1 + r.below(16), some_user(r));
     let take = cycles(r, w, m, n);
-    let v = 1 + r.below(16);
-    for word in WORDS {
-        let (answer, _, _) = ask((&sheet(w, v, "pack", word, m), 1), (&take, 1));
+    let most = r.pick(&[w, 16]);
+    let v = 1 + r.below(most);
+    for (mode, word) in ["pack", "lanes"].into_iter().flat_map(|mode| WORDS.map(|word| (mode, word))) {
+        let (answer, _, _) = ask((&sheet(w, v, mode, word, m), 1), (&take, 1));
         if answer.verdict != 0 { continue; }
         let mut filled = take.clone();
         if word != "wired" { model::fill_in(w, m, &mut filled, word == "none"); }
         let list = model::items(w, m, &model::harvest_plan(w, m, &filled).expect("a clean take"));
         let least = model_fewest::fewest(v, &list) as u64;
-        t.same(answer.records, least, || format!("records of a report {w} to {v}, {word}, user bits {m}, {}", show(&take)));
+        let good = if mode == "pack" { answer.records == least } else { answer.records >= least };
+        t.check(good, || format!("report {w} to {v}, {mode}, {word}, user bits {m}: {} records, at least {least}, {}", answer.records, show(&take)));
     }
 }
 

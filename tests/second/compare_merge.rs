@@ -1,7 +1,7 @@
 //! The library's merging of two transfer lists (T-08) against the model, on many lists and rooms; and what the request says of the
 //! merged list, asked of the library's own answers and of its repacking.
 use crate::cases_merge::{self, claims, share};
-use crate::compare_streams::{WIDTHS, WITH_USER_BITS, damage, rooms, show, some_user};
+use crate::compare_streams::{WIDTHS, WITH_USER_BITS, damage, show, some_user};
 use crate::compare_user::ABOVE;
 use crate::merge_lists::{Asked, ENDS, Fault, every_fault, list, record, shapes, spoil, zero_bits};
 use crate::model::{FIELD, MOST_OCTETS, RESERVED, TAGS, record_octets};
@@ -26,7 +26,7 @@ fn pattern(a: &Asked) -> Vec<u8> {
 
 /// One call: the answer, every octet of the room, of the lists, and of the guards around them; and of a merged list what the request
 /// says of it. Answers what the library said, and the merged list where it is accepted as expected.
-pub fn compare(t: &mut Tally, a: &Asked) -> (MergeAnswer, Vec<u8>) {
+fn compare(t: &mut Tally, a: &Asked) -> (MergeAnswer, Vec<u8>) {
     let mut lent = a.lent().map(|list| [&[OUTSIDE; GUARD], list, &[OUTSIDE; GUARD]].concat());
     let (kept, mut out) = (lent.clone(), pattern(a));
     let mut modelled = out.clone();
@@ -62,8 +62,11 @@ fn faults_are(t: &mut Tally, r: &mut Random, sound: &Asked, faults: &[Fault]) {
     if let Some(least) = faults.iter().min() { answer_is(t, &a, least.answer()); }
 }
 
+/// Rooms: exact, one octet less, larger, none.
 fn into_rooms(t: &mut Tally, a: &Asked) {
-    for room in rooms(a.room) { compare(t, &a.into_room(room)); }
+    let mut rooms = vec![a.room, a.room.saturating_sub(1), a.room + 31, 0];
+    rooms.dedup();
+    for room in rooms { compare(t, &a.into_room(room)); }
 }
 
 /// At every shape lists with TLAST as often as each of `ENDS`, one or both of them empty too.

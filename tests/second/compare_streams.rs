@@ -1,17 +1,16 @@
 //! The library's stream calls against the model, on many takes.
 use crate::model::{self, StreamAnswer};
 use crate::tally::{Random, Tally};
-use crate::{cases, cases::ConvertCall, cases_user, library_stream as library};
+use crate::{cases, cases_user, library_stream as library};
 
 const GUARD: usize = 24; // octets before and after each lent room
-pub const REFUSED_ROOM: usize = 40; // octets lent where a refusal is expected in any room
 const HIGH: [u32; 7] = [1, 2, 255, 256, 0x1_0000, 0x8000_0000, u32::MAX]; // each says that TLAST is filled in high
 
 /// A call that writes into a lent room, by width, user bits and output width; `plan` is the model's whole answer.
 pub struct Writer {
     name: &'static str,
-    library: ConvertCall,
-    model: ConvertCall,
+    library: fn(usize, usize, usize, &[u8], &mut [u8]) -> StreamAnswer,
+    model: fn(usize, usize, usize, &[u8], &mut [u8]) -> StreamAnswer,
     plan: fn(usize, usize, usize, &[u8]) -> Result<Vec<u8>, StreamAnswer>,
 }
 
@@ -22,6 +21,7 @@ pub const HARVEST: Writer = Writer {
     plan: |w, m, _, take| model::harvest_plan(w, m, take),
 };
 pub const REPACK: Writer = Writer { name: "repack", library: library::repack, model: model::repack, plan: model::repack_plan };
+pub const DOWNSIZE: Writer = Writer { name: "downsize", library: library::downsize, model: model::downsize, plan: model::downsize_plan };
 
 /// Long inputs are shown by their beginning only.
 pub fn show(octets: &[u8]) -> String {
@@ -34,7 +34,7 @@ fn first_other(a: &[u8], b: &[u8]) -> isize {
 }
 
 /// With 1 to 4 user bits a verdict is another one than without.
-pub fn note(t: &mut Tally, call: &str, m: usize, a: StreamAnswer) {
+fn note(t: &mut Tally, call: &str, m: usize, a: StreamAnswer) {
     let with = if (1..=4).contains(&m) { WITH_USER_BITS } else { "" };
     t.verdict(match (a.refusal, a.rule) {
         (0, 0) => format!("{call} accepted{with}"),
@@ -43,20 +43,15 @@ pub fn note(t: &mut Tally, call: &str, m: usize, a: StreamAnswer) {
     });
 }
 
-/// A writing call into a room full of a pattern: its answer, and the room with the guards around it afterwards.
-pub fn lend_to(call: ConvertCall, w: usize, m: usize, v: usize, input: &[u8], room: usize) -> (StreamAnswer, Vec<u8>) {
-    let mut lent: Vec<u8> = (0..room + 2 * GUARD).map(|i| (i * 37 + 11) as u8).collect();
-    let answer = call(w, m, v, input, &mut lent[GUARD..GUARD + room]);
-    (answer, lent)
-}
-
 /// A writing call into one room: the answer, every octet of the room and of
 /// the guards around it, and the input afterwards. Answers what was written,
 /// where accepted (and as expected; a difference has been counted by then).
 pub fn write_into(t: &mut Tally, c: &Writer, w: usize, m: usize, v: usize, input: &[u8], room: usize) -> Option<Vec<u8>> {
+    let mut lent: Vec<u8> = (0..room + 2 * GUARD).map(|i| (i * 37 + 11) as u8).collect();
+    let mut modelled = lent.clone();
     let kept = input.to_vec();
-    let (answer, lent) = lend_to(c.library, w, m, v, input, room);
-    let (expected, modelled) = lend_to(c.model, w, m, v, &kept, room);
+    let answer = (c.library)(w, m, v, input, &mut lent[GUARD..GUARD + room]);
+    let expected = (c.model)(w, m, v, &kept, &mut modelled[GUARD..GUARD + room]);
     note(t, c.name, m, expected);
     let inputs = || format!("{} {w} to {v}, user bits {m}, room {room}, input {}", c.name, show(&kept));
     t.same(answer, expected, inputs);
@@ -67,15 +62,11 @@ pub fn write_into(t: &mut Tally, c: &Writer, w: usize, m: usize, v: usize, input
 }
 
 /// Rooms: exact, one octet less, larger, none.
-pub fn rooms(need: usize) -> Vec<usize> {
+pub fn write_all(t: &mut Tally, c: &Writer, w: usize, m: usize, v: usize, input: &[u8]) {
+    let need = match (c.plan)(w, m, v, input) { Ok(octets) => octets.len(), Err(_) => 40 };
     let mut rooms = vec![need, need.saturating_sub(1), need + 31, 0];
     rooms.dedup();
-    rooms
-}
-
-pub fn write_all(t: &mut Tally, c: &Writer, w: usize, m: usize, v: usize, input: &[u8]) {
-    let need = (c.plan)(w, m, v, input).map_or(REFUSED_ROOM, |octets| octets.len());
-    for room in rooms(need) { write_into(t, c, w, m, v, input, room); }
+    for room in rooms { write_into(t, c, w, m, v, input, room); }
 }
 
 pub fn compare_judge(t: &mut Tally, w: usize, m: usize, take: &[u8]) {
@@ -111,12 +102,17 @@ fn compare_data_octets(t: &mut Tally, w: usize, m: usize, take: &[u8]) {
     t.check(take == kept, || format!("data octets {w}, user bits {m}, {}: take changed", show(&kept)));
 }
 
-/// All calls that read cycles.
+/// All calls that read cycles; then all that read transfer records.
 pub fn cycle_calls(t: &mut Tally, w: usize, m: usize, take: &[u8]) {
     compare_judge(t, w, m, take);
     write_all(t, &HARVEST, w, m, w, take);
     for level in [0, HIGH[take.len() % HIGH.len()]] { compare_fill_in(t, w, m, take, level); }
     compare_data_octets(t, w, m, take);
+}
+
+pub fn transfer_calls(t: &mut Tally, w: usize, m: usize, v: usize, input: &[u8]) {
+    write_all(t, &REPACK, w, m, v, input);
+    write_all(t, &DOWNSIZE, w, m, v, input);
 }
 
 /// T-06's user octets of a record: any bits, none or all, on null lanes too; the padding is zero.
@@ -208,7 +204,7 @@ fn random_transfers(t: &mut Tally, r: &mut Random, n: usize) {
     let v = if r.one_in(2) { 1 + r.below(16) } else { r.pick(&[w, 1, (w + 1) / 2, w / 2 + 1]) };
     let mut input = transfers(r, w, m, n);
     if r.one_in(3) { damage(r, w, m, &mut input); }
-    write_all(t, &REPACK, w, m, v, &input);
+    transfer_calls(t, w, m, v, &input);
 }
 
 /// Octets, widths and user bits that fit only by chance.
@@ -218,7 +214,7 @@ fn random_shapes(t: &mut Tally, r: &mut Random) {
     let few = r.one_in(2);
     let octets: Vec<u8> = (0..n).map(|_| if few { r.pick(&[0, 0, 0, 1, 3]) } else { r.next() as u8 }).collect();
     cycle_calls(t, w, m, &octets);
-    write_all(t, &REPACK, w, m, v, &octets);
+    transfer_calls(t, w, m, v, &octets);
 }
 
 /// Demand 3, lists of calls with one m: each call gets the last accepted result.
@@ -277,7 +273,7 @@ pub fn of_this_length(t: &mut Tally, r: &mut Random, w: usize, m: usize, to: &[u
     take.resize(take.len() + extra, 0);
     input.resize(input.len() + extra, 0);
     cycle_calls(t, w, m, &take);
-    for v in to { write_all(t, &REPACK, w, m, *v, &input); }
+    for v in to { transfer_calls(t, w, m, *v, &input); }
 }
 
 /// One round of the soak; one in a few hundred has long takes.
@@ -314,7 +310,7 @@ pub fn every_length(t: &mut Tally, r: &mut Random, w: usize, m: usize, records: 
     let (take, input) = (cycles(r, w, m, records), transfers(r, w, m, records));
     for octets in 0..take.len() {
         cycle_calls(t, w, m, &take[..octets]);
-        write_all(t, &REPACK, w, m, 1, &input[..octets]);
+        transfer_calls(t, w, m, 1, &input[..octets]);
     }
 }
 
@@ -325,23 +321,20 @@ pub fn change_bits(t: &mut Tally, r: &mut Random, w: usize, m: usize, bits: std:
         take[at + bit / 8] ^= 1 << (bit % 8);
         input[at + bit / 8] ^= 1 << (bit % 8);
         cycle_calls(t, w, m, &take);
-        write_all(t, &REPACK, w, m, 1 + bit % w, &input);
+        transfer_calls(t, w, m, 1 + bit % w, &input);
     }
-}
-
-/// This lane of the record at the front of these octets becomes a reserved one.
-pub fn reserve(record: &mut [u8], lane: usize) {
-    record[3 + lane / 8] &= !(1 << (lane % 8));
-    record[5 + lane / 8] |= 1 << (lane % 8);
 }
 
 pub fn reserve_lanes(t: &mut Tally, r: &mut Random, w: usize, m: usize) {
     let size = model::record_octets(w, m);
     for (at, lane) in (0..3).flat_map(|record| (0..w).map(move |lane| (record * size, lane))) {
         let (mut take, mut input) = (cycles(r, w, m, 3), transfers(r, w, m, 3));
-        for octets in [&mut take, &mut input] { reserve(&mut octets[at..], lane); }
+        for octets in [&mut take, &mut input] {
+            octets[at + 3 + lane / 8] &= !(1 << (lane % 8));
+            octets[at + 5 + lane / 8] |= 1 << (lane % 8);
+        }
         cycle_calls(t, w, m, &take);
-        write_all(t, &REPACK, w, m, w, &input);
+        transfer_calls(t, w, m, w, &input);
     }
 }
 
@@ -362,7 +355,7 @@ pub fn each_bit_while_waiting(t: &mut Tally, r: &mut Random, w: usize, m: usize)
 pub fn all(t: &mut Tally) {
     let calls = cases::StreamCalls {
         judge: library::judge, harvest: library::harvest, fill_in: library::fill_in,
-        data_octets: library::data_octets, repack: library::repack,
+        data_octets: library::data_octets, repack: library::repack, downsize: library::downsize,
     };
     cases::streams(t, &calls);
     cases_user::users(t, &calls);
@@ -371,11 +364,11 @@ pub fn all(t: &mut Tally) {
         for octets in [0, 1, 7, 8, 23, 24, 27, 65_536, 65_537] {
             let input = vec![0; octets];
             cycle_calls(t, w, 0, &input);
-            for v in WIDTHS { write_into(t, &REPACK, w, 0, v, &input, 70); }
+            for v in WIDTHS { write_into(t, &REPACK, w, 0, v, &input, 70); write_into(t, &DOWNSIZE, w, 0, v, &input, 70); }
         }
         if w >= 1 && w <= 16 { // a good stream of three records, to every width
             let input = transfers(r, w, 0, 3);
-            for v in WIDTHS { write_all(t, &REPACK, w, 0, v, &input); }
+            for v in WIDTHS { transfer_calls(t, w, 0, v, &input); }
         }
     });
     t.seeded_group("longest takes", |t, r| for (w, most) in [(1, 8192), (9, 4096), (16, 2849), (4, 5957)] {
@@ -410,7 +403,10 @@ pub fn all(t: &mut Tally) {
             for _ in 0..way / 3 % 3 { let flags = r.pick(&[8, 9, 12, 13]); take.extend(record(r, w, 0, flags)); }
             let (flags, lane) = (r.pick(&[2, 10, 11, 14, 15]), r.below(w));
             let mut valid = record(r, w, 0, flags);
-            if way >= 9 { reserve(&mut valid, lane); }
+            if way >= 9 {
+                valid[3 + lane / 8] &= !(1 << (lane % 8));
+                valid[5 + lane / 8] |= 1 << (lane % 8);
+            }
             take.extend(valid);
             cycle_calls(t, w, 0, &take);
         }
@@ -441,7 +437,7 @@ pub fn verdicts() -> Vec<String> {
 
 pub const WITH_USER_BITS: &str = ", with user bits";
 
-const VERDICTS: [&str; 37] = [
+const VERDICTS: [&str; 45] = [
     "judge accepted", "judge broken rule 1", "judge broken rule 2", "judge broken rule 3", "judge broken rule 4",
     "judge refusal 1", "judge refusal 16", "judge refusal 2", "judge refusal 3",
     "harvest accepted", "harvest refusal 1", "harvest refusal 16", "harvest refusal 2", "harvest refusal 3", "harvest refusal 5", "harvest refusal 14",
@@ -449,5 +445,6 @@ const VERDICTS: [&str; 37] = [
     "fill-in high accepted", "fill-in high refusal 1", "fill-in high refusal 16", "fill-in high refusal 2",
     "data octets accepted", "data octets refusal 1", "data octets refusal 16", "data octets refusal 2", "data octets refusal 13",
     "repack accepted", "repack refusal 1", "repack refusal 16", "repack refusal 2", "repack refusal 3", "repack refusal 4", "repack refusal 5",
+    "downsize accepted", "downsize refusal 1", "downsize refusal 16", "downsize refusal 2", "downsize refusal 3", "downsize refusal 4", "downsize refusal 5", "downsize refusal 6",
     "parts all accepted",
 ];

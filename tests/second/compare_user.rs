@@ -1,5 +1,5 @@
 //! T-06's user bits in the library's stream calls, against the model, at every width with every number of them.
-use crate::compare_streams::{self as streams, HARVEST, REPACK, WIDTHS};
+use crate::compare_streams::{self as streams, DOWNSIZE, HARVEST, REPACK, WIDTHS};
 use crate::model;
 use crate::tally::{Random, Tally};
 
@@ -15,7 +15,9 @@ fn above_four(t: &mut Tally) {
         for octets in [0, 1, 8, 9, 31, 65_536, 65_537] {
             let input = vec![0; octets];
             streams::cycle_calls(t, w, m, &input);
-            for v in [0, 1, 2, w, 16, 17, usize::MAX] { streams::write_into(t, &REPACK, w, m, v, &input, 70); }
+            for v in [0, 1, 2, w, 16, 17, usize::MAX] {
+                for call in [&REPACK, &DOWNSIZE] { streams::write_into(t, call, w, m, v, &input, 70); }
+            }
         }
     }
 }
@@ -43,7 +45,11 @@ fn one_bit(w: usize, m: usize, lane: usize, bit: usize, kind: usize, others: boo
 fn each_bit_alone(t: &mut Tally, w: usize, m: usize) {
     for (lane, bit, way) in (0..w).flat_map(|lane| (0..m).flat_map(move |bit| (0..6).map(move |way| (lane, bit, way)))) {
         let mut octets = one_bit(w, m, lane, bit, way % 3, way > 2);
-        for v in 1..=16 { streams::write_into(t, &REPACK, w, m, v, &octets, 16 * model::record_octets(v, m)); }
+        for v in 1..=16 {
+            let room = 16 * model::record_octets(v, m);
+            streams::write_into(t, &REPACK, w, m, v, &octets, room);
+            if w % v == 0 { streams::write_into(t, &DOWNSIZE, w, m, v, &octets, room); }
+        }
         octets[0] = 0x0F;
         streams::write_into(t, &HARVEST, w, m, w, &octets, octets.len());
     }
@@ -73,7 +79,7 @@ pub fn all(t: &mut Tally) {
     t.seeded_group("T-06 each bit while waiting", while_waiting);
     t.seeded_group("T-06 every width to every width", |t, r| for (w, m) in shapes() {
         let input = streams::transfers(r, w, m, 3);
-        for v in 1..=16 { streams::write_all(t, &REPACK, w, m, v, &input); }
+        for v in 1..=16 { streams::transfer_calls(t, w, m, v, &input); }
     });
     t.seeded_group("T-06 lists of repacking calls", |t, r| for round in 0..2_000 {
         let n = if round % 100 < 4 { 500 + r.below(1_500) } else { r.below(12) };

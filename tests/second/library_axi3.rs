@@ -11,7 +11,7 @@ unsafe extern "C" {
 
 /// The row's length is said in numbers, five a description.
 pub fn cut(b: model::Burst, row: &mut [u64]) -> model_axi3::CutAnswer {
+    calls::count("urd_axi3_cut");
     let a = unsafe { urd_axi3_cut(b.start, b.len, b.size, b.kind, b.bus, row.as_mut_ptr(), row.len()) };
-    calls::answered("urd_axi3_cut", a.refusal);
     model_axi3::CutAnswer { refusal: a.refusal, count: a.count }
 }

@@ -11,19 +11,21 @@ unsafe extern "C" {
     fn urd_burst_step(start: u32, len: u32, size: u32, kind: u32, bus: u32, k: u32) -> BurstAnswer;
 }
 
-fn plain(name: &str, a: BurstAnswer) -> model::BurstAnswer {
-    calls::answered(name, a.refusal);
+fn plain(a: BurstAnswer) -> model::BurstAnswer {
     model::BurstAnswer { refusal: a.refusal, lower: a.lower, upper: a.upper, step: a.step, address: a.address }
 }
 
 pub fn judge(b: model::Burst) -> model::BurstAnswer {
-    plain("urd_burst_judge", unsafe { urd_burst_judge(b.start, b.len, b.size, b.kind, b.bus) })
+    calls::count("urd_burst_judge");
+    plain(unsafe { urd_burst_judge(b.start, b.len, b.size, b.kind, b.bus) })
 }
 
 pub fn beat(b: model::Burst, k: u32) -> model::BurstAnswer {
-    plain("urd_burst_beat", unsafe { urd_burst_beat(b.start, b.len, b.size, b.kind, b.bus, k) })
+    calls::count("urd_burst_beat");
+    plain(unsafe { urd_burst_beat(b.start, b.len, b.size, b.kind, b.bus, k) })
 }
 
 pub fn step(b: model::Burst, k: u32) -> model::BurstAnswer {
-    plain("urd_burst_step", unsafe { urd_burst_step(b.start, b.len, b.size, b.kind, b.bus, k) })
+    calls::count("urd_burst_step");
+    plain(unsafe { urd_burst_step(b.start, b.len, b.size, b.kind, b.bus, k) })
 }

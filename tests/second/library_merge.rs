@@ -13,17 +13,18 @@ unsafe extern "C" {
 }
 
 fn plain(a: MergeAnswer) -> model_merge::MergeAnswer {
-    calls::answered("urd_merge", a.refusal);
     model_merge::MergeAnswer { refusal: a.refusal, port: a.port, place: a.place, count: a.count }
 }
 
 /// The library only reads the lists. They are lent as ones that may change, so that a change would be seen by the caller.
 pub fn merge(w: usize, m: usize, [first, second]: [&mut [u8]; 2], out: &mut [u8]) -> model_merge::MergeAnswer {
+    calls::count("urd_merge");
     plain(unsafe { urd_merge(w, m, first.as_mut_ptr(), first.len(), second.as_mut_ptr(), second.len(), out.as_mut_ptr(), out.len()) })
 }
 
 /// Both ports have the very same octets.
 pub fn merge_with_itself(w: usize, m: usize, list: &mut [u8], out: &mut [u8]) -> model_merge::MergeAnswer {
+    calls::count("urd_merge");
     let (octets, length) = (list.as_mut_ptr(), list.len());
     plain(unsafe { urd_merge(w, m, octets, length, octets, length, out.as_mut_ptr(), out.len()) })
 }

@@ -19,12 +19,11 @@ unsafe extern "C" {
 pub type File<'a> = (&'a [u8], u32);
 
 pub fn report(sheet: File, take: File, out: &mut [u8], text: &mut [u8]) -> ReportAnswer {
-    let a = unsafe {
+    calls::count("urd_report");
+    unsafe {
         urd_report(
             sheet.0.as_ptr(), sheet.0.len(), sheet.1, take.0.as_ptr(), take.0.len(), take.1,
             out.as_mut_ptr(), out.len(), text.as_mut_ptr(), text.len(),
         )
-    };
-    calls::answered("urd_report", a.refusal);
-    a
+    }
 }

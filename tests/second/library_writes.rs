@@ -11,7 +11,7 @@ unsafe extern "C" {
 
 /// The library only reads the take. It is lent as one that may change, so that a change would be seen by the caller.
 pub fn judge(b: model::Burst, beats: &mut [u8]) -> model_writes::WriteAnswer {
+    calls::count("urd_judge_writes");
     let a = unsafe { urd_judge_writes(b.start, b.len, b.size, b.kind, b.bus, beats.as_mut_ptr(), beats.len()) };
-    calls::answered("urd_judge_writes", a.refusal);
     model_writes::WriteAnswer { refusal: a.refusal, rule: a.rule, place: a.place, strobes: a.strobes }
 }

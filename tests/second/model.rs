@@ -9,6 +9,7 @@ pub const LENGTH: u32 = 2;
 pub const FIELD: u32 = 3;
 pub const RESERVED: u32 = 4;
 pub const ROOM: u32 = 5;
+pub const RATIO: u32 = 6;
 pub const BUS: u32 = 7;
 pub const SIZE: u32 = 8;
 pub const TYPE: u32 = 9;
@@ -19,7 +20,6 @@ pub const INDEX: u32 = 13;
 pub const UNCLEAN: u32 = 14;
 pub const USERBITS: u32 = 16;
 pub const TAGS: u32 = 17;
-pub const RETIRED: u32 = 18;
 
 // ======================= Part 1: bursts ("Bursts") =======================
 
@@ -392,20 +392,25 @@ pub fn repack_plan(w: usize, m: usize, v: usize, input: &[u8]) -> Result<Vec<u8>
 
 pub fn repack(w: usize, m: usize, v: usize, input: &[u8], out: &mut [u8]) -> StreamAnswer { write(repack_plan(w, m, v, input), v, m, out) }
 
-// ---- "Lane-keeping downsizing": no call does it since T-09, but archived files are made so ----
-/// Slice k of a record: its lanes from k * v on, nulls staying as nulls; TLAST on the last slice only.
-fn slice(w: usize, m: usize, v: usize, r: &[u8], k: usize) -> Vec<u8> {
-    let mut s = vec![0u8; record_octets(v, m)];
-    s[0] = u8::from(tlast(r) && k == w / v - 1);
-    s[1] = r[1];
-    s[2] = r[2];
-    for lane in 0..v {
-        if let Some(what) = carried(r, w, m, k * v + lane) { put_lane(&mut s, v, m, lane, what); }
+/// "Lane-keeping downsizing": w/v slices of each record.
+pub fn downsize_plan(w: usize, m: usize, v: usize, input: &[u8]) -> Result<Vec<u8>, StreamAnswer> {
+    check_widths(&[w, v], m)?;
+    if w % v != 0 { return Err(refused(RATIO)); }
+    check_transfers(w, m, input)?;
+    let mut out = Vec::new();
+    for r in records(w, m, input) {
+        for slice in 0..w / v {
+            let mut s = vec![0u8; record_octets(v, m)];
+            s[0] = u8::from(tlast(r) && slice == w / v - 1);
+            s[1] = r[1];
+            s[2] = r[2];
+            for lane in 0..v {
+                if let Some(what) = carried(r, w, m, slice * v + lane) { put_lane(&mut s, v, m, lane, what); }
+            }
+            out.extend(s);
+        }
     }
-    s
+    Ok(out)
 }
 
-/// The w/v slices of each record of a legal stream of any length; v divides w.
-pub fn slices(w: usize, m: usize, v: usize, stream: &[u8]) -> Vec<u8> {
-    records(w, m, stream).into_iter().flat_map(|r| (0..w / v).flat_map(move |k| slice(w, m, v, r, k))).collect()
-}
+pub fn downsize(w: usize, m: usize, v: usize, input: &[u8], out: &mut [u8]) -> StreamAnswer { write(downsize_plan(w, m, v, input), v, m, out) }

@@ -160,8 +160,8 @@ module _ (x : Burst) (missing : Bool) where
       (append-passed (checks x) (check missing Index ∷ []) (accepted-none (first (checks x)) e)
       ∙ ap (λ u. cond u (some Index) none) m))
 
-  accepted-there : first (indexed_checks x missing) ≡ none → Accepted x × (missing ≡ false)
-  accepted-there e =
+  accepted_there : first (indexed_checks x missing) ≡ none → Accepted x × (missing ≡ false)
+  accepted_there e =
       let h = append-none (checks x) (check missing Index ∷ []) e in
       ((none_exactly x).0 h.0, (cond-none missing Index none h.1).0)
 
@@ -179,7 +179,7 @@ module _ (x : Burst) (k : ℕ) where
 
   pub has_beat : judgement_for (first (checks_of_beat x k)) ≡ judged.Accepted → Accepted x × (k < beats x)
   has_beat e =
-      let h = accepted-there x (leb (beats x) k) (accepted-none (first (checks_of_beat x k)) e) in
+      let h = accepted_there x (leb (beats x) k) (accepted-none (first (checks_of_beat x k)) e) in
       (h.0, leb-false (beats x) k h.1)
 
   -- a beat that an accepted burst has is answered, and never refused
@@ -222,7 +222,7 @@ module _ (x : Burst) (k : ℕ) where
     where
       go : (o : Option Refusal) → first (checks_of_step x k) ≡ o → step.By d ≡ step_for o (beat_step x k) → (d ≡ beat_step x k) × Accepted x
       go (some r) h f = absurd (clash cc)
-      go none h f = (cc, (accepted-there x (leb (beats x) (k + 1)) h).0)
+      go none h f = (cc, (accepted_there x (leb (beats x) (k + 1)) h).0)
 
 -- the numbers from 3 on are the reserved kind, and no others
 pub reserved_exactly : (n : ℕ) → (kind_of n ≡ Reserved) ↔ (3 ≤ n)

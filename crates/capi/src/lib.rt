@@ -11,5 +11,7 @@ pub use axi3_calls::urd_axi3_cut;
 pub use burst_calls::{urd_burst_beat, urd_burst_judge, urd_burst_step};
 pub use merge_calls::urd_merge;
 pub use report_calls::urd_report;
-pub use stream_calls::{urd_data_octets, urd_fill_in, urd_harvest, urd_judge, urd_repack};
+pub use stream_calls::{
+    urd_data_octets, urd_downsize, urd_fill_in, urd_harvest, urd_judge, urd_repack,
+};
 pub use write_calls::urd_judge_writes;

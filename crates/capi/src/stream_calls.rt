@@ -2,7 +2,7 @@
 ghost use Rattle.std.specs.Prelude.{◌≡◌, length};
 ghost use Rattle.stream_spec.specs.Layout.{shaped};
 ghost use Rattle.stream_spec.specs.Answers.{refusal_values, verdict_values, written_values, lookup_values};
-ghost use Rattle.stream_spec.specs.Answers.{judge_answer, harvest_answer, harvest_after, fill_answer, fill_after, repack_answer, repack_after};
+ghost use Rattle.stream_spec.specs.Answers.{judge_answer, harvest_answer, harvest_after, fill_answer, fill_after, repack_answer, repack_after, downsize_answer, downsize_after};
 ghost use Rattle.capi.specs.Shows.{flag, ShowsStream, ShowsPart};
 
 use refusal::Refusal;
@@ -106,6 +106,21 @@ pub extern "C" fn urd_repack(
     ensures out_after { out.new ≡ repack_after (shaped width user) v input.now out.old }
 {
     of_written(stream_repack::repack(shape_of(width, user), v, input, out))
+}
+
+// Slices a take of transfer records to width v, lane by lane, into a lent output.
+#[unsafe(no_mangle)]
+pub extern "C" fn urd_downsize(
+    width: usize,
+    user: usize,
+    v: usize,
+    input: &[u8],
+    out: &mut [u8],
+) -> StreamAnswer
+    ensures shows_stream { ShowsStream result (written_values (downsize_answer (shaped width user) v input.now (length out.old))) }
+    ensures out_after { out.new ≡ downsize_after (shaped width user) v input.now out.old }
+{
+    of_written(stream_downsize::downsize(shape_of(width, user), v, input, out))
 }
 
 // Where the data octets of a record stand in a take: the refusal's number, or 0 with their offset and their number.

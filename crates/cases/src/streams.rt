@@ -46,6 +46,16 @@ fn repack_to(name: &[u8], w: usize, m: usize, v: usize, input: &[u8]) {
     io::write_all(1, b"\n");
 }
 
+// Slices from width w to width v, lane by lane.
+fn downsize_to(name: &[u8], w: usize, m: usize, v: usize, input: &[u8]) {
+    let mut out = [0xEEu8; 24];
+    let answer = stream_downsize::downsize(stream_record::shape_of(w, m), v, input, &mut out);
+    io::write_all(1, name);
+    written(answer);
+    octets(&out);
+    io::write_all(1, b"\n");
+}
+
 // Fills in a take of 24 equal octets at a level.
 fn fill_in(w: usize, m: usize, octet: u8, level: bool) {
     let mut capture = [octet; 24];
@@ -70,7 +80,7 @@ fn judge(name: &[u8], w: usize, m: usize, capture: &[u8]) {
     io::write_all(1, b"\n");
 }
 
-// S1 to S6. S2 is a case of the definition and of no call: its two records, an archived file, are repacked to width 4, which is S1.
+// S1 to S6
 pub fn packed() {
     repack_to(
         b"S1",
@@ -79,12 +89,12 @@ pub fn packed() {
         4,
         b"\x01\x01\x02\x0D\x00\x09\x00\x11\x22\x33\x44",
     );
-    repack_to(
+    downsize_to(
         b"S2",
-        2,
-        0,
         4,
-        b"\x00\x01\x02\x01\x00\x01\x00\x11\x00\x01\x01\x02\x03\x00\x02\x00\x00\x44",
+        0,
+        2,
+        b"\x01\x01\x02\x0D\x00\x09\x00\x11\x22\x33\x44",
     );
     repack_to(
         b"S3",
@@ -201,6 +211,7 @@ pub fn fields() {
         b"\x0F\xFF\x0F\x01\x00\x01\x00\xFF\x00\x00\x10\x00\x00\x00\x00\x00",
     );
     repack_to(b"FIELD", 1, 0, 1, b"\x02\x00\x00\x00\x00\x01\x00\x00");
+    downsize_to(b"RATIO", 4, 0, 3, b"");
     repack_to(b"RESERVED", 1, 0, 1, b"\x00\x00\x00\x00\x00\x01\x00\x00");
     repack_to(
         b"ROOM",
@@ -211,8 +222,8 @@ pub fn fields() {
     );
 }
 
-// T-06: repacking keeps user bits with their byte, of an archived file (S2 with two bits to a byte) too, and those of null lanes go;
-// fill-in and R3. At m = 3 the bits of lane 2 lie in two octets.
+// T-06: repacking and downsizing keep user bits with their byte, and those of null lanes go; fill-in and R3. At m = 3 the bits of
+// lane 2 lie in two octets.
 pub fn user_bits() {
     repack_to(
         b"USER",
@@ -221,12 +232,12 @@ pub fn user_bits() {
         2,
         b"\x00\x01\x02\x05\x00\x01\x00\x11\x22\x33\xB9\x01\x01\x01\x02\x01\x00\x01\x00\x44\x55\x66\x05\x00",
     );
-    repack_to(
+    downsize_to(
         b"USER",
-        2,
-        2,
         4,
-        b"\x00\x01\x02\x01\x00\x01\x00\x11\x00\x01\x01\x01\x02\x03\x00\x02\x00\x00\x44\x0E",
+        2,
+        2,
+        b"\x01\x01\x02\x0D\x00\x09\x00\x11\x22\x33\x44\xED",
     );
     fill_in(4, 2, 0xFF, LOW);
     judge(
@@ -237,13 +248,14 @@ pub fn user_bits() {
     );
 }
 
-// T-06: m of 4 and 5; 1 before 16, and 16 before 2.
+// T-06: m of 4 and 5; 1 before 16, and 16 before 6.
 pub fn user_bounds() {
     judge(b"USER", 16, 4, b"");
     judge(b"USER", 16, 5, b"");
     judge(b"USER", 17, 5, b"");
     repack_to(b"USER", 1, 5, 17, b"");
     repack_to(b"USER", 1, 5, 16, b"\x00");
+    downsize_to(b"USER", 4, 5, 3, b"");
     fill_in(4, 5, 0xEE, HIGH);
 }
 

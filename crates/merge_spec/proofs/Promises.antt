@@ -17,7 +17,7 @@ use Rattle.merge_spec.specs.Promises.{Mergeable, NothingRefused, RefusedInOrder,
 use Rattle.merge_spec.proofs.Refusals.{Accepts, accepts_of, of_accepts, answer-taken, taken-answer, answer-refused}
 use Rattle.merge_spec.proofs.Faults.{all_sound, sound-all, readable_of, take-readable, other-readable}
 use Rattle.merge_spec.proofs.Merge.{Taken, taken-first, taken-second, merged-count, merged-long, merged_both, shares_kept, in_turns, turns-taken, merged-only, merged-legal}
-use Rattle.merge_spec.proofs.Refused.{refused-there, refused_back, tags-there, tags_back}
+use Rattle.merge_spec.proofs.Refused.{refused_there, refused_back, tags_there, tags_back}
 use Rattle.merge_spec.proofs.Packed.{packed_split, turns-pack}
 
 -- ---- what is accepted, and what is refused
@@ -51,7 +51,7 @@ nothing_refused s xs ys room = (
 
 pub refused_in_order : RefusedInOrder
 refused_in_order s xs ys room port r = (
-  λ e. refused-there s xs ys room port r ((answer-refused s xs ys room port r).0 e),
+  λ e. refused_there s xs ys room port r ((answer-refused s xs ys room port r).0 e),
   λ h. (answer-refused s xs ys room port r).1 (refused_back s xs ys room port r h),
 )
 
@@ -61,7 +61,7 @@ memory_kept s xs ys out port r e = rw ((answer-refused s xs ys (length out) port
 
 pub tags_exactly : TagsExactly
 tags_exactly s xs ys room port k = (
-  λ e. tags-there s xs ys room port k ((answer-refused s xs ys room port (Tags k)).0 e),
+  λ e. tags_there s xs ys room port k ((answer-refused s xs ys room port (Tags k)).0 e),
   λ h. (answer-refused s xs ys room port (Tags k)).1 (tags_back s xs ys room port k h.0 h.1),
 )
 

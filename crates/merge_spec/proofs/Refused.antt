@@ -69,8 +69,8 @@ module _ (s : Shape) (xs ys : List ℕ) (room port : ℕ) (r : Refusal) where
       go (inl f) = let g = by_port 1 (length_check s ys ∷ []) f in inr (inl (g.0, t, g.1))
       go (inr f) = by_first (readable_of s xs ys t (naming-none 1 (length_check s ys ∷ []) f.0)) f.1
 
-  pub refused-there : merge_refusal s xs ys room ≡ some it → RefusedBy s xs ys room port r
-  refused-there e = go (append-some (naming 0 (take_checks s xs)) (second s xs ys room) it e)
+  pub refused_there : merge_refusal s xs ys room ≡ some it → RefusedBy s xs ys room port r
+  refused_there e = go (append-some (naming 0 (take_checks s xs)) (second s xs ys room) it e)
     where
       go : (first (naming 0 (take_checks s xs)) ≡ some it) ⊎ ((first (naming 0 (take_checks s xs)) ≡ none) × (first (second s xs ys room) ≡ some it))
           → RefusedBy s xs ys room port r
@@ -125,8 +125,8 @@ module _ (s : Shape) (xs ys : List ℕ) (room port k : ℕ) where
   of_tags r (inl h) = inr (inr (inl (h.0, r, at_high s xs k h.1)))
   of_tags r (inr h) = inr (inr (inr (inl (h.0, r, h.1, at_high s ys k h.2))))
 
-  pub tags-there : merge_refusal s xs ys room ≡ some (named port (Tags k)) → Readable s xs ys × HighBy s xs ys port k
-  tags-there e = tags_of (refused-there s xs ys room port (Tags k) e)
+  pub tags_there : merge_refusal s xs ys room ≡ some (named port (Tags k)) → Readable s xs ys × HighBy s xs ys port k
+  tags_there e = tags_of (refused_there s xs ys room port (Tags k) e)
 
   pub tags_back : Readable s xs ys → HighBy s xs ys port k → merge_refusal s xs ys room ≡ some (named port (Tags k))
   tags_back r h = refused_back s xs ys room port (Tags k) (of_tags r h)

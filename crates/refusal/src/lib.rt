@@ -4,8 +4,7 @@
 ghost use Rattle.std.specs.Prelude.{◌≡◌};
 ghost use Rattle.refusal.specs.Code.{code_of};
 
-// One constructor for each line of the table but 6, which was RATIO: T-09 withdrew it with downsizing, and its number is not reused.
-// The place is a part of the constructors that have one.
+// One constructor for each line of the table. The place is a part of the constructors that have one.
 #[derive(Drop)]
 pub enum Refusal {
     // 1 WIDTH: a width is 0 or above 16
@@ -18,6 +17,8 @@ pub enum Refusal {
     Reserved(usize),
     // 5 ROOM: the lent output is shorter than the answer
     Room,
+    // 6 RATIO: downsizing to a width that does not divide the input's
+    Ratio,
     // 7 BUS: the bus is none of 1, 2, 4, 8, 16, 32, 64, 128
     Bus,
     // 8 SIZE: AxSIZE is above 7, or a beat is wider than the bus
@@ -40,8 +41,6 @@ pub enum Refusal {
     UserBits,
     // 17 TAGS: merging, this transfer record has a TID of 128 or more
     Tags(usize),
-    // 18 RETIRED: a setup sheet with `mode=lanes`
-    Retired,
 }
 
 // What a refusal shows, in this order: its number in the table, its place (a record or a cycle), the handshake rule.
@@ -59,6 +58,7 @@ pub fn code_of(r: Refusal) -> Code
         Refusal::Field(record) => Code(3, record, 0),
         Refusal::Reserved(record) => Code(4, record, 0),
         Refusal::Room => Code(5, 0, 0),
+        Refusal::Ratio => Code(6, 0, 0),
         Refusal::Bus => Code(7, 0, 0),
         Refusal::Size => Code(8, 0, 0),
         Refusal::Kind => Code(9, 0, 0),
@@ -70,6 +70,5 @@ pub fn code_of(r: Refusal) -> Code
         Refusal::Setup => Code(15, 0, 0),
         Refusal::UserBits => Code(16, 0, 0),
         Refusal::Tags(record) => Code(17, record, 0),
-        Refusal::Retired => Code(18, 0, 0),
     }
 }

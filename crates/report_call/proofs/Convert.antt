@@ -1,5 +1,5 @@
--- Repacking the harvested transfers: the two ways that the code ends. Assumes nothing.
-use mathlib.Core.Path.{◌≡◌, sym, ap, ap₂, ◌∙◌, subst}
+-- Converting the harvested transfers: what the call of either mode leaves, and the two ways that the code ends. Assumes nothing.
+use mathlib.Core.Path.{◌≡◌, refl, sym, ap, ap₂, ◌∙◌, subst}
 use mathlib.Core.List.{List}
 use mathlib.Core.Option.{Option, none, some}
 use Prim.Native.Nat.{ℕ, ◌*◌, ◌≤◌}
@@ -9,61 +9,70 @@ use Rattle.refusal.specs.declared.Refusal.{Refusal}
 use Rattle.stream_spec.specs.declared.Shape.{Shape}
 use Rattle.stream_spec.specs.declared.Written.{Written}
 use Rattle.stream_spec.specs.declared.Written.TheVariants.{Records, Refused as NotWritten}
-use Rattle.stream_spec.specs.Layout.{size, packed_transfers, packed}
-use Rattle.stream_spec.specs.Answers.{written, lent_after, repack_refusal, repack_after, Repacked}
-use Rattle.stream_spec.proofs.Records.{length-packed}
-use Rattle.stream_spec.proofs.Repack.{repacks_of}
+use Rattle.stream_spec.specs.Layout.{size}
+use Rattle.stream_spec.specs.Answers.{written, lent_after, repack_after, downsize_after, Repacked, Downsized}
 use Rattle.report_setup_spec.specs.declared.Setup.{Setup}
+use Rattle.report_setup_spec.specs.declared.Mode.{Mode}
+use Rattle.report_setup_spec.specs.declared.Mode.TheVariants.{Pack, Lanes}
 use Rattle.report_spec.specs.declared.Verdict.TheVariants.{Clean, Refused}
-use Rattle.report_spec.specs.Report.{shape_of, out_shape, packet_count, tally, converted, converted_transfers}
-use Rattle.report_spec.proofs.Convert.{answer-is, not_written, IsWritten, is-written}
+use Rattle.report_spec.specs.Report.{shape_of, out_shape, packet_count, convert_result, tally, converted, converted_transfers}
+use Rattle.report_spec.proofs.Convert.{convert_refusal, convert_count, answer-is, result-long, result_fits, not_written, IsWritten, is-written}
 use Rattle.report_call.specs.declared.outcome.Ending.{Ending}
-use Rattle.report_call.specs.Steps.{Came}
+use Rattle.report_call.specs.Steps.{Came, Converts, convert_after}
+
+-- ---- lent memory, in either mode
+
+after_is : (m : Mode) (s : Shape) (v : ℕ) (xs out : List ℕ)
+    → convert_after m s v xs out ≡ lent_after (convert_refusal m s v xs (length out)) (convert_result m s v xs) out
+unfolding repack_after downsize_after
+after_is Pack s v xs out = refl
+after_is Lanes s v xs out = refl
+
+-- ---- the two ways that the code ends
 
 -- the code has the shape of the take in t
 module _ (u : Setup) (count : ℕ) (ts out after : List ℕ) (w : Written) (t : Shape) (same : t ≡ shape_of u)
-    (told : Repacked t u.width_out ts out after w) where
+    (told : Converts u.mode t u.width_out ts out after w) where
   abbrev s : Shape
   s = shape_of u
 
   abbrev v : ℕ
   v = u.width_out
 
-  k : Repacked s v ts out after w
-  k = subst (λ (x : Shape). Repacked x v ts out after w) same told
+  k : Converts u.mode s v ts out after w
+  k = subst (λ (x : Shape). Converts u.mode x v ts out after w) same told
 
   abbrev refusal : Option Refusal
-  refusal = repack_refusal s v ts (length out)
+  refusal = convert_refusal u.mode s v ts (length out)
 
-  said : w ≡ written refusal (length (packed_transfers s v ts))
-  said = k.is ∙ answer-is s v ts (length out)
+  said : w ≡ written refusal (convert_count u.mode s v ts)
+  said = k.is ∙ answer-is u.mode s v ts (length out)
 
-  left : (o : Option Refusal) → refusal ≡ o → after ≡ lent_after o (packed s v ts) out
-  unfolding repack_after
-  left o e = k.leaves ∙ ap (λ (x : Option Refusal). lent_after x (packed s v ts) out) e
+  left : (o : Option Refusal) → refusal ≡ o → after ≡ lent_after o (convert_result u.mode s v ts) out
+  left o e = k.leaves ∙ after_is u.mode s v ts out ∙ ap (λ (x : Option Refusal). lent_after x (convert_result u.mode s v ts) out) e
 
-  came : (f : Ending) (x : Written) → w ≡ x → Came (converted x count (packet_count s ts) (packed s v ts)) out after f
+  came : (f : Ending) (x : Written) → w ≡ x → Came (converted x count (packet_count s ts) (convert_result u.mode s v ts)) out after f
       → Came (converted_transfers u ts (length out) count) out after f
   came f x e c =
-      subst (λ (y : Written). Came (converted y count (packet_count s ts) (packed s v ts)) out after f) (sym e ∙ k.is) c
+      subst (λ (y : Written). Came (converted y count (packet_count s ts) (convert_result u.mode s v ts)) out after f) (sym e ∙ k.is) c
 
   pub room-short : (r : Refusal) → w ≡ NotWritten r → (f : Ending) → f.verdict ≡ Refused r → f.octets ≡ 0
       → Came (converted_transfers u ts (length out) count) out after f
   room-short r e f a b =
-      let found = not_written refusal (length (packed_transfers s v ts)) r (sym e ∙ said) in
+      let found = not_written refusal (convert_count u.mode s v ts) r (sym e ∙ said) in
       came f (NotWritten r) e (record { is = a; result_length = b; leaves = left (some r) found })
 
   module _ (n : ℕ) (e : w ≡ Records n) where
-    wrote : IsWritten refusal n (length (packed_transfers s v ts))
-    wrote = is-written refusal (length (packed_transfers s v ts)) n (sym e ∙ said)
+    wrote : IsWritten refusal n (convert_count u.mode s v ts)
+    wrote = is-written refusal (convert_count u.mode s v ts) n (sym e ∙ said)
 
     -- and the shape of the result in o, with its record size in z
     module _ (o : Shape) (shape : o ≡ out_shape u) (z : ℕ) (q : z ≡ size o) where
-      long-is : n * z ≡ length (packed s v ts)
-      long-is = ap₂ (λ (a b : ℕ). a * b) wrote.count (q ∙ ap size shape) ∙ sym (length-packed s v ts)
+      long-is : n * z ≡ length (convert_result u.mode s v ts)
+      long-is = ap₂ (λ (a b : ℕ). a * b) wrote.count (q ∙ ap size shape) ∙ sym (result-long u.mode s v ts)
 
       pub long-fits : n * z ≤ length out
-      long-fits = omega (arith, long-is, (repacks_of s v ts (length out) wrote.accepted).fits)
+      long-fits = omega (arith, long-is, result_fits u.mode s v ts (length out) wrote.accepted)
 
       pub all-written : (p : ℕ) → p ≡ packet_count t ts
           → Came (converted_transfers u ts (length out) count) out after (record { verdict = Clean (tally count p n); octets = n * z })
@@ -74,3 +83,13 @@ module _ (u : Setup) (count : ℕ) (ts out after : List ℕ) (w : Written) (t : 
             result_length = long-is;
             leaves = left none wrote.accepted;
           })
+
+-- ---- the call of each mode
+
+pub packs : (m : Mode) → m ≡ Pack → (s : Shape) (v : ℕ) (ts out after : List ℕ) (w : Written) → Repacked s v ts out after w → Converts m s v ts out after w
+packs m e s v ts out after w h =
+    subst (λ (k : Mode). Converts k s v ts out after w) (sym e) (record { is = h.is; leaves = h.leaves })
+
+pub slices : (m : Mode) → m ≡ Lanes → (s : Shape) (v : ℕ) (ts out after : List ℕ) (w : Written) → Downsized s v ts out after w → Converts m s v ts out after w
+slices m e s v ts out after w h =
+    subst (λ (k : Mode). Converts k s v ts out after w) (sym e) (record { is = h.is; leaves = h.leaves })

@@ -8,17 +8,16 @@ use native.Mathlib.Omega.{arith}
 use lib.ListN.{length, take, drop, length-append}
 use lib.Seq.{take_at}
 use Rattle.refusal.specs.declared.Refusal.{Refusal}
-use Rattle.refusal.specs.declared.Refusal.TheVariants.{Length, Setup as BadSheet, Retired}
+use Rattle.refusal.specs.declared.Refusal.TheVariants.{Length, Setup as BadSheet}
 use Rattle.stream_spec.specs.declared.Shape.{Shape}
 use Rattle.stream_spec.specs.declared.Verdict.{Verdict as Judgement}
 use Rattle.stream_spec.specs.declared.Verdict.TheVariants.{Clean as Sound, Broken as Breaks, Refused as NotJudged}
 use Rattle.refusal.specs.Checks.{first}
-use Rattle.stream_spec.specs.Checks.{width_check, user_check, shape_checks, length_check}
+use Rattle.stream_spec.specs.Checks.{width_check, user_check, length_check}
 use Rattle.stream_spec.specs.Walk.{Narrow}
 use Rattle.stream_spec.specs.Handshake.{low, high, harvested}
 use Rattle.stream_spec.specs.Answers.{judge_answer, fill_after, Judged}
 use Rattle.report_setup_spec.specs.declared.Setup.{Setup}
-use Rattle.report_setup_spec.specs.declared.Mode.TheVariants.{Pack, Lanes}
 use Rattle.report_setup_spec.specs.declared.Tlast.{Tlast}
 use Rattle.report_setup_spec.specs.declared.Tlast.TheVariants.{Wired, Absent, Low}
 use Rattle.report_setup_spec.specs.declared.Sheet.{Sheet}
@@ -37,7 +36,7 @@ use Rattle.refusal.proofs.First.{first-none}
 use Rattle.stream_record.specs.Checked.{checked_of}
 use Rattle.stream_record.proofs.Tests.{refused-is, passed_is}
 use Rattle.stream_spec.proofs.Fill.{refused-kept}
-use Rattle.report_spec.proofs.Passes.{retired_first, then_shapes, sound_in, sound-user, narrow_in}
+use Rattle.report_spec.proofs.Passes.{sound_in, sound-user, narrow_in}
 
 -- a refusal leaves the output as it is
 pub came_refused : (r : Refusal) (out : List ℕ) (f : Ending) → f.verdict ≡ Refused r → f.octets ≡ 0 → Came (refused r) out out f
@@ -98,15 +97,6 @@ module _ (u : Setup) (capture zeros cycles : List ℕ) (n : ℕ) (p : Put 0 capt
   pub copy_came : (out out' : List ℕ) (f : Ending) → OfCycles u (take n (after ++ drop n cycles)) out out' f → OfCapture u capture out out' f
   copy_came out out' f c = subst (λ (xs : List ℕ). OfCycles u xs out out' f) copy_is c
 
--- ---- check_setup; the code has the shape of the take in t, and tested the numbers as x
-
-pub told_retired : (u : Setup) → u.mode ≡ Lanes → checked_of (NotPassed Retired) ≡ first (setup_checks u)
-told_retired u e = sym (retired_first u e)
-
-pub told_shapes : (u : Setup) → u.mode ≡ Pack → (t : Shape) → t ≡ shape_of u → (x : Checked)
-    → checked_of x ≡ first (shape_checks t (u.width_out ∷ [])) → checked_of x ≡ first (setup_checks u)
-told_shapes u e t same x told = told ∙ ap (λ (s : Shape). first (shape_checks s (u.width_out ∷ []))) same ∙ sym (then_shapes u e)
-
 -- ---- of_setup
 
 found_alone : (b : Bool) (q r : Refusal) → cond b (some q) none ≡ some r → (b ≡ true) × (q ≡ r)
@@ -139,9 +129,9 @@ module _ (u : Setup) (t : Shape) (same : t ≡ shape_of u) (xs : List ℕ) (y : 
   length-refused r k = found_alone (length_check (shape_of u) xs).found Length r (refused-is y (length_check (shape_of u) xs ∷ []) tested r k)
 
 module _ (u : Setup) (out : List ℕ) (x : Checked) (e : checked_of x ≡ first (setup_checks u)) where
-  pub setup-refused : (r : Refusal) → x ≡ NotPassed r → (capture : Option (List ℕ)) (f : Ending) → f.verdict ≡ Refused r → f.octets ≡ 0
+  pub setup_refused : (r : Refusal) → x ≡ NotPassed r → (capture : Option (List ℕ)) (f : Ending) → f.verdict ≡ Refused r → f.octets ≡ 0
       → Came (setup_outcome u capture (length out)) out out f
-  setup-refused r g capture f a b =
+  setup_refused r g capture f a b =
       let found = refused-is x (setup_checks u) e r g in
       subst (λ (o : Option Refusal). Came (unless o (capture_outcome u capture (length out))) out out f) (sym found) (came_refused r out f a b)
 
@@ -149,9 +139,9 @@ module _ (u : Setup) (out : List ℕ) (x : Checked) (e : checked_of x ≡ first 
     pub passes : Passes u
     passes = passed_is x (setup_checks u) e g
 
-    pub setup-passed : (capture : Option (List ℕ)) (out' : List ℕ) (f : Ending) → Came (capture_outcome u capture (length out)) out out' f
+    pub setup_passed : (capture : Option (List ℕ)) (out' : List ℕ) (f : Ending) → Came (capture_outcome u capture (length out)) out out' f
         → Came (setup_outcome u capture (length out)) out out' f
-    setup-passed capture out' f c = subst (λ (o : Option Refusal). Came (unless o (capture_outcome u capture (length out))) out out' f) (sym passes) c
+    setup_passed capture out' f c = subst (λ (o : Option Refusal). Came (unless o (capture_outcome u capture (length out))) out out' f) (sym passes) c
 
     -- the code has the shape of the take in t
     pub shape_narrow : (t : Shape) → t ≡ shape_of u → Narrow t
@@ -162,7 +152,7 @@ module _ (u : Setup) (out : List ℕ) (x : Checked) (e : checked_of x ≡ first 
           → Came (setup_outcome u (contents read capture) (length out)) out out f
       setup_unread h f a b =
           subst (λ (b : Bool). Came (setup_outcome u (contents b capture) (length out)) out out f) (sym h)
-          (setup-passed none out f (came_refused Length out f a b))
+          (setup_passed none out f (came_refused Length out f a b))
 
       pub setup_ill : read ≡ true → (r : Refusal) → ((length_check (shape_of u) capture).found ≡ true) × (Length ≡ r)
           → (f : Ending) → f.verdict ≡ Refused r → f.octets ≡ 0 → Came (setup_outcome u (contents read capture) (length out)) out out f
@@ -174,13 +164,13 @@ module _ (u : Setup) (out : List ℕ) (x : Checked) (e : checked_of x ≡ first 
           let no : judge_answer (shape_of u) (cycles_of u capture) ≡ NotJudged Length =
           ap (judge_answer (shape_of u)) (ill_filled (shape_of u) capture w m l u.tlast) ∙ ill_after_judging (shape_of u) capture w m l in
           subst (λ (b : Bool). Came (setup_outcome u (contents b capture) (length out)) out out f) (sym h)
-          (setup-passed (some capture) out f
+          (setup_passed (some capture) out f
           (subst (λ (j : Judgement). Came (after_judging j (converted_transfers u (transfers_of u capture) (length out))) out out f) (sym no) (came_refused Length out f told b)))
 
-      pub setup-read : read ≡ true → (out' : List ℕ) (f : Ending) → Came (capture_outcome u (some capture) (length out)) out out' f
+      pub setup_read : read ≡ true → (out' : List ℕ) (f : Ending) → Came (capture_outcome u (some capture) (length out)) out out' f
           → Came (setup_outcome u (contents read capture) (length out)) out out' f
-      setup-read h out' f c =
-          subst (λ (b : Bool). Came (setup_outcome u (contents b capture) (length out)) out out' f) (sym h) (setup-passed (some capture) out' f c)
+      setup_read h out' f c =
+          subst (λ (b : Bool). Came (setup_outcome u (contents b capture) (length out)) out out' f) (sym h) (setup_passed (some capture) out' f c)
 
 -- ---- of_sheet
 

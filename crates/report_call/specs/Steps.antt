@@ -2,12 +2,16 @@
 -- is read by a user of the report.
 use Rattle.std.specs.Prelude.{◌≡◌, Bool, List, ◌++◌, ℕ, ◌≤◌, length}
 use Rattle.std.proofs.Math.Option.{some}
+use Rattle.stream_spec.specs.declared.Shape.{Shape}
+use Rattle.stream_spec.specs.declared.Written.{Written}
 use Rattle.stream_spec.specs.Memory.{in_front}
 use Rattle.stream_spec.specs.Handshake.{harvested}
-use Rattle.stream_spec.specs.Answers.{judge_answer}
+use Rattle.stream_spec.specs.Answers.{judge_answer, repack_after, downsize_after}
 use Rattle.text.specs.Text.{line}
 use Rattle.report_setup_spec.specs.declared.Setup.{Setup}
-use Rattle.report_spec.specs.Report.{contents, Outcome, shape_of, converted_transfers, after_judging, capture_outcome, setup_outcome, outcome_of, fitting, text_most}
+use Rattle.report_setup_spec.specs.declared.Mode.{Mode}
+use Rattle.report_setup_spec.specs.declared.Mode.TheVariants.{Pack, Lanes}
+use Rattle.report_spec.specs.Report.{contents, Outcome, shape_of, convert_answer, converted_transfers, after_judging, capture_outcome, setup_outcome, outcome_of, fitting, text_most}
 use Rattle.report_call.specs.declared.outcome.Ending.{Ending}
 
 -- an outcome in code: the verdict, and the result at the front of the lent output
@@ -39,6 +43,14 @@ abbrev pub OfClean : Setup → ℕ → List ℕ → List ℕ → List ℕ → En
 OfClean u count cycles before after f = OfTransfers u count (harvested (shape_of u) cycles) before after f
 
 -- ---- helpers
+
+abbrev pub convert_after : Mode → Shape → ℕ → List ℕ → List ℕ → List ℕ
+convert_after Pack s v transfers out = repack_after s v transfers out
+convert_after Lanes s v transfers out = downsize_after s v transfers out
+
+pub record Converts (m : Mode) (s : Shape) (v : ℕ) (transfers before after : List ℕ) (r : Written) : Type 0 where
+  pub is : r ≡ convert_answer m s v transfers (length before)
+  pub leaves : after ≡ convert_after m s v transfers before
 
 -- a head and two lines, short enough for an array of `text_most` octets
 abbrev pub two_lines : List ℕ → List ℕ → ℕ → List ℕ → ℕ → List ℕ

@@ -1,16 +1,16 @@
 // From sheet and take to the verdict, with the result in the lent output, the sheet first and the helpers last. Each step is a
-// call of the library; the order of the tests is paper 01's, with T-09's RETIRED and T-06's USERBITS: SHEET, RETIRED, WIDTH, USERBITS,
+// call of the library; the order of the tests is paper 01's, with T-06's USERBITS: SHEET, WIDTH, USERBITS, RATIO in lanes mode,
 // LENGTH, FIELD, broken, ROOM.
 // A take is the `capture` as it was sampled, `cycles` once it is filled in, and `transfers` once it is harvested.
-ghost use Rattle.std.specs.Prelude.{◌≡◌, false};
+ghost use Rattle.std.specs.Prelude.{◌≡◌, false, ◌<◌};
 ghost use Rattle.refusal.specs.Checks.{first};
 ghost use Rattle.stream_spec.specs.declared.Verdict.TheVariants.{Clean as Sound};
 ghost use Rattle.stream_spec.specs.Walk.{Passed as PassedTests};
 ghost use Rattle.stream_spec.specs.Checks.{length_check};
 ghost use Rattle.stream_spec.specs.Answers.{judge_answer};
 ghost use Rattle.stream_record.specs.Checked.{checked_of};
-ghost use Rattle.report_spec.specs.Report.{shape_of, out_shape, prepared, packet_count, refused, setup_checks, Passes};
-ghost use Rattle.report_call.specs.Steps.{OfSheet, OfSetup, OfCapture, OfCycles, OfClean, OfTransfers};
+ghost use Rattle.report_spec.specs.Report.{shape_of, out_shape, prepared, packet_count, refused, ratio_checks, setup_checks, Passes};
+ghost use Rattle.report_call.specs.Steps.{OfSheet, OfSetup, OfCapture, OfCycles, OfClean, OfTransfers, Converts};
 
 use refusal::Refusal;
 use report_setup_spec::{Mode, Setup, Sheet, Tlast};
@@ -46,7 +46,7 @@ pub fn of_sheet(
     }
 }
 
-// Of a sheet that was read: its mode and its numbers first, then LENGTH, then what is in the take.
+// Of a sheet that was read: its numbers first, then LENGTH, then what is in the take.
 fn of_setup(u: Setup, capture: &[u8], capture_read: bool, out: &mut [u8]) -> Ending
     ensures { OfSetup u capture_read capture.now out.old out.new result }
 {
@@ -108,14 +108,15 @@ fn of_clean(u: Setup, count: usize, cycles: &[u8], out: &mut [u8]) -> Ending
     of_transfers(u, count, &transfers[..n], out)
 }
 
-// Of `count` harvested transfers, which are repacked: clean, or ROOM.
+// Of `count` harvested transfers: clean, or ROOM.
 fn of_transfers(u: Setup, count: usize, transfers: &[u8], out: &mut [u8]) -> Ending
     requires { Passes u × PassedTests (shape_of u) transfers.now }
     ensures { OfTransfers u count transfers.now out.old out.new result }
 {
     let s = shape_of(u);
     let ends = packets(s, transfers);
-    let w = stream_repack::repack(s, u.width_out, transfers, out);
+    let mode = u.mode;
+    let w = convert(mode, s, u.width_out, transfers, out);
     match w {
         Written::Refused(r) => refuse(r),
         Written::Records(n) => {
@@ -130,6 +131,16 @@ fn of_transfers(u: Setup, count: usize, transfers: &[u8], out: &mut [u8]) -> End
                 octets: n * size,
             }
         }
+    }
+}
+
+// Repacking or lane-keeping downsizing.
+fn convert(mode: Mode, s: Shape, v: usize, transfers: &[u8], out: &mut [u8]) -> Written
+    ensures { Converts mode s v transfers.now out.old out.new result }
+{
+    match mode {
+        Mode::Pack => stream_repack::repack(s, v, transfers, out),
+        Mode::Lanes => stream_downsize::downsize(s, v, transfers, out),
     }
 }
 
@@ -163,14 +174,30 @@ fn prepare(wire: Tlast, s: Shape, capture: &mut [u8])
     }
 }
 
-// RETIRED in lanes mode, WIDTH of either width, USERBITS.
+// WIDTH of either width, USERBITS, RATIO in lanes mode.
 fn check_setup(u: Setup) -> Checked
     ensures { checked_of result ≡ first (setup_checks u) }
 {
+    let shapes = stream_record::check_shapes(shape_of(u), u.width_out);
+    match shapes {
+        Checked::Refused(r) => Checked::Refused(r),
+        Checked::Passed => check_ratio(u),
+    }
+}
+
+fn check_ratio(u: Setup) -> Checked
+    requires { 0 < u.width_out }
+    ensures { checked_of result ≡ first (ratio_checks u.mode (shape_of u) u.width_out) }
+{
     let mode = u.mode;
     match mode {
-        Mode::Lanes => Checked::Refused(Refusal::Retired),
-        Mode::Pack => stream_record::check_shapes(shape_of(u), u.width_out),
+        Mode::Pack => Checked::Passed,
+        Mode::Lanes => {
+            if u.width_in % u.width_out != 0 {
+                return Checked::Refused(Refusal::Ratio);
+            }
+            Checked::Passed
+        }
     }
 }
 

@@ -233,8 +233,8 @@ pub has_end : {key xs : List ℕ} {from : ℕ} {at : Value} {n : ℕ} → at ≡
 has_end {key} {xs} {from} p h = end_of (subst (EndSays key xs from) p h)
 
 module _ (reader : List ℕ → Option ℕ) (key xs : List ℕ) (from : ℕ) (at : Value) (h : EndSays key xs from at) where
-  pub no-line-there : at ≡ Missing → LineSays (line_of key reader (drop from xs)) xs Line-as-Refused
-  no-line-there p = line_refused (rw (missing_of (subst (EndSays key xs from) p h)))
+  pub no-line_there : at ≡ Missing → LineSays (line_of key reader (drop from xs)) xs Line-as-Refused
+  no-line_there p = line_refused (rw (missing_of (subst (EndSays key xs from) p h)))
 
   module _ (n : ℕ) (p : at ≡ Is n) where
     abbrev read-value : List ℕ

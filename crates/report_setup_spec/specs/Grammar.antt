@@ -1,8 +1,7 @@
 -- Paper 01, 'The report program': what a setup sheet says. "four LF-ended lines in this order: `width_in=`, `width_out=`
 -- (0 to 99, no leading zeros), `mode=pack` or `mode=lanes`, `tlast=wired` or `tlast=none`"; 02's T-03: "the new word
 -- `tlast=low`"; 02's T-06: "The sheet gets a fifth line `user=`, 0 to 9." Nothing else is a sheet: no other order or spelling,
--- no CR, no line less or more, nothing after the fifth LF. T-09 withdraws `mode=lanes`, and a sheet that has it is read all the same: the
--- report refuses it by a number of its own, 18, and only where the rest of the sheet is right.
+-- no CR, no line less or more, nothing after the fifth LF.
 -- A new word is one line of `modes` or `tlasts`, and what it means; a new line of the sheet is one line of `sheet_of` and one
 -- field of `Setup`.
 use Rattle.std.specs.Prelude.{Bool, true, false, not, ◌&&◌, cond, List, [], ◌∷◌, ℕ, zero, suc, ◌+◌, ◌-◌, ◌*◌, eqb, leb}

@@ -2,8 +2,7 @@
 // report_setup above; what a sheet says is in specs/Grammar, the number and values that an answer stands for in specs/Answers,
 // and the laws about both in proofs/. No octet is read here.
 
-// `mode=pack`: repacking. `mode=lanes` was lane-keeping downsizing, which T-09 withdrew: the word is still read, so that the report can
-// refuse it by a number of its own.
+// `mode=pack`: repacking. `mode=lanes`: lane-keeping downsizing.
 #[derive(Drop)]
 pub enum Mode {
     Pack,

@@ -1,4 +1,4 @@
--- Laws of the report: a sheet whose mode and numbers pass, repacking what was harvested, packet ends, short texts; what is
+-- Laws of the report: a sheet whose numbers pass, conversion in either mode, packet ends, short texts; what is
 -- promised; its worked cases; and what shows that contract and promises say something.
 pub mod Passes
 pub mod Convert

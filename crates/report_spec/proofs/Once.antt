@@ -45,10 +45,6 @@ pub items_once : {u : Setup} {capture : List ℕ} {room : ℕ} {o o' : List ℕ}
     → (stream_items (out_shape u) o ≡ stream_items (out_shape u) o') × (packet_count (out_shape u) o ≡ packet_count (out_shape u) o')
 items_once p q = (both p.items q.items, sym p.packets_out ∙ both p.packets q.packets ∙ q.packets_out)
 
--- and it is one result
-pub packs_once : {u : Setup} {capture : List ℕ} {room : ℕ} {o o' : List ℕ} {a b : Tally} → CleanTally u capture room o a → CleanTally u capture room o' b → o ≡ o'
-packs_once p q = both p.packs q.packs
-
 -- a port without a TLAST wire: the word decides the result, octet for octet, and both counts
 pub absent_once : {u : Setup} {capture o o' : List ℕ} {a b : Tally} → OnePacketEach u capture o a → OnePacketEach u capture o' b
     → (o ≡ o') × (a.transfers ≡ b.transfers) × (a.packets ≡ b.packets)

@@ -2,29 +2,26 @@
 -- written out, and at examples typed by hand. A premise that is narrowed, or a conclusion that says less, breaks one.
 -- Assumes nothing.
 use mathlib.Core.Path.{◌≡◌, refl, sym, ap, ◌∙◌}
-use mathlib.Core.Bool.{true, false}
+use mathlib.Core.Bool.{Bool, true, false}
 use mathlib.Core.List.{List, [], ◌∷◌, ◌++◌, map}
 use mathlib.Core.Logic.{◌≢◌}
 use mathlib.Core.Option.{Option, none, some}
-use Prim.Native.Nat.{ℕ, ◌%◌, ◌≤◌}
+use Prim.Native.Nat.{ℕ, ◌≤◌}
 use native.Mathlib.Omega.{arith}
-use lib.Dec.{lit≤}
-use lib.ListN.{length, replicate}
+use lib.ListN.{length}
 use Rattle.refusal.specs.Code.{code_of}
 use Rattle.refusal.specs.declared.Refusal.{Refusal}
-use Rattle.refusal.specs.declared.Refusal.TheVariants.{Field, Reserved, Room, Unclean}
-use Rattle.stream_spec.specs.declared.Written.{Written}
-use Rattle.stream_spec.specs.declared.Written.TheVariants.{Records}
-use Rattle.stream_spec.specs.Layout.{size, shaped, at_width, records, stream_items, sliced}
+use Rattle.refusal.specs.declared.Refusal.TheVariants.{Field, Reserved, Room, Ratio, Unclean}
+use Rattle.stream_spec.specs.Layout.{size, shaped, records, stream_items}
 use Rattle.refusal.specs.Checks.{first}
-use Rattle.stream_spec.specs.Checks.{capture_most, room_check}
+use Rattle.stream_spec.specs.Checks.{room_check}
 use Rattle.stream_spec.specs.Handshake.{Finding, first_finding, transfer_count}
-use Rattle.stream_spec.specs.Answers.{judge_answer, fill_after, repack_answer, repack_after, Repacked}
+use Rattle.stream_spec.specs.Answers.{judge_answer, fill_after, repack_answer, downsize_answer}
 use Rattle.stream_spec.specs.Memory.{in_front}
 use Rattle.stream_spec.specs.Legal.{Octets, Legal}
-use Rattle.stream_spec.specs.Promises.{Width}
-use Rattle.stream_spec.proofs.Tables.{width_tested, octets_tested, legal_tested}
+use Rattle.stream_spec.proofs.Tables.{octets_tested, legal_tested}
 use Rattle.report_setup_spec.specs.declared.Setup.{Setup}
+use Rattle.report_setup_spec.specs.declared.Mode.{Mode}
 use Rattle.report_setup_spec.specs.declared.Mode.TheVariants.{Pack, Lanes}
 use Rattle.report_setup_spec.specs.declared.Tlast.{Tlast}
 use Rattle.report_setup_spec.specs.declared.Tlast.TheVariants.{Wired, Absent, Low}
@@ -35,8 +32,8 @@ use Rattle.report_spec.specs.declared.Tally.{Tally}
 use Rattle.report_spec.specs.declared.Verdict.TheVariants.{Clean, Broken, Refused}
 use Rattle.report_spec.specs.Report.{shape_of, out_shape, cycles_of, transfers_of, tally, setup_outcome, sheet_outcome, verdict_values, text_of, whole, report_of}
 use Rattle.report_spec.specs.Promises.{OctetsOf, is_clean, CleanTally, OnePacketEach, NoPacketEnds, may_show, ordered_checks, converted_of, tally_of, in_order}
-use Rattle.report_spec.specs.Cases.{says, p1_sheet, p1_take, p1_result, p1_tagged, p1_tagged_result, p1_slices, cycle}
-use Rattle.report_spec.proofs.Promises.{reports_setup, only_when_clean, clean_tallies, tlast_none, tlast_low, least_records, archives_reported, refusals_shown, never_reserved_nor_unclean, retired_exactly, report_in_order, text_short, no}
+use Rattle.report_spec.specs.Cases.{says, p1_sheet, p1_take, p1_result, p1_tagged, p1_tagged_result, p1_low, p1_slices, cycle}
+use Rattle.report_spec.proofs.Promises.{reports_setup, only_when_clean, clean_tallies, tlast_none, tlast_low, least_records, refusals_shown, never_reserved_nor_unclean, pack_never_ratio, report_in_order, text_short, no}
 
 -- ---- what the promises ask
 
@@ -44,16 +41,18 @@ pub clean-table : (t : Tally) (cycle rule : ℕ) (r : Refusal)
     → map is_clean (Clean t ∷ Broken cycle rule ∷ Refused r ∷ []) ≡ true ∷ false ∷ false ∷ []
 clean-table t cycle rule r = refl
 
--- 1 to 20, as far as paper 01 and the requests count
+-- 1 to 20, as far as paper 01 and the requests count; 6 is the one that the mode decides
 abbrev numbers : List ℕ
 numbers = 1 ∷ 2 ∷ 3 ∷ 4 ∷ 5 ∷ 6 ∷ 7 ∷ 8 ∷ 9 ∷ 10 ∷ 11 ∷ 12 ∷ 13 ∷ 14 ∷ 15 ∷ 16 ∷ 17 ∷ 18 ∷ 19 ∷ 20 ∷ []
 
-pub pack-table : map (may_show Pack) numbers
-    ≡ true ∷ true ∷ true ∷ false ∷ true ∷ false ∷ false ∷ false ∷ false ∷ false ∷ false ∷ false ∷ false ∷ false ∷ false ∷ true ∷ false ∷ false ∷ false ∷ false ∷ []
+abbrev shown_table : Bool → List Bool
+shown_table six =
+    true ∷ true ∷ true ∷ false ∷ true ∷ six ∷ false ∷ false ∷ false ∷ false ∷ false ∷ false ∷ false ∷ false ∷ false ∷ true ∷ false ∷ false ∷ false ∷ false ∷ []
+
+pub pack-table : map (may_show Pack) numbers ≡ shown_table false
 pack-table = refl
 
-pub lanes-table : map (may_show Lanes) numbers
-    ≡ false ∷ false ∷ false ∷ false ∷ false ∷ false ∷ false ∷ false ∷ false ∷ false ∷ false ∷ false ∷ false ∷ false ∷ false ∷ false ∷ false ∷ true ∷ false ∷ false ∷ []
+pub lanes-table : map (may_show Lanes) numbers ≡ shown_table true
 lanes-table = refl
 
 pub unread_octets : OctetsOf none
@@ -89,20 +88,11 @@ pub never_hidden : (u : Setup) (capture : Option (List ℕ)) (room : ℕ) (r : R
 never_hidden u capture room r o h e = no (sym h ∙ refusals_shown u capture room r o e)
 
 module _ (sheet : List ℕ) (u : Setup) (e : sheet_of sheet ≡ Read u) (capture : Option (List ℕ)) (room : ℕ) where
-  pub reads-setup : report_of (some sheet) capture room ≡ whole (setup_outcome u capture room)
-  reads-setup = reports_setup sheet u e capture room
+  pub reads_setup : report_of (some sheet) capture room ≡ whole (setup_outcome u capture room)
+  reads_setup = reports_setup sheet u e capture room
 
--- T-09: a sheet that was read in lanes mode is refused with 18 whatever the take and the room are, and no other sheet is
-module _ (sheet : List ℕ) (u : Setup) (e : sheet_of sheet ≡ Read u) (capture : Option (List ℕ)) (room : ℕ) where
-  pub lanes_retired : u.mode ≡ Lanes → (verdict_values (report_of (some sheet) capture room).verdict).refusal ≡ 18
-  lanes_retired m = (retired_exactly (some sheet) capture room).1 (record { octets = sheet; there = refl; setup = u; read = e; lanes = m })
-
-pub unread_not_retired : (capture : Option (List ℕ)) (room : ℕ) → (verdict_values (report_of none capture room).verdict).refusal ≡ 18 → ⊥
-unread_not_retired capture room h =
-    let r = (retired_exactly none capture room).0 h in
-    let z : none ≡ some r.octets = r.there in
-    let w : ◌≡◌ {A = ℕ} 0 1 = cc in
-    absurd (omega arith)
+  pub pack-no-ratio : u.mode ≡ Pack → OctetsOf capture → (report_of (some sheet) capture room).verdict ≡ Refused Ratio → ⊥
+  pack-no-ratio m o h = pack_never_ratio sheet u e m capture room Ratio o h refl
 
 -- without a TLAST wire the transfers are those of the take as it was sampled, whatever level is filled in
 module _ (u : Setup) (capture : List ℕ) (room : ℕ) (t : Tally) (clean : (setup_outcome u (some capture) room).verdict ≡ Clean t) where
@@ -181,45 +171,48 @@ pub low-ends-none : NoPacketEnds (unwired Low) unwired_take across_result (tally
 unfolding size judge_answer fill_after repack_answer
 low-ends-none = tlast_low (unwired Low) unwired_take 9 (tally 2 0 1) refl refl
 
+-- in lanes mode too there are as many TLASTs in the result: P1's transfer sampled without TLAST, and its two slices
+abbrev sliced : Setup
+sliced = record { width_in = 4; width_out = 2; mode = Lanes; tlast = Absent; user = 0 }
+
+pub sliced_tallied : CleanTally sliced p1_low 18 p1_slices (tally 1 1 2)
+unfolding size judge_answer fill_after downsize_answer
+sliced_tallied = clean_tallies sliced p1_low 18 (tally 1 1 2) ((octets_tested p1_low).1 refl) refl
+
+pub sliced-each : OnePacketEach sliced p1_low p1_slices (tally 1 1 2)
+unfolding size judge_answer fill_after downsize_answer
+sliced-each = tlast_none sliced p1_low 18 (tally 1 1 2) refl refl
+
 -- T-07: P1's slices carry the same items in as many records as its packed form, and none has fewer
 pub p1-least : 2 ≤ 2
 unfolding size judge_answer repack_answer
-p1-least = least_records p1 p1_take 18 (tally 1 1 2) refl p1_slices ((legal_tested (shaped 2 0) p1_slices).1 refl) refl
+p1-least = least_records p1 p1_take 18 (tally 1 1 2) refl refl p1_slices ((legal_tested (shaped 2 0) p1_slices).1 refl) refl
 
--- the statement at its widest, written out
-pub least-at_its_widest : (u : Setup) (capture : List ℕ) (room : ℕ) (t : Tally) → (setup_outcome u (some capture) room).verdict ≡ Clean t
+-- `LeastRecords` is this statement of `mode=pack`
+abbrev LeastIn : Mode → Type 0
+LeastIn m =
+    (u : Setup) (capture : List ℕ) (room : ℕ) (t : Tally) → u.mode ≡ m → (setup_outcome u (some capture) room).verdict ≡ Clean t
     → (ys : List ℕ) → Legal (out_shape u) ys → stream_items (out_shape u) ys ≡ stream_items (shape_of u) (transfers_of u capture)
     → t.records ≤ length (records (out_shape u) ys)
-least-at_its_widest = least_records
 
--- T-09: P1's slices, an archived file, repacked to width 2: P1's records and its result, and the octet after it stays
-pub p1_archived : (repack_answer (shaped 2 0) 2 p1_slices 19 ≡ Records 2) × (repack_after (shaped 2 0) 2 p1_slices (replicate {A = ℕ} 19 0xEE) ≡ p1_result ++ (0xEE ∷ []))
-unfolding size judge_answer repack_answer repack_after
-p1_archived =
-    let k = archives_reported p1 p1_take 19 (tally 1 1 2) ((octets_tested p1_take).1 refl) refl 2 ((width_tested 2).1 refl) refl (lit≤ tt) in
-    (k.answers, k.leaves (replicate {A = ℕ} 19 0xEE) refl)
+pub in_pack-mode : LeastIn Pack
+in_pack-mode = least_records
 
--- the same with two user bits to a byte
-abbrev p1_tagged_slices : List ℕ
-p1_tagged_slices =
-    0x00 ∷ 0x01 ∷ 0x02 ∷ 0x01 ∷ 0x00 ∷ 0x01 ∷ 0x00 ∷ 0x11 ∷ 0x00 ∷ 0x01
-    ∷ 0x01 ∷ 0x01 ∷ 0x02 ∷ 0x03 ∷ 0x00 ∷ 0x02 ∷ 0x00 ∷ 0x00 ∷ 0x44 ∷ 0x0E ∷ []
+-- Of `mode=lanes` it is false: P1's transfer has four slices of one lane, one of them all-null, where these three records carry it.
+abbrev to_one : Setup
+to_one = record { width_in = 4; width_out = 1; mode = Lanes; tlast = Wired; user = 0 }
 
-pub tagged_archived : (repack_answer (shaped 2 2) 2 p1_tagged_slices 20 ≡ Records 2) × (repack_after (shaped 2 2) 2 p1_tagged_slices (replicate {A = ℕ} 20 0xEE) ≡ p1_tagged_result)
-unfolding size judge_answer repack_answer repack_after
-tagged_archived =
-    let k = archives_reported p1_user p1_tagged 20 (tally 1 1 2) ((octets_tested p1_tagged).1 refl) refl 2 ((width_tested 2).1 refl) refl (lit≤ tt) in
-    (k.answers, k.leaves (replicate {A = ℕ} 20 0xEE) refl)
+abbrev p1_ones : List ℕ
+p1_ones =
+    0x00 ∷ 0x01 ∷ 0x02 ∷ 0x01 ∷ 0x00 ∷ 0x01 ∷ 0x00 ∷ 0x11 ∷ 0x00 ∷ 0x01 ∷ 0x02 ∷ 0x01 ∷ 0x00 ∷ 0x00 ∷ 0x00 ∷ 0x00
+    ∷ 0x01 ∷ 0x01 ∷ 0x02 ∷ 0x01 ∷ 0x00 ∷ 0x01 ∷ 0x00 ∷ 0x44 ∷ []
 
--- at its widest, of the contract of the call: whatever it answers and leaves for the slices are the `records` and the result of the report
-pub as_reported : (u : Setup) (capture : List ℕ) (room : ℕ) (t : Tally) → Octets capture → (setup_outcome u (some capture) room).verdict ≡ Clean t
-    → (v : ℕ) → Width v → u.width_in % v ≡ 0 → length (sliced (shape_of u) v (transfers_of u capture)) ≤ capture_most
-    → (before after : List ℕ) (r : Written) → length before ≡ room
-    → Repacked (at_width (shape_of u) v) u.width_out (sliced (shape_of u) v (transfers_of u capture)) before after r
-    → (r ≡ Records t.records) × (after ≡ in_front (setup_outcome u (some capture) room).result before)
-as_reported u capture room t o e v w d a before after r n p =
-    let k = archives_reported u capture room t o e v w d a in
-    (p.is ∙ ap (repack_answer (at_width (shape_of u) v) u.width_out (sliced (shape_of u) v (transfers_of u capture))) n ∙ k.answers, p.leaves ∙ k.leaves before n)
+pub not_in_lanes-mode : LeastIn Lanes → ⊥
+unfolding size judge_answer downsize_answer
+not_in_lanes-mode least =
+    let few : 4 ≤ 3 =
+    least to_one p1_take 32 (tally 1 1 4) refl refl p1_ones ((legal_tested (shaped 1 0) p1_ones).1 refl) refl in
+    omega arith
 
 -- one octet short
 pub p1_unwritten : (out : List ℕ) → in_front (report_of p1_sheet (some p1_take) 17).result out ≡ out

@@ -53,7 +53,10 @@ abbrev pub p1_result : List ℕ
 p1_result =
     0x00 ∷ 0x01 ∷ 0x02 ∷ 0x03 ∷ 0x00 ∷ 0x01 ∷ 0x00 ∷ 0x11 ∷ 0x00 ∷ 0x01 ∷ 0x01 ∷ 0x02 ∷ 0x01 ∷ 0x00 ∷ 0x01 ∷ 0x00 ∷ 0x44 ∷ 0x00 ∷ []
 
--- P1's transfer in two slices, as in S2: what the report wrote before T-09 with `mode=lanes`
+-- the take with TLAST sampled low; P1's transfer in two slices, as in S2
+abbrev pub p1_low : List ℕ
+p1_low = 0x0E ∷ 0x01 ∷ 0x02 ∷ 0x0D ∷ 0x00 ∷ 0x09 ∷ 0x00 ∷ 0x11 ∷ 0x22 ∷ 0x33 ∷ 0x44 ∷ []
+
 abbrev pub p1_slices : List ℕ
 p1_slices =
     0x00 ∷ 0x01 ∷ 0x02 ∷ 0x01 ∷ 0x00 ∷ 0x01 ∷ 0x00 ∷ 0x11 ∷ 0x00 ∷ 0x01 ∷ 0x01 ∷ 0x02 ∷ 0x03 ∷ 0x00 ∷ 0x02 ∷ 0x00 ∷ 0x00 ∷ 0x44 ∷ []
@@ -85,6 +88,8 @@ unfoldable pub cases : List Case
 cases =
     -- W01: case P1
     tells p1_sheet (some p1_take) 65536 (shows says_clean 0 0 0 1 1 2) "verdict=clean\ntransfers=1\npackets=1\nrecords=2\n" p1_result
+    -- W02: the same take sliced, as in S2
+    ∷ tells (says "width_in=4\nwidth_out=2\nmode=lanes\ntlast=wired\nuser=0\n") (some p1_take) 18 (shows says_clean 0 0 0 1 1 2) "verdict=clean\ntransfers=1\npackets=1\nrecords=2\n" p1_slices
     -- W03: ROOM: one octet short
     ∷ tells p1_sheet (some p1_take) 17 (shows says_refused 5 0 0 0 0 0) "verdict=refused\nrefusal=5\nat=0\n" []
     -- W04: SHEET: neither file can be read
@@ -93,11 +98,13 @@ cases =
     ∷ tells none (some p1_take) 65536 (shows says_refused 15 0 0 0 0 0) "verdict=refused\nrefusal=15\nat=0\n" []
     -- W06: SHEET before WIDTH: a word that is none
     ∷ tells (says "width_in=17\nwidth_out=0\nmode=pack\ntlast=wire\nuser=0\n") none 0 (shows says_refused 15 0 0 0 0 0) "verdict=refused\nrefusal=15\nat=0\n" []
-    -- W07: WIDTH of the input before LENGTH
-    ∷ tells (says "width_in=17\nwidth_out=2\nmode=pack\ntlast=none\nuser=0\n") none 0 (shows says_refused 1 0 0 0 0 0) "verdict=refused\nrefusal=1\nat=0\n" []
-    -- W08: WIDTH of the output before LENGTH
-    ∷ tells (says "width_in=4\nwidth_out=0\nmode=pack\ntlast=none\nuser=0\n") none 0 (shows says_refused 1 0 0 0 0 0) "verdict=refused\nrefusal=1\nat=0\n" []
-    -- W10: a take that can't be read is LENGTH; 3 need not divide 4
+    -- W07: WIDTH of the input before RATIO and LENGTH
+    ∷ tells (says "width_in=17\nwidth_out=2\nmode=lanes\ntlast=none\nuser=0\n") none 0 (shows says_refused 1 0 0 0 0 0) "verdict=refused\nrefusal=1\nat=0\n" []
+    -- W08: WIDTH of the output before RATIO and LENGTH
+    ∷ tells (says "width_in=4\nwidth_out=0\nmode=lanes\ntlast=none\nuser=0\n") none 0 (shows says_refused 1 0 0 0 0 0) "verdict=refused\nrefusal=1\nat=0\n" []
+    -- W09: RATIO in lanes mode, before LENGTH
+    ∷ tells (says "width_in=4\nwidth_out=3\nmode=lanes\ntlast=wired\nuser=0\n") none 0 (shows says_refused 6 0 0 0 0 0) "verdict=refused\nrefusal=6\nat=0\n" []
+    -- W10: no RATIO in pack mode; a take that can't be read is LENGTH
     ∷ tells (says "width_in=4\nwidth_out=3\nmode=pack\ntlast=wired\nuser=0\n") none 0 (shows says_refused 2 0 0 0 0 0) "verdict=refused\nrefusal=2\nat=0\n" []
     -- W11: LENGTH: no whole number of records
     ∷ tells (says "width_in=1\nwidth_out=1\nmode=pack\ntlast=none\nuser=0\n") (some (cycle 0xFF 0 0 0 ++ (0 ∷ []))) 0 (shows says_refused 2 0 0 0 0 0) "verdict=refused\nrefusal=2\nat=0\n" []
@@ -129,21 +136,32 @@ cases =
     -- W21: T-03: it does with tlast=low, though its TLAST was sampled high
     ∷ tells (says "width_in=1\nwidth_out=1\nmode=pack\ntlast=low\nuser=0\n") (some (cycle 0x0F 3 0 0)) 0
     (shows says_clean 0 0 0 1 0 0) "verdict=clean\ntransfers=1\npackets=0\nrecords=0\n" []
+    -- W22: T-03: tlast=low in lanes mode: P1's slices without TLAST
+    ∷ tells (says "width_in=4\nwidth_out=2\nmode=lanes\ntlast=low\nuser=0\n") (some p1_take) 18 (shows says_clean 0 0 0 1 0 2) "verdict=clean\ntransfers=1\npackets=0\nrecords=2\n"
+    (0x00 ∷ 0x01 ∷ 0x02 ∷ 0x01 ∷ 0x00 ∷ 0x01 ∷ 0x00 ∷ 0x11 ∷ 0x00 ∷ 0x00 ∷ 0x01 ∷ 0x02 ∷ 0x03 ∷ 0x00 ∷ 0x02 ∷ 0x00 ∷ 0x00 ∷ 0x44 ∷ [])
     -- W23: T-03: there is no word `high`
     ∷ tells (says "width_in=4\nwidth_out=2\nmode=pack\ntlast=high\nuser=0\n") (some p1_take) 65536 (shows says_refused 15 0 0 0 0 0) "verdict=refused\nrefusal=15\nat=0\n" []
     -- W24: T-03: fill-in hides nothing but TLAST: TDEST turns while a transfer waits
     ∷ tells (says "width_in=1\nwidth_out=2\nmode=pack\ntlast=low\nuser=0\n") (some (waits ++ cycle 0x0E 1 1 1)) 9 (shows says_broken 0 1 3 0 0 0) "verdict=broken\ncycle=1\nrule=3\n" []
+    -- W25: T-03: tlast=none in lanes mode: W02's result, though TLAST was sampled low
+    ∷ tells (says "width_in=4\nwidth_out=2\nmode=lanes\ntlast=none\nuser=0\n") (some p1_low) 18 (shows says_clean 0 0 0 1 1 2) "verdict=clean\ntransfers=1\npackets=1\nrecords=2\n" p1_slices
     -- W26: T-06: USERBITS: five user bits to a byte, before LENGTH
     ∷ tells (says "width_in=4\nwidth_out=2\nmode=pack\ntlast=wired\nuser=5\n") none 0 (shows says_refused 16 0 0 0 0 0) "verdict=refused\nrefusal=16\nat=0\n" []
     -- W27: T-06: WIDTH of the input before USERBITS
     ∷ tells (says "width_in=17\nwidth_out=2\nmode=pack\ntlast=wired\nuser=5\n") none 0 (shows says_refused 1 0 0 0 0 0) "verdict=refused\nrefusal=1\nat=0\n" []
     -- W28: T-06: WIDTH of the output before USERBITS
     ∷ tells (says "width_in=4\nwidth_out=17\nmode=pack\ntlast=wired\nuser=9\n") none 0 (shows says_refused 1 0 0 0 0 0) "verdict=refused\nrefusal=1\nat=0\n" []
+    -- W29: T-06: USERBITS before RATIO
+    ∷ tells (says "width_in=4\nwidth_out=3\nmode=lanes\ntlast=wired\nuser=5\n") none 0 (shows says_refused 16 0 0 0 0 0) "verdict=refused\nrefusal=16\nat=0\n" []
     -- W30: T-06: SHEET: P1's sheet as it was before, without its fifth line
     ∷ tells (says "width_in=4\nwidth_out=2\nmode=pack\ntlast=wired\n") (some p1_take) 65536 (shows says_refused 15 0 0 0 0 0) "verdict=refused\nrefusal=15\nat=0\n" []
     -- W31: T-06: P1 with user bits: data and position bytes keep theirs, the null lane's are dropped
     ∷ tells (says "width_in=4\nwidth_out=2\nmode=pack\ntlast=wired\nuser=2\n") (some p1_tagged) 20 (shows says_clean 0 0 0 1 1 2) "verdict=clean\ntransfers=1\npackets=1\nrecords=2\n"
     p1_tagged_result
+    -- W32: T-06: the same take sliced: the null lane's bits are zero
+    ∷ tells (says "width_in=4\nwidth_out=2\nmode=lanes\ntlast=wired\nuser=2\n") (some p1_tagged) 20 (shows says_clean 0 0 0 1 1 2) "verdict=clean\ntransfers=1\npackets=1\nrecords=2\n"
+    (0x00 ∷ 0x01 ∷ 0x02 ∷ 0x01 ∷ 0x00 ∷ 0x01 ∷ 0x00 ∷ 0x11 ∷ 0x00 ∷ 0x01
+    ∷ 0x01 ∷ 0x01 ∷ 0x02 ∷ 0x03 ∷ 0x00 ∷ 0x02 ∷ 0x00 ∷ 0x00 ∷ 0x44 ∷ 0x0E ∷ [])
     -- W33: T-06: ROOM counts the octets of the user bits: one octet short of W31's
     ∷ tells (says "width_in=4\nwidth_out=2\nmode=pack\ntlast=wired\nuser=2\n") (some p1_tagged) 19 (shows says_refused 5 0 0 0 0 0) "verdict=refused\nrefusal=5\nat=0\n" []
     -- W34: T-06: LENGTH: P1's own take is no record with user bits
@@ -152,26 +170,4 @@ cases =
     ∷ tells (says "width_in=1\nwidth_out=1\nmode=pack\ntlast=wired\nuser=1\n") (some (last ++ (0x01 ∷ []) ++ last ++ (0x02 ∷ []))) 65536 (shows says_refused 3 1 0 0 0 0) "verdict=refused\nrefusal=3\nat=1\n" []
     -- W36: T-06: R3 compares the user bits: one turns while a transfer waits
     ∷ tells (says "width_in=1\nwidth_out=1\nmode=pack\ntlast=wired\nuser=1\n") (some (waits ++ (0x01 ∷ []) ++ plain ++ (0x00 ∷ []))) 65536 (shows says_broken 0 1 3 0 0 0) "verdict=broken\ncycle=1\nrule=3\n" []
-    -- W37: T-09: RETIRED: P1 in lanes mode, which was clean before
-    ∷ tells (says "width_in=4\nwidth_out=2\nmode=lanes\ntlast=wired\nuser=0\n") (some p1_take) 65536 (shows says_refused 18 0 0 0 0 0) "verdict=refused\nrefusal=18\nat=0\n" []
-    -- W38: T-09: RETIRED before WIDTH of the input, and though there is no take
-    ∷ tells (says "width_in=17\nwidth_out=2\nmode=lanes\ntlast=none\nuser=0\n") none 0 (shows says_refused 18 0 0 0 0 0) "verdict=refused\nrefusal=18\nat=0\n" []
-    -- W39: T-09: RETIRED before WIDTH of the output
-    ∷ tells (says "width_in=4\nwidth_out=0\nmode=lanes\ntlast=wired\nuser=0\n") none 0 (shows says_refused 18 0 0 0 0 0) "verdict=refused\nrefusal=18\nat=0\n" []
-    -- W40: T-09: RETIRED before USERBITS
-    ∷ tells (says "width_in=4\nwidth_out=2\nmode=lanes\ntlast=wired\nuser=9\n") none 0 (shows says_refused 18 0 0 0 0 0) "verdict=refused\nrefusal=18\nat=0\n" []
-    -- W41: T-09: RETIRED where 3 does not divide 4, which was RATIO before
-    ∷ tells (says "width_in=4\nwidth_out=3\nmode=lanes\ntlast=low\nuser=0\n") (some p1_take) 65536 (shows says_refused 18 0 0 0 0 0) "verdict=refused\nrefusal=18\nat=0\n" []
-    -- W42: T-09: RETIRED before LENGTH
-    ∷ tells (says "width_in=1\nwidth_out=1\nmode=lanes\ntlast=wired\nuser=0\n") (some (last ++ (0 ∷ []))) 65536 (shows says_refused 18 0 0 0 0 0) "verdict=refused\nrefusal=18\nat=0\n" []
-    -- W43: T-09: RETIRED before FIELD and a broken verdict
-    ∷ tells (says "width_in=1\nwidth_out=1\nmode=lanes\ntlast=wired\nuser=0\n") (some (cycle 0x02 0 0 0 ++ cycle 0x08 16 0 0)) 65536 (shows says_refused 18 0 0 0 0 0) "verdict=refused\nrefusal=18\nat=0\n" []
-    -- W44: T-09: RETIRED before ROOM
-    ∷ tells (says "width_in=1\nwidth_out=1\nmode=lanes\ntlast=wired\nuser=0\n") (some last) 0 (shows says_refused 18 0 0 0 0 0) "verdict=refused\nrefusal=18\nat=0\n" []
-    -- W45: T-09: SHEET before RETIRED: a bad last line
-    ∷ tells (says "width_in=4\nwidth_out=2\nmode=lanes\ntlast=wired\nuser=10\n") (some p1_take) 65536 (shows says_refused 15 0 0 0 0 0) "verdict=refused\nrefusal=15\nat=0\n" []
-    -- W46: T-09: SHEET before RETIRED: a sheet of four lines
-    ∷ tells (says "width_in=4\nwidth_out=2\nmode=lanes\ntlast=wired\n") (some p1_take) 65536 (shows says_refused 15 0 0 0 0 0) "verdict=refused\nrefusal=15\nat=0\n" []
-    -- W47: T-09: an archived file is no take: its records have TVALID and ARESETn low, so it reads as clean, with no transfers
-    ∷ tells (says "width_in=2\nwidth_out=4\nmode=pack\ntlast=wired\nuser=0\n") (some p1_slices) 65536 (shows says_clean 0 0 0 0 0 0) "verdict=clean\ntransfers=0\npackets=0\nrecords=0\n" []
     ∷ []

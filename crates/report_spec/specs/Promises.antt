@@ -1,18 +1,15 @@
 -- What is proved of the report, a statement each. Words in quotes are paper 01's or, where it is said, a request's of paper 02.
 -- The proofs are in proofs/Promises.
-use Rattle.std.specs.Prelude.{◌≡◌, Bool, true, false, ◌||◌, List, [], ◌∷◌, ◌++◌, map, ◌↔◌, ◌≢◌, ℕ, ◌*◌, ◌%◌, ◌^◌, ◌≤◌, ◌<◌, eqb, length}
+use Rattle.std.specs.Prelude.{◌≡◌, Bool, true, false, ◌||◌, List, [], ◌∷◌, ◌++◌, map, ◌≢◌, ℕ, ◌*◌, ◌^◌, ◌≤◌, ◌<◌, eqb, length}
 use Rattle.std.proofs.Math.Option.{Option, none, some}
 use Rattle.refusal.specs.Code.{code_of}
 use Rattle.refusal.specs.declared.Refusal.{Refusal}
-use Rattle.stream_spec.specs.declared.Written.TheVariants.{Records}
-use Rattle.stream_spec.specs.Layout.{size, at_width, records, joined, stream_items, packed, sliced}
+use Rattle.stream_spec.specs.Layout.{size, records, joined, stream_items}
 use Rattle.refusal.specs.Checks.{Check, first}
 use Rattle.stream_spec.specs.Checks.{length_check, cycle_checks, room_check}
 use Rattle.stream_spec.specs.Handshake.{Finding, first_finding, handshakes, transfer_count, low, high, as_filled}
 use Rattle.stream_spec.specs.Memory.{in_front}
-use Rattle.stream_spec.specs.Answers.{repack_answer, repack_after}
 use Rattle.stream_spec.specs.Legal.{Octets, Legal}
-use Rattle.stream_spec.specs.Promises.{Width}
 use Rattle.report_setup_spec.specs.declared.Setup.{Setup}
 use Rattle.report_setup_spec.specs.declared.Mode.{Mode}
 use Rattle.report_setup_spec.specs.declared.Mode.TheVariants.{Pack, Lanes}
@@ -22,7 +19,7 @@ use Rattle.report_setup_spec.specs.Grammar.{sheet_of}
 use Rattle.report_spec.specs.declared.Tally.{Tally}
 use Rattle.report_spec.specs.declared.Verdict.{Verdict}
 use Rattle.report_spec.specs.declared.Verdict.TheVariants.{Clean, Broken, Refused}
-use Rattle.report_spec.specs.Report.{Word, says_clean, says_broken, says_refused, verdict_values, shape_of, out_shape, cycles_of, transfers_of, packet_count, tally, setup_checks, setup_outcome, text_of, whole, report_of}
+use Rattle.report_spec.specs.Report.{Word, says_clean, says_broken, says_refused, verdict_values, shape_of, out_shape, cycles_of, transfers_of, packet_count, convert_result, tally, setup_checks, setup_outcome, text_of, whole, report_of}
 
 -- every number of a take that could be read is an octet
 abbrev pub OctetsOf : Option (List ℕ) → Type 0
@@ -55,9 +52,9 @@ OnlyWhenClean =
     (sheet capture : Option (List ℕ)) (room : ℕ) → is_clean (report_of sheet capture room).verdict ≡ false
     → WritesNothing (report_of sheet capture room).result
 
--- ---- a clean verdict: its numbers are counts of the records harvested and of those in the result, which is their packed form, a legal
--- stream with the harvested transfers' items, and fits into the lent output. `packets` counts "harvested TLASTs"; the result has as
--- many, with each word of `tlast=`.
+-- ---- a clean verdict: its numbers are counts of the records harvested and of those in the result, which is a legal stream
+-- with the harvested transfers' items, and fits into the lent output. `packets` counts "harvested TLASTs"; the result has as
+-- many, in either mode and with each word of `tlast=`.
 
 pub record CleanTally (u : Setup) (capture : List ℕ) (room : ℕ) (result : List ℕ) (t : Tally) : Type 0 where
   pub transfers : t.transfers ≡ length (records (shape_of u) (transfers_of u capture))
@@ -66,7 +63,6 @@ pub record CleanTally (u : Setup) (capture : List ℕ) (room : ℕ) (result : Li
   pub written : t.records ≡ length (records (out_shape u) result)
   pub long : length result ≡ t.records * size (out_shape u)
   pub fits : length result ≤ room
-  pub packs : result ≡ packed (shape_of u) u.width_out (transfers_of u capture)
   pub legal : Legal (out_shape u) result
   pub items : stream_items (out_shape u) result ≡ stream_items (shape_of u) (transfers_of u capture)
 
@@ -81,9 +77,9 @@ CleanTallies =
 abbrev pub sampled_at : Bool → Setup → List ℕ → List (List ℕ)
 sampled_at level u capture = map (as_filled level) (handshakes (records (shape_of u) capture))
 
--- what these transfer records become by the sheet: their packed form
+-- what these transfer records become by the sheet: with `mode=pack` their packed form, with `mode=lanes` their slices
 abbrev pub result_by : Setup → List ℕ → List ℕ
-result_by u transfers = packed (shape_of u) u.width_out transfers
+result_by u transfers = convert_result u.mode (shape_of u) u.width_out transfers
 
 -- "`tlast=none` now fills in high, each transfer its own packet": the transfers are those that were sampled, there are as many
 -- packets, and the result is what each transfer becomes by itself, joined record by record. So one that is all-null does not vanish.
@@ -109,36 +105,24 @@ TlastLow =
     (u : Setup) (capture : List ℕ) (room : ℕ) (t : Tally) → u.tlast ≡ Low → (setup_outcome u (some capture) room).verdict ≡ Clean t
     → NoPacketEnds u capture (setup_outcome u (some capture) room).result t
 
--- ---- T-07: no shorter stream. The number that a report shows as `records` is at most that of every legal stream of the result's width
--- and user bits which carries the items of the harvested transfers, in their order.
+-- ---- T-07: no shorter stream. With `mode=pack` the number that a report shows as `records` is at most that of every legal stream of
+-- the result's width and user bits which carries the items of the harvested transfers, in their order.
 
 abbrev pub LeastRecords : Type 0
 LeastRecords =
-    (u : Setup) (capture : List ℕ) (room : ℕ) (t : Tally) → (setup_outcome u (some capture) room).verdict ≡ Clean t
+    (u : Setup) (capture : List ℕ) (room : ℕ) (t : Tally) → u.mode ≡ Pack → (setup_outcome u (some capture) room).verdict ≡ Clean t
     → (ys : List ℕ) → Legal (out_shape u) ys → stream_items (out_shape u) ys ≡ stream_items (shape_of u) (transfers_of u capture)
     → t.records ≤ length (records (out_shape u) ys)
 
--- ---- T-09: archived files. What `mode=lanes` wrote of a take were the slices of its transfers. "repacking them gives what repacking their
--- original takes gave": u is the old sheet with `mode=pack` and any output width put in, v the old output width. Where the report by u on the
--- take is clean, repacking the slices to u's output width answers its `records`, and leaves its result in front of what the call is lent. No
--- file that the report wrote is longer than 65,536 octets.
+-- ---- which refusals show once the sheet is read, by their numbers: 1, 2, 3, 5, since T-06 16, and 6 in lanes mode. So 4 and 14
+-- never do: a reserved lane is R4, and a broken take is a verdict of its own.
 
-pub record AsReported (u : Setup) (v : ℕ) (archived : List ℕ) (room : ℕ) (result : List ℕ) (t : Tally) : Type 0 where
-  pub answers : repack_answer (at_width (shape_of u) v) u.width_out archived room ≡ Records t.records
-  pub leaves : (lent : List ℕ) → length lent ≡ room → repack_after (at_width (shape_of u) v) u.width_out archived lent ≡ in_front result lent
-
-abbrev pub ArchivesReported : Type 0
-ArchivesReported =
-    (u : Setup) (capture : List ℕ) (room : ℕ) (t : Tally) → Octets capture → (setup_outcome u (some capture) room).verdict ≡ Clean t
-    → (v : ℕ) → Width v → u.width_in % v ≡ 0 → length (sliced (shape_of u) v (transfers_of u capture)) ≤ 65536
-    → AsReported u v (sliced (shape_of u) v (transfers_of u capture)) room (setup_outcome u (some capture) room).result t
-
--- ---- which refusals show once the sheet is read, by their numbers: 18 alone with `mode=lanes` (T-09), else 1, 2, 3, 5, and since T-06
--- 16. So 4 and 14 never do: a reserved lane is R4, and a broken take is a verdict of its own.
+abbrev pub ratio_number : Mode → List ℕ
+ratio_number Pack = []
+ratio_number Lanes = 6 ∷ []
 
 abbrev pub shown : Mode → List ℕ
-shown Pack = 1 ∷ 16 ∷ 2 ∷ 3 ∷ 5 ∷ []
-shown Lanes = 18 ∷ []
+shown m = 1 ∷ 16 ∷ 2 ∷ 3 ∷ 5 ∷ ratio_number m
 
 abbrev pub listed : ℕ → List ℕ → Bool
 listed n [] = false
@@ -157,21 +141,13 @@ NeverReservedNorUnclean =
     (sheet capture : Option (List ℕ)) (room : ℕ) (r : Refusal) → OctetsOf capture → (report_of sheet capture room).verdict ≡ Refused r
     → ((code_of r).0 ≢ 4) × ((code_of r).0 ≢ 14)
 
--- T-09: "18 RETIRED for a sheet with `mode=lanes`": the number shows exactly where the sheet was read and its mode is lanes, whatever its
--- other lines say, whatever the take is, read or not, and in every room.
-pub record ReadAsLanes (sheet : Option (List ℕ)) : Type 0 where
-  pub octets : List ℕ
-  pub there : sheet ≡ some octets
-  pub setup : Setup
-  pub read : sheet_of octets ≡ Read setup
-  pub lanes : setup.mode ≡ Lanes
+abbrev pub PackNeverRatio : Type 0
+PackNeverRatio =
+    (sheet : List ℕ) (u : Setup) → sheet_of sheet ≡ Read u → u.mode ≡ Pack
+    → (capture : Option (List ℕ)) (room : ℕ) (r : Refusal) → OctetsOf capture → (report_of (some sheet) capture room).verdict ≡ Refused r → (code_of r).0 ≢ 6
 
-abbrev pub RetiredExactly : Type 0
-RetiredExactly =
-    (sheet capture : Option (List ℕ)) (room : ℕ) → ((verdict_values (report_of sheet capture room).verdict).refusal ≡ 18) ↔ ReadAsLanes sheet
-
--- ---- 01's order as one list: "WIDTH of either width, .. LENGTH, FIELD, a broken verdict, and ROOM last", with T-09's RETIRED "before
--- WIDTH" and T-06's USERBITS "straight after WIDTH". For a sheet and a take that were read, the verdict is the first of these that is there, or else clean.
+-- ---- 01's order as one list: "WIDTH of either width, RATIO in lanes mode, LENGTH, FIELD, a broken verdict, and ROOM last",
+-- and T-06's USERBITS "straight after WIDTH". For a sheet and a take that were read, the verdict is the first of these that is there, or else clean.
 
 abbrev pub ordered_checks : Setup → List ℕ → List (Check Refusal)
 ordered_checks u cycles = setup_checks u ++ length_check (shape_of u) cycles ∷ cycle_checks (shape_of u) 0 (records (shape_of u) cycles)

@@ -1,22 +1,22 @@
 -- The report (paper 01, 'The report program'): from a setup sheet and a take of cycle records to a verdict, the text that is
--- printed and the octets of the result. Words in quotes are 01's or, where it is said, those of T-03, T-06 or T-09 (paper 02). What a sheet says
--- is report_setup_spec's `sheet_of`; what judging, harvesting, fill-in and repacking answer is stream_spec's.
+-- printed and the octets of the result. Words in quotes are 01's or, where it is said, those of T-03 or T-06 (paper 02). What a sheet says is
+-- report_setup_spec's `sheet_of`; what judging, harvesting, fill-in, repacking and downsizing answer is stream_spec's.
 use Rattle.std.specs.Prelude.{◌≡◌, Bool, true, false, cond, List, [], ◌∷◌, ◌++◌, ℕ, ◌+◌, ◌≤◌, ltb, length}
 use Rattle.std.proofs.Math.Option.{Option, none, some}
 use Rattle.refusal.specs.Code.{code_of}
 use Rattle.refusal.specs.declared.Refusal.{Refusal}
-use Rattle.refusal.specs.declared.Refusal.TheVariants.{Length, Setup as BadSheet, Retired}
+use Rattle.refusal.specs.declared.Refusal.TheVariants.{Length, Setup as BadSheet}
 use Rattle.stream_spec.specs.declared.Shape.{Shape}
 use Rattle.stream_spec.specs.declared.Verdict.{Verdict as Judgement}
 use Rattle.stream_spec.specs.declared.Verdict.TheVariants.{Clean as Sound, Broken as Breaks, Refused as NotJudged}
 use Rattle.stream_spec.specs.declared.Written.{Written}
 use Rattle.stream_spec.specs.declared.Written.TheVariants.{Records, Refused as NotWritten}
-use Rattle.stream_spec.specs.Layout.{shaped, at_width, bit_of, tlast, records, packed}
-use Rattle.refusal.specs.Checks.{Check, check, first}
-use Rattle.stream_spec.specs.Checks.{shape_checks}
+use Rattle.stream_spec.specs.Layout.{shaped, at_width, bit_of, tlast, records, packed, sliced}
+use Rattle.refusal.specs.Checks.{Check, first}
+use Rattle.stream_spec.specs.Checks.{shape_checks, ratio_check}
 use Rattle.stream_spec.specs.Memory.{in_front}
 use Rattle.stream_spec.specs.Handshake.{low, high, harvested}
-use Rattle.stream_spec.specs.Answers.{judge_answer, fill_after, repack_answer}
+use Rattle.stream_spec.specs.Answers.{judge_answer, fill_after, repack_answer, downsize_answer}
 use Rattle.report_setup_spec.specs.declared.Setup.{Setup}
 use Rattle.report_setup_spec.specs.declared.Mode.{Mode}
 use Rattle.report_setup_spec.specs.declared.Mode.TheVariants.{Pack, Lanes}
@@ -74,6 +74,15 @@ lasts (r ∷ rs) = bit_of (tlast r) + lasts rs
 abbrev pub packet_count : Shape → List ℕ → ℕ
 packet_count s transfers = lasts (records s transfers)
 
+-- `mode=pack`: repacking; `mode=lanes`: lane-keeping downsizing
+abbrev pub convert_answer : Mode → Shape → ℕ → List ℕ → ℕ → Written
+convert_answer Pack s v transfers room = repack_answer s v transfers room
+convert_answer Lanes s v transfers room = downsize_answer s v transfers room
+
+abbrev pub convert_result : Mode → Shape → ℕ → List ℕ → List ℕ
+convert_result Pack s v transfers = packed s v transfers
+convert_result Lanes s v transfers = sliced s v transfers
+
 abbrev pub tally : ℕ → ℕ → ℕ → Tally
 tally transfers packets written = record { transfers = transfers; packets = packets; records = written }
 
@@ -82,11 +91,10 @@ abbrev pub converted : Written → ℕ → ℕ → List ℕ → Outcome
 converted (NotWritten r) transfers packets result = refused r
 converted (Records n) transfers packets result = record { verdict = Clean (tally transfers packets n); result = result }
 
--- `mode=pack`: the transfers are repacked
 abbrev pub converted_transfers : Setup → List ℕ → ℕ → ℕ → Outcome
 converted_transfers u transfers room count =
-    converted (repack_answer (shape_of u) u.width_out transfers room) count (packet_count (shape_of u) transfers)
-    (packed (shape_of u) u.width_out transfers)
+    converted (convert_answer u.mode (shape_of u) u.width_out transfers room) count (packet_count (shape_of u) transfers)
+    (convert_result u.mode (shape_of u) u.width_out transfers)
 
 -- ".. LENGTH, FIELD, a broken verdict ..": what judging answers, and for a clean take what follows
 abbrev pub after_judging : Judgement → (ℕ → Outcome) → Outcome
@@ -100,19 +108,15 @@ capture_outcome u none room = refused Length
 capture_outcome u (some capture) room =
     after_judging (judge_answer (shape_of u) (cycles_of u capture)) (converted_transfers u (transfers_of u capture) room)
 
--- T-09: "18 RETIRED for a sheet with `mode=lanes`, after SHEET and before WIDTH"
-abbrev pub is_retired : Mode → Bool
-is_retired Pack = false
-is_retired Lanes = true
+-- ".. then WIDTH of either width, RATIO in lanes mode .."; T-06: USERBITS "straight after WIDTH"
+abbrev pub ratio_checks : Mode → Shape → ℕ → List (Check Refusal)
+ratio_checks Pack s v = []
+ratio_checks Lanes s v = ratio_check s v ∷ []
 
-abbrev pub retired_check : Setup → Check Refusal
-retired_check u = check (is_retired u.mode) Retired
-
--- ".. then WIDTH of either width .."; T-06: USERBITS "straight after WIDTH"
 abbrev pub setup_checks : Setup → List (Check Refusal)
-setup_checks u = retired_check u ∷ shape_checks (shape_of u) (u.width_out ∷ [])
+setup_checks u = shape_checks (shape_of u) (u.width_out ∷ []) ++ ratio_checks u.mode (shape_of u) u.width_out
 
--- the sheet's mode, its widths and its user bits pass their tests
+-- the sheet's widths, its user bits and its ratio pass their tests
 abbrev pub Passes : Setup → Type 0
 Passes u = first (setup_checks u) ≡ none
 

@@ -46,9 +46,9 @@ module _ (s : Shape) (xs : List ℕ) (k : ℕ) where
   answered none e h = e
   answered (some f) e h = let z : ◌≡◌ {A = ℕ} 0 1 = cc in absurd (omega arith)
 
-  pub found-there : (r : Lookup) → r ≡ Present → LookedUp s xs k r → data_refusal s xs k ≡ none
+  pub found_there : (r : Lookup) → r ≡ Present → LookedUp s xs k r → data_refusal s xs k ≡ none
   unfolding data_answer
-  found-there r e h = answered (data_refusal s xs k) refl (sym e ∙ h.is)
+  found_there r e h = answered (data_refusal s xs k) refl (sym e ∙ h.is)
 
   -- an accepted call hands out the record's data, which lies in the take; z is the record's size
   pub part-within : (z : ℕ) → z ≡ size s → data_refusal s xs k ≡ none → k * z + head_octets + s.width ≤ length xs

@@ -12,7 +12,7 @@ ghost use Rattle.stream_spec.specs.Walk.{Narrow};
 ghost use Rattle.stream_record.specs.Header.{header_of, header_fault};
 
 pub use checks::{check_input, check_length, check_shapes, check_take};
-pub use faults::{fault_in, fault_of, record_fault};
+pub use faults::{fault_in, fault_of, find_fault, record_fault};
 pub use layout::HEAD_OCTETS;
 use layout::{CAPTURE_MOST, FLAGS, TDEST, TDEST_MOST, TID, TKEEP, TSTRB, USER_MOST, WIDTH_MOST};
 use refusal::Refusal;

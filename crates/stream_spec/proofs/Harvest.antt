@@ -10,24 +10,23 @@ use native.Mathlib.Omega.{arith}
 use lib.ListN.{length, length-map}
 use Rattle.refusal.specs.declared.Refusal.TheVariants.{Field}
 use Rattle.stream_spec.specs.declared.Shape.{Shape}
-use Rattle.stream_spec.specs.Layout.{last_alone, tlast, tvalid, aresetn, tready, lane_types, any_reserved, size, records, record_count, joined}
+use Rattle.stream_spec.specs.Layout.{last_alone, tlast, tvalid, aresetn, tready, lane_types, any_reserved, size, records, record_count, joined, packed}
 use Rattle.refusal.specs.Checks.{Check, check, first}
-use Rattle.stream_spec.specs.Checks.{field_fault, reserved_fault, transfer_flags, cycle_flags, capture_most, cycle_faults, cycle_checks, take_checks, room_check}
+use Rattle.stream_spec.specs.Checks.{field_fault, reserved_fault, transfer_flags, cycle_flags, capture_most, transfer_checks, cycle_faults, cycle_checks, shape_checks, length_check, take_checks, room_check}
 use Rattle.stream_spec.specs.Handshake.{r4, Finding, findings, transferred, handshakes, as_transfer, transfer_count, harvested}
 use Rattle.stream_spec.specs.Answers.{judge_checks, unclean_check, harvest_refusal}
 use Rattle.stream_spec.specs.Legal.{Octets}
 use Rattle.stream_spec.specs.Walk.{Passed}
 use Rattle.stream_spec.specs.Promises.{HarvestLegal, HarvestRepacks}
 use Rattle.stream_spec.proofs.Bools.{and_left}
-use Rattle.refusal.proofs.First.{first-none, none_first, append-none}
+use Rattle.refusal.proofs.First.{first-none, none_first, append-none, append-passed}
 use Rattle.stream_spec.proofs.Size.{size_pos}
 use Rattle.stream_spec.proofs.Records.{Sized, length-pieces, length-joined, records-joined, records_sized}
 use Rattle.stream_spec.proofs.Users.{users_behind, users_body}
 use Rattle.stream_spec.proofs.Fields.{fields_of, of_fields}
 use Rattle.stream_spec.proofs.RecordChecks.{each_none}
 use Rattle.stream_spec.proofs.Legal.{bit-octet, bit-low, octets-append, octets-drop, EachOctets, pieces-octets, Faultless, of_faultless}
-use Rattle.stream_spec.proofs.Passed.{fits_width, checks-passed}
-use Rattle.stream_spec.proofs.Repack.{legal_repacks}
+use Rattle.stream_spec.proofs.Passed.{checks-passed, passed-shape, fits-shapes, fits-length}
 use Rattle.stream_spec.proofs.Findings.{none_here}
 
 -- ---- what is known of each cycle of a take that harvest accepts
@@ -178,6 +177,12 @@ harvest_legal s xs room o e =
 
 pub harvest_repacks : HarvestRepacks
 harvest_repacks s xs room v lent o e w =
+    let g = harvest_good s xs room e in
     let l = harvest_legal s xs room o e in
-    let short : length (harvested s xs) ≤ capture_most = le_trans l.1 (harvest_good s xs room e).0.short in
-    legal_repacks s v (harvested s xs) lent l.0 short ∙ rw (fits_width v (record { low = w.0; high = w.1 })) refl
+    let ys = harvested s xs in
+    let short : length (harvested s xs) ≤ capture_most = le_trans l.1 g.0.short in
+    let shape = passed-shape s xs g.0 in
+    let later = transfer_checks s 0 (records s ys) ++ room_check (packed s v ys) lent ∷ [] in
+    append-passed (shape_checks s (v ∷ [])) (length_check s ys ∷ later) (fits-shapes s v shape (record { low = w.0; high = w.1 }))
+    ∙ rw (fits-length s ys short l.0.whole)
+    (append-passed (transfer_checks s 0 (records s ys)) (room_check (packed s v ys) lent ∷ []) l.0.faultless)

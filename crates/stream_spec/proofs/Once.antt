@@ -8,7 +8,7 @@ use Rattle.stream_spec.specs.declared.Shape.{Shape}
 use Rattle.stream_spec.specs.declared.Verdict.{Verdict}
 use Rattle.stream_spec.specs.declared.Written.{Written}
 use Rattle.stream_spec.specs.declared.Lookup.{Lookup}
-use Rattle.stream_spec.specs.Answers.{verdict_values, written_values, lookup_values, Judged, LookedUp, Harvested, FilledIn, Repacked}
+use Rattle.stream_spec.specs.Answers.{verdict_values, written_values, lookup_values, Judged, LookedUp, Harvested, FilledIn, Repacked, Downsized}
 
 pub judged_once : (s : Shape) (xs : List ℕ) (r q : Verdict) → Judged s xs r → Judged s xs q → (r ≡ q) × (verdict_values r ≡ verdict_values q)
 judged_once s xs r q a b = (a.is ∙ sym b.is, a.shows ∙ sym b.shows)
@@ -32,3 +32,7 @@ filled_in_once level s lent left left' r q a b = (a.is ∙ sym b.is, a.shows ∙
 pub repacked_once : (s : Shape) (v : ℕ) (xs lent left left' : List ℕ) (r q : Written) → Repacked s v xs lent left r → Repacked s v xs lent left' q
     → Same r q left left'
 repacked_once s v xs lent left left' r q a b = (a.is ∙ sym b.is, a.shows ∙ sym b.shows, a.leaves ∙ sym b.leaves)
+
+pub downsized_once : (s : Shape) (v : ℕ) (xs lent left left' : List ℕ) (r q : Written) → Downsized s v xs lent left r → Downsized s v xs lent left' q
+    → Same r q left left'
+downsized_once s v xs lent left left' r q a b = (a.is ∙ sym b.is, a.shows ∙ sym b.shows, a.leaves ∙ sym b.leaves)

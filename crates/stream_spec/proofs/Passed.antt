@@ -2,15 +2,14 @@
 -- take. A new test of a shape is one field and one line here. Assumes nothing.
 use mathlib.Core.Path.{◌≡◌, refl}
 use mathlib.Core.Bool.{false, not}
-use mathlib.Core.List.{List, [], ◌∷◌, ◌++◌}
+use mathlib.Core.List.{List, [], ◌∷◌}
 use mathlib.Core.Option.{none}
 use Prim.Native.Nat.{ℕ, ◌%◌, ◌≤◌}
 use native.Mathlib.Omega.{arith}
 use borrow.Author.Tests.{eqb-false, eqb-true, ltb-false, le-ltb, eq-eqb, ne_eqb, not-false}
 use lib.Dec.{eqb, ltb}
 use lib.ListN.{length}
-use Rattle.refusal.specs.Checks.{Check, first}
-use Rattle.refusal.specs.declared.Refusal.{Refusal}
+use Rattle.refusal.specs.Checks.{first}
 use Rattle.refusal.proofs.First.{first-none, none_first, append-none, none-append}
 use Rattle.stream_spec.specs.declared.Shape.{Shape}
 use Rattle.stream_spec.specs.Layout.{width_most, user_most, size}
@@ -64,14 +63,10 @@ shapes_fit s v e =
     let o = first-none (width_check v) (user_check s ∷ []) w.1 in
     (shape_of s w.0 o.1, width_fits v o.0)
 
-pub fits_shapes : (s : Shape) (v : ℕ) → ShapeFits s → WidthFits v → first (shape_checks s (v ∷ [])) ≡ none
-fits_shapes s v h o =
+pub fits-shapes : (s : Shape) (v : ℕ) → ShapeFits s → WidthFits v → first (shape_checks s (v ∷ [])) ≡ none
+fits-shapes s v h o =
     none_first (width_check s.width) (width_check v ∷ user_check s ∷ []) (of_width s h)
     (none_first (width_check v) (user_check s ∷ []) (fits_width v o) (of_user s h))
-
--- of a shape that fits, only the output's width is left to be tested
-pub shapes_left : (s : Shape) (v : ℕ) (cs : List (Check Refusal)) → ShapeFits s → first (shape_checks s (v ∷ []) ++ cs) ≡ first (width_check v ∷ cs)
-shapes_left s v cs h = rw (of_width s h, le-ltb user_most s.user h.user) refl
 
 -- what code asks of a shape whose size it counts
 pub shape_narrow : (s : Shape) → ShapeFits s → Narrow s

@@ -58,7 +58,7 @@ lane-tagged m position_lane d u ls h k = (h, k)
 lane-tagged m null_lane d u ls h k = k
 lane-tagged m reserved_lane d u ls h k = k
 
-lanes-tagged : (m : ℕ) (ts : List LaneType) (u : ℕ) (ds : List ℕ) → LanesTagged m (lanes_of m ts u ds)
+pub lanes-tagged : (m : ℕ) (ts : List LaneType) (u : ℕ) (ds : List ℕ) → LanesTagged m (lanes_of m ts u ds)
 lanes-tagged m [] u ds = tt
 lanes-tagged m (t ∷ ts) u [] =
     lane-tagged m t 0 (u % 2 ^ m) (lanes_of m ts (u / 2 ^ m) []) (mod-lt u (pow_pos m)) (lanes-tagged m ts (u / 2 ^ m) [])

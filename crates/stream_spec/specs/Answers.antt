@@ -1,7 +1,7 @@
 -- What each stream call answers, over all its arguments, and every octet of lent memory afterwards (paper 01, 'Refusal
--- numbers', 'How much each answer must say'). Order on streams: 1, 2, 13, then records in order with 3 before 4 in each, then 14, 5;
--- T-06's 16 is straight after 1, and 01's 6 never occurs since T-09. Each call has its list of checks in that order; the contracts
--- of the calls cite these definitions.
+-- numbers', 'How much each answer must say'). Order on streams: 1, 6, 2, 13, then records in order with 3 before 4 in
+-- each, then 14, 5; T-06's 16 is straight after 1. Each call has its list of checks in that order; the contracts of the calls
+-- cite these definitions.
 use Rattle.std.specs.Prelude.{◌≡◌, Bool, List, [], ◌∷◌, ◌++◌, map, ℕ, ◌+◌, ◌*◌, length, drop}
 use Rattle.std.proofs.Math.Option.{Option, none, some}
 use Rattle.refusal.specs.Code.{code_of}
@@ -14,9 +14,9 @@ use Rattle.stream_spec.specs.declared.Written.{Written}
 use Rattle.stream_spec.specs.declared.Written.TheVariants.{Records, Refused as NotWritten}
 use Rattle.stream_spec.specs.declared.Lookup.{Lookup}
 use Rattle.stream_spec.specs.declared.Lookup.TheVariants.{Present, Refused as NoPart}
-use Rattle.stream_spec.specs.Layout.{size, head_octets, records, record_count, data_octets, packed_transfers, packed}
+use Rattle.stream_spec.specs.Layout.{size, head_octets, records, record_count, data_octets, packed_transfers, packed, sliced_transfers, sliced}
 use Rattle.refusal.specs.Checks.{Check, check, first}
-use Rattle.stream_spec.specs.Checks.{shape_checks, length_check, take_checks, index_check, transfer_checks, cycle_checks, room_check}
+use Rattle.stream_spec.specs.Checks.{shape_checks, ratio_check, length_check, take_checks, index_check, transfer_checks, cycle_checks, room_check}
 use Rattle.stream_spec.specs.Memory.{in_front}
 use Rattle.stream_spec.specs.Handshake.{Finding, findings, first_finding, transfer_count, harvested, filled_in}
 
@@ -116,6 +116,21 @@ repack_answer s v transfers room = written (repack_refusal s v transfers room) (
 unfoldable pub repack_after : Shape → ℕ → List ℕ → List ℕ → List ℕ
 repack_after s v transfers out = lent_after (repack_refusal s v transfers (length out)) (packed s v transfers) out
 
+-- ---- lane-keeping downsizing to width v: 1, 16, 6, 2, records with 3 before 4, 5
+
+abbrev pub downsize_refusal : Shape → ℕ → List ℕ → ℕ → Option Refusal
+downsize_refusal s v transfers room =
+    first
+    (shape_checks s (v ∷ [])
+    ++ ratio_check s v ∷ length_check s transfers
+    ∷ (transfer_checks s 0 (records s transfers) ++ room_check (sliced s v transfers) room ∷ []))
+
+unfoldable pub downsize_answer : Shape → ℕ → List ℕ → ℕ → Written
+downsize_answer s v transfers room = written (downsize_refusal s v transfers room) (length (sliced_transfers s v transfers))
+
+unfoldable pub downsize_after : Shape → ℕ → List ℕ → List ℕ → List ℕ
+downsize_after s v transfers out = lent_after (downsize_refusal s v transfers (length out)) (sliced s v transfers) out
+
 -- ---- the paper's numbers for each answer: the refusal's number, its place (or the broken cycle), the rule, and the count
 -- of transfers or records. "Its other numbers are 0." The contracts of the calls use these lists.
 
@@ -169,3 +184,8 @@ pub record Repacked (s : Shape) (v : ℕ) (transfers before after : List ℕ) (r
   pub is : r ≡ repack_answer s v transfers (length before)
   pub shows : written_values r ≡ written_values (repack_answer s v transfers (length before))
   pub leaves : after ≡ repack_after s v transfers before
+
+pub record Downsized (s : Shape) (v : ℕ) (transfers before after : List ℕ) (r : Written) : Type 0 where
+  pub is : r ≡ downsize_answer s v transfers (length before)
+  pub shows : written_values r ≡ written_values (downsize_answer s v transfers (length before))
+  pub leaves : after ≡ downsize_after s v transfers before

@@ -4,13 +4,12 @@
 -- One statement covers each list (`bench` and `worked` of proofs/Cases).
 use Rattle.std.specs.Prelude.{Bool, List, [], ◌∷◌, ◌++◌, ℕ, length}
 use Rattle.stream_spec.specs.declared.Shape.{Shape}
-use Rattle.stream_spec.specs.Answers.{Values, values, verdict_values, written_values, lookup_values, judge_answer, harvest_answer, harvest_after, fill_answer, fill_after, data_answer, data_part, data_start, repack_answer, repack_after}
-use Rattle.stream_spec.specs.Layout.{shaped, sliced_transfers, sliced}
+use Rattle.stream_spec.specs.Answers.{Values, values, verdict_values, written_values, lookup_values, judge_answer, harvest_answer, harvest_after, fill_answer, fill_after, data_answer, data_part, data_start, repack_answer, repack_after, downsize_answer, downsize_after}
+use Rattle.stream_spec.specs.Layout.{shaped}
 use Rattle.stream_spec.specs.Handshake.{low, high}
 use Rattle.stream_spec.specs.Tables.{lanes, one}
 
--- A call with its arguments. The last list of `repack` and `harvest` is the lent output. `slices_of` is no call since T-09: it asks for the
--- lane-keeping slices of a stream, by their definition.
+-- A call with its arguments. The last list of `repack`, `downsize` and `harvest` is the lent output.
 pub data Asked : Type 0 where
   judge : Shape → List ℕ → Asked
   harvest : Shape → List ℕ → List ℕ → Asked
@@ -18,9 +17,9 @@ pub data Asked : Type 0 where
   data_of : Shape → List ℕ → ℕ → Asked
   start_of : Shape → List ℕ → ℕ → Asked
   repack : Shape → ℕ → List ℕ → List ℕ → Asked
-  slices_of : Shape → ℕ → List ℕ → Asked
+  downsize : Shape → ℕ → List ℕ → List ℕ → Asked
 
--- The numbers told, and the octets: of lent memory afterwards, of the part handed out, or of the slices; or where that part starts.
+-- The numbers told, and the octets: of lent memory afterwards, or of the part handed out; or where that part starts.
 pub record Told : Type 0 where
   pub numbers : Values
   pub octets : List ℕ
@@ -34,14 +33,14 @@ tells numbers octets = record { numbers = numbers; octets = octets }
 
 -- what the definitions tell
 unfoldable pub answer : Asked → Told
-unfolding judge_answer harvest_answer harvest_after fill_answer fill_after data_answer data_part data_start repack_answer repack_after
+unfolding judge_answer harvest_answer harvest_after fill_answer fill_after data_answer data_part data_start repack_answer repack_after downsize_answer downsize_after
 answer (judge s xs) = tells (verdict_values (judge_answer s xs)) []
 answer (harvest s xs out) = tells (written_values (harvest_answer s xs (length out))) (harvest_after s xs out)
 answer (fill_in level s xs) = tells (written_values (fill_answer s xs)) (fill_after level s xs)
 answer (data_of s xs k) = tells (lookup_values (data_answer s xs k)) (data_part s xs k)
 answer (start_of s xs k) = tells (lookup_values (data_answer s xs k)) (data_start s xs k ∷ [])
 answer (repack s v xs out) = tells (written_values (repack_answer s v xs (length out))) (repack_after s v xs out)
-answer (slices_of s v xs) = tells (values 0 0 0 (length (sliced_transfers s v xs))) (sliced s v xs)
+answer (downsize s v xs out) = tells (written_values (downsize_answer s v xs (length out))) (downsize_after s v xs out)
 
 -- ---- how cases are written
 
@@ -89,12 +88,12 @@ s1 =
     gives (repack (lanes 4) 4 p1 (eight ++ ee)) 1
     (0x01 ∷ 0x01 ∷ 0x02 ∷ 0x07 ∷ 0x00 ∷ 0x05 ∷ 0x00 ∷ 0x11 ∷ 0x00 ∷ 0x44 ∷ 0x00 ∷ 0xEE ∷ [])
 
--- S2: P1's transfer, lane-keeping to 2: a case of the definition, and of no call since T-09
+-- S2: P1's transfer, lane-keeping to 2
 abbrev pub s2 : Case
 s2 =
-    gives (slices_of (lanes 4) 2 p1) 2
+    gives (downsize (lanes 4) 2 p1 (eight ++ eight ++ ee)) 2
     (0x00 ∷ 0x01 ∷ 0x02 ∷ 0x01 ∷ 0x00 ∷ 0x01 ∷ 0x00 ∷ 0x11 ∷ 0x00
-    ∷ 0x01 ∷ 0x01 ∷ 0x02 ∷ 0x03 ∷ 0x00 ∷ 0x02 ∷ 0x00 ∷ 0x00 ∷ 0x44 ∷ [])
+    ∷ 0x01 ∷ 0x01 ∷ 0x02 ∷ 0x03 ∷ 0x00 ∷ 0x02 ∷ 0x00 ∷ 0x00 ∷ 0x44 ∷ 0xEE ∷ 0xEE ∷ [])
 
 -- S3: the end joins the full record before it
 abbrev pub s3 : Case
@@ -197,6 +196,16 @@ worked_cases =
     ∷ refuses (repack (lanes 1) 17 (0 ∷ []) ee) 1 0 ee
     -- W26: output width 16 is taken
     ∷ gives (repack (lanes 1) 16 [] ee) 0 ee
+    -- W27: 1 before 6: the input's width
+    ∷ refuses (downsize (lanes 17) 3 (0 ∷ []) ee) 1 0 ee
+    -- W28: 1 before 6: the output's width
+    ∷ refuses (downsize (lanes 4) 17 (0 ∷ []) ee) 1 0 ee
+    -- W29: 1 before 6: an output width of 0
+    ∷ refuses (downsize (lanes 4) 0 (0 ∷ []) ee) 1 0 ee
+    -- W30: 6 before 2: v does not divide w
+    ∷ refuses (downsize (lanes 4) 3 (0 ∷ []) ee) 6 0 ee
+    -- W31: 6: v is above w
+    ∷ refuses (downsize (lanes 2) 4 (0 ∷ []) ee) 6 0 ee
     -- W32: 2 before 3 and 4: no whole number of records
     ∷ refuses (repack (lanes 1) 1 (one 0x02 0 0 0 1 0 ++ (0 ∷ [])) ee) 2 0 ee
     -- W33: 2 before 13
@@ -242,7 +251,7 @@ worked_cases =
     -- W53: 3 before 4 in one record
     ∷ refuses (repack (lanes 1) 1 (aa ++ one 0x02 0 0 0 1 0) ee) 3 1 ee
     -- W54: 4 with its record; a refused call leaves lent memory as it was
-    ∷ refuses (repack (lanes 1) 1 (aa ++ one 0x00 0 0 0 1 0) ee) 4 1 ee
+    ∷ refuses (downsize (lanes 1) 1 (aa ++ one 0x00 0 0 0 1 0) ee) 4 1 ee
     -- W55: 3 of any cycle before any rule
     ∷ refuses (judge (lanes 1) (one 0x02 0 0 0 0 0 ++ one 0x10 0 0 0 0 0)) 3 1 []
     -- W56: the same of harvesting
@@ -258,8 +267,10 @@ worked_cases =
     ∷ refuses (repack (lanes 1) 1 aa (0 ∷ 0 ∷ 0 ∷ 0 ∷ 0 ∷ 0 ∷ 0 ∷ [])) 5 0 (0 ∷ 0 ∷ 0 ∷ 0 ∷ 0 ∷ 0 ∷ 0 ∷ [])
     -- W61: the exact room is enough
     ∷ gives (repack (lanes 1) 1 aa eight) 1 aa
-    -- W63: a slice with no item stays: a data lane and a null one
-    ∷ gives (slices_of (lanes 2) 1 (0 ∷ 3 ∷ 4 ∷ 1 ∷ 0 ∷ 1 ∷ 0 ∷ 5 ∷ 6 ∷ [])) 2 (one 0 3 4 1 1 5 ++ one 0 3 4 0 0 0)
+    -- W62: 5 of downsizing
+    ∷ refuses (downsize (lanes 1) 1 aa (0 ∷ [])) 5 0 (0 ∷ [])
+    -- W63: slices with no item need room too: a data lane and a null one
+    ∷ refuses (downsize (lanes 2) 1 (0 ∷ 3 ∷ 4 ∷ 1 ∷ 0 ∷ 1 ∷ 0 ∷ 5 ∷ 6 ∷ []) (eight ++ ee)) 5 0 (eight ++ ee)
     -- W64: fill-in low touches bit 0 of octet 0 of each record, and has no 3
     ∷ gives (fill_in low (lanes 1) (one 0xFF 255 255 255 255 255 ++ one 0x08 0 0 0 0 0)) 2
     (one 0xFE 255 255 255 255 255 ++ one 0x08 0 0 0 0 0)
@@ -286,7 +297,7 @@ worked_cases =
     (0 ∷ 1 ∷ 2 ∷ 0x00 ∷ 0x81 ∷ 0x00 ∷ 0x01 ∷ 0 ∷ 1 ∷ 2 ∷ 3 ∷ 4 ∷ 5 ∷ 6 ∷ 7 ∷ 8 ∷ 9 ∷ 10 ∷ 11 ∷ 12 ∷ 13 ∷ 14 ∷ 15 ∷ []) (eight ++ eight))
     2 (one 0 1 2 1 1 8 ++ one 0 1 2 1 0 0)
     -- W72: slices of an all-null record stay
-    ∷ gives (slices_of (lanes 2) 1 (1 ∷ 3 ∷ 4 ∷ 0 ∷ 0 ∷ 0 ∷ 0 ∷ 5 ∷ 6 ∷ [])) 2 (one 0 3 4 0 0 0 ++ one 1 3 4 0 0 0)
+    ∷ gives (downsize (lanes 2) 1 (1 ∷ 3 ∷ 4 ∷ 0 ∷ 0 ∷ 0 ∷ 0 ∷ 5 ∷ 6 ∷ []) (eight ++ eight)) 2 (one 0 3 4 0 0 0 ++ one 1 3 4 0 0 0)
     -- W73: S7: another TID cuts
     ∷ s7
     -- W74: another TDEST cuts too
@@ -322,7 +333,8 @@ worked_cases =
     -- W87: T-06: at width 1 a record each; the null lane and its bits are gone
     ∷ gives (repack (shaped 3 3) 1 straddled (eight ++ eight ++ ee)) 2 (one 0 1 2 1 1 17 ++ (5 ∷ []) ++ one 1 1 2 1 0 0 ++ (6 ∷ 0xEE ∷ 0xEE ∷ []))
     -- W88: T-06: lane-keeping to 1: the null lane stays, and gets zero bits
-    ∷ gives (slices_of (shaped 3 3) 1 straddled) 3 (one 0 1 2 1 1 17 ++ (5 ∷ []) ++ one 0 1 2 0 0 0 ++ (0 ∷ []) ++ one 1 1 2 1 0 0 ++ (6 ∷ []))
+    ∷ gives (downsize (shaped 3 3) 1 straddled (eight ++ eight ++ eight ++ ee)) 3
+    (one 0 1 2 1 1 17 ++ (5 ∷ []) ++ one 0 1 2 0 0 0 ++ (0 ∷ []) ++ one 1 1 2 1 0 0 ++ (6 ∷ 0xEE ∷ []))
     -- W89: T-06: harvesting keeps the bits of a null lane as sampled
     ∷ gives (harvest (shaped 1 2) (one 0x0E 1 2 0 0 7 ++ (3 ∷ [])) (eight ++ ee)) 1 (one 0 1 2 0 0 7 ++ (3 ∷ 0xEE ∷ 0xEE ∷ 0xEE ∷ []))
     -- W90: T-06: R3 compares them
@@ -344,6 +356,8 @@ worked_cases =
     ∷ refuses (data_of (shaped 1 5) (0 ∷ []) 0) 16 0 []
     -- W98: T-06: of repacking; the most that a number holds
     ∷ refuses (repack (shaped 1 0xFFFF_FFFF_FFFF_FFFF) 1 (0 ∷ []) ee) 16 0 ee
+    -- W99: T-06: of downsizing, before 6
+    ∷ refuses (downsize (shaped 3 5) 2 (0 ∷ []) ee) 16 0 ee
     -- W100: T-06: 1 before 16, of the input
     ∷ refuses (judge (shaped 17 5) (0 ∷ [])) 1 0 []
     -- W101: T-06: and of the output
@@ -359,13 +373,4 @@ worked_cases =
     (one 0xFF 0 0 0 0 0 ++ (0xFE ∷ []) ++ one 0x09 0 0 0 0 0 ++ (0 ∷ []))
     -- W106: T-06: at its own width the null lane goes to the end, and gets zero bits
     ∷ gives (repack (shaped 3 3) 3 straddled (eight ++ ee)) 1 (0x01 ∷ 1 ∷ 2 ∷ 0x03 ∷ 0 ∷ 0x01 ∷ 0 ∷ 17 ∷ 0 ∷ 0 ∷ 0x35 ∷ 0 ∷ [])
-    -- W107: T-09: an archived file is repacked like any other stream: S2's two records to width 4 are S1's
-    ∷ gives
-    (repack (lanes 2) 4
-    (0x00 ∷ 0x01 ∷ 0x02 ∷ 0x01 ∷ 0x00 ∷ 0x01 ∷ 0x00 ∷ 0x11 ∷ 0x00 ∷ 0x01 ∷ 0x01 ∷ 0x02 ∷ 0x03 ∷ 0x00 ∷ 0x02 ∷ 0x00 ∷ 0x00 ∷ 0x44 ∷ [])
-    (eight ++ ee))
-    1 (0x01 ∷ 0x01 ∷ 0x02 ∷ 0x07 ∷ 0x00 ∷ 0x05 ∷ 0x00 ∷ 0x11 ∷ 0x00 ∷ 0x44 ∷ 0x00 ∷ 0xEE ∷ [])
-    -- W108: T-09: the same with user bits: W88's three records to width 2 are W86's one
-    ∷ gives (repack (shaped 1 3) 2 (one 0 1 2 1 1 17 ++ (5 ∷ []) ++ one 0 1 2 0 0 0 ++ (0 ∷ []) ++ one 1 1 2 1 0 0 ++ (6 ∷ [])) (eight ++ ee)) 1
-    (0x01 ∷ 1 ∷ 2 ∷ 0x03 ∷ 0 ∷ 0x01 ∷ 0 ∷ 17 ∷ 0 ∷ 0x35 ∷ 0xEE ∷ 0xEE ∷ [])
     ∷ []

@@ -3,7 +3,7 @@
 use Rattle.std.specs.Prelude.{Bool, not, ◌||◌, List, [], ◌∷◌, ◌++◌, map, ℕ, suc, ◌*◌, ◌%◌, ◌^◌, ◌≤◌, ◌<◌, eqb, leb, ltb, length}
 use Rattle.refusal.specs.Checks.{Check, check}
 use Rattle.refusal.specs.declared.Refusal.{Refusal}
-use Rattle.refusal.specs.declared.Refusal.TheVariants.{Width, UserBits, Length, Field, Reserved, Room, Index}
+use Rattle.refusal.specs.declared.Refusal.TheVariants.{Width, UserBits, Length, Field, Reserved, Room, Ratio, Index}
 use Rattle.stream_spec.specs.declared.Shape.{Shape}
 use Rattle.stream_spec.specs.Layout.{width_most, user_most, tdest_most, size, flags, pair_of, tkeep, tstrb, user_number, lane_types, any_reserved, record_count}
 
@@ -17,6 +17,10 @@ user_check s = check (ltb user_most s.user) UserBits
 
 abbrev pub shape_checks : Shape → List ℕ → List (Check Refusal)
 shape_checks s outputs = map width_check (s.width ∷ outputs) ++ user_check s ∷ []
+
+-- 6: "downsizing: v doesn't divide w"
+abbrev pub ratio_check : Shape → ℕ → Check Refusal
+ratio_check s v = check (not (eqb (s.width % v) 0)) Ratio
 
 -- "A take holds at most 65,536 octets."
 abbrev pub capture_most : ℕ

@@ -292,7 +292,7 @@ packed_transfers s v xs = pack v (stream_items s xs)
 abbrev pub packed : Shape → ℕ → List ℕ → List ℕ
 packed s v xs = octets s.user (packed_transfers s v xs)
 
--- the lane-keeping slices of a stream at width v, which no call writes since T-09: its transfers, and their octets
+-- the lane-keeping slices of a stream at width v: its transfers, and their octets
 abbrev pub sliced_transfers : Shape → ℕ → List ℕ → List (Transfer Kept)
 sliced_transfers s v xs = slices s.width v (transfers s xs)
 

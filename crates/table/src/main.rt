@@ -1,6 +1,5 @@
 // Prints the refusal table of the papers, a line for each refusal: its name there, then the number, place and rule that the
-// library shows for it. The refusals that have a place are shown at record 7, and the unclean take at cycle 7, rule 3. No refusal has the
-// number 6 any more (T-09): its line says so.
+// library shows for it. The refusals that have a place are shown at record 7, and the unclean take at cycle 7, rule 3.
 use refusal::Refusal;
 
 fn number(key: &[u8], n: u64) {
@@ -23,10 +22,7 @@ fn main() {
     row(b"FIELD", Refusal::Field(7));
     row(b"RESERVED", Refusal::Reserved(7));
     row(b"ROOM", Refusal::Room);
-    io::write_all(
-        1,
-        b"RATIO 6 is retired: no call gives it, and no other refusal gets its number\n",
-    );
+    row(b"RATIO", Refusal::Ratio);
     row(b"BUS", Refusal::Bus);
     row(b"SIZE", Refusal::Size);
     row(b"TYPE", Refusal::Kind);
@@ -38,5 +34,4 @@ fn main() {
     row(b"SHEET", Refusal::Setup);
     row(b"USERBITS", Refusal::UserBits);
     row(b"TAGS", Refusal::Tags(7));
-    row(b"RETIRED", Refusal::Retired);
 }

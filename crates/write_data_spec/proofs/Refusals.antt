@@ -87,8 +87,8 @@ module _ (b : Burst) (xs : List ℕ) where
   abbrev taken : List (List ℕ)
   taken = write_beats b.bus xs
 
-  length-there : write_answer b xs ≡ Refused Length → IsAccepted b × BadLength b.bus xs
-  length-there e =
+  length_there : write_answer b xs ≡ Refused Length → IsAccepted b × BadLength b.bus xs
+  length_there e =
       let h = after-own b xs Length (omega arith) ((refused-answer b xs Length).0 e) in
       (h.0, go (length_fault b.bus xs) refl h.1)
     where
@@ -102,8 +102,8 @@ module _ (b : Burst) (xs : List ℕ) where
   length_back : IsAccepted b → BadLength b.bus xs → write_answer b xs ≡ Refused Length
   length_back a h = (refused-answer b xs Length).1 (refusal-accepted b xs a ∙ rw (bad-length b.bus xs h) refl)
 
-  field-there : (k : ℕ) → write_answer b xs ≡ Refused (Field k) → FirstBad b xs k
-  field-there k e =
+  field_there : (k : ℕ) → write_answer b xs ≡ Refused (Field k) → FirstBad b xs k
+  field_there k e =
       let h = after-own b xs (Field k) (omega arith) ((refused-answer b xs (Field k)).0 e) in
       go h.0 (length_fault b.bus xs) refl h.1
     where
@@ -163,7 +163,7 @@ pub nothing-refused : NothingRefused
 nothing-refused b xs = (refused_none b xs, none-refused b xs)
 
 pub length-exactly : LengthExactly
-length-exactly b xs = (length-there b xs, λ h. length_back b xs h.0 h.1)
+length-exactly b xs = (length_there b xs, λ h. length_back b xs h.0 h.1)
 
 pub field-exactly : FieldExactly
-field-exactly b xs k = (field-there b xs k, field_back b xs k)
+field-exactly b xs k = (field_there b xs k, field_back b xs k)

@@ -86,8 +86,8 @@ module _ (b : Burst) (k : ℕ) (r : List ℕ) where
 
 module _ (b : Burst) (rs : List (List ℕ)) where
   -- nothing breaks a rule: there are as many beats as the burst has, and none of them does
-  sound-there : ((k n : ℕ) → Breaks b rs k n → ⊥) → (length rs ≡ beats b) × Sound b rs (beats b)
-  sound-there h = let c = count (dec_lt (length rs) (beats b)) (dec_lt (beats b) (length rs)) in (c, sound c)
+  sound_there : ((k n : ℕ) → Breaks b rs k n → ⊥) → (length rs ≡ beats b) × Sound b rs (beats b)
+  sound_there h = let c = count (dec_lt (length rs) (beats b)) (dec_lt (beats b) (length rs)) in (c, sound c)
     where
       count : Dec (length rs < beats b) → Dec (beats b < length rs) → length rs ≡ beats b
       count (yes few) d = absurd (h (length rs) 5 (inr (refl, refl, few)))
@@ -103,10 +103,10 @@ module _ (b : Burst) (rs : List (List ℕ)) where
 
   -- no finding is so, and the other way round
   pub sound_exactly : (first_finding b rs ≡ none) ↔ ((length rs ≡ beats b) × Sound b rs (beats b))
-  sound_exactly = (λ e. sound-there ((no-finding_exactly b rs).0 e), λ h. (no-finding_exactly b rs).1 (sound_back h.0 h.1))
+  sound_exactly = (λ e. sound_there ((no-finding_exactly b rs).0 e), λ h. (no-finding_exactly b rs).1 (sound_back h.0 h.1))
 
-  clean-there : (length rs ≡ beats b) × Sound b rs (beats b) → CleanTake b rs
-  clean-there h =
+  clean_there : (length rs ≡ beats b) × Sound b rs (beats b) → CleanTake b rs
+  clean_there h =
       record {
         count = h.0;
         last = λ k l. marked b k (beat rs k) l (h.1 k l 2) (h.1 k l 3);
@@ -126,7 +126,7 @@ module _ (b : Burst) (rs : List (List ℕ)) where
 
   -- no finding is a clean take, and the other way round
   pub clean-exactly : (first_finding b rs ≡ none) ↔ CleanTake b rs
-  clean-exactly = (λ e. clean-there (sound_exactly.0 e), λ c. sound_exactly.1 (c.count, clean_back c))
+  clean-exactly = (λ e. clean_there (sound_exactly.0 e), λ c. sound_exactly.1 (c.count, clean_back c))
 
   -- no beat before the earliest finding breaks a rule
   sound-before : (f : Finding) → IsEarliest b rs f → Sound b rs f.place

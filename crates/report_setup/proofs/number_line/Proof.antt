@@ -1,7 +1,7 @@
 -- `report_setup::number_line` meets its contract: the key, then a number. Assumes nothing.
 use native.Mathlib.Omega.{arith}
 use Rattle.report_setup_spec.specs.Grammar.{number as number_of}
-use Rattle.report_setup.proofs.Laws.{has_end, no-line-there, not_read, is_read}
+use Rattle.report_setup.proofs.Laws.{has_end, no-line_there, not_read, is_read}
 use borrow.Author.Rules.{rules}
 use Rattle.report_setup.proofs.number_line.Statement.{statement}
 use Rattle.report_setup.proofs.number_line.Tie as tie
@@ -19,7 +19,7 @@ returns : tie.Need-returns
 returns c =
     let ended = c.before.before in
     let call = ended.before.before.before in
-    no-line-there number_of call.args.key.now call.args.text.now call.args.from ended.value-end.result ended.value-end.ensures c.enum_told.given.1
+    no-line_there number_of call.args.key.now call.args.text.now call.args.from ended.value-end.result ended.value-end.ensures c.enum_told.given.1
 
 add_start : tie.Need-overflow-add-start
 add_start c = search rules

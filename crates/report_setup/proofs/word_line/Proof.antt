@@ -1,7 +1,7 @@
 -- `report_setup::word_line` meets its contract: the key, then one of its words. Assumes nothing.
 use native.Mathlib.Omega.{arith}
 use Rattle.report_setup.specs.Reading.{words_of, place}
-use Rattle.report_setup.proofs.Laws.{has_end, no-line-there, not_read, is_read}
+use Rattle.report_setup.proofs.Laws.{has_end, no-line_there, not_read, is_read}
 use borrow.Author.Rules.{rules}
 use Rattle.report_setup.proofs.word_line.Statement.{statement}
 use Rattle.report_setup.proofs.word_line.Tie as tie
@@ -19,7 +19,7 @@ returns : tie.Need-returns
 returns c =
     let ended = c.before.before in
     let call = ended.before.before.before.before in
-    no-line-there (place (words_of call.args.words.now)) call.args.key.now call.args.text.now call.args.from ended.value-end.result ended.value-end.ensures c.enum_told.given.1
+    no-line_there (place (words_of call.args.words.now)) call.args.key.now call.args.text.now call.args.from ended.value-end.result ended.value-end.ensures c.enum_told.given.1
 
 add_start : tie.Need-overflow-add-start
 add_start c = search rules

@@ -1,5 +1,5 @@
--- `stream_merge::find_port_fault` meets its contract. The loop's invariant: the first fault of the records left is the first of all.
--- Assumes nothing.
+-- `stream_merge::find_port_fault` meets its contract, as stream_record's `find_fault` does. The loop's invariant: the first fault of the records left is the first of
+-- all. Assumes nothing.
 use Prim.Native.Nat.{◌-◌}
 use native.Mathlib.Omega.{arith}
 use borrow.Author.Rules.{rules}

@@ -2,7 +2,7 @@
 use borrow.Author.Tests.{not-true, not-false}
 use borrow.Author.Rules.{rules}
 use Rattle.report_spec.specs.Report.{contents}
-use Rattle.report_call.proofs.Steps.{setup-refused, passes, shape_narrow, length-passed, length-refused, setup_unread, setup_ill, setup-read}
+use Rattle.report_call.proofs.Steps.{setup_refused, passes, shape_narrow, length-passed, length-refused, setup_unread, setup_ill, setup_read}
 use Rattle.report_call.proofs.outcome.of_setup.Statement.{statement}
 use Rattle.report_call.proofs.outcome.of_setup.Tie as tie
 
@@ -69,7 +69,7 @@ returns-2 c =
     let at-checked = c.before.before in
     let at-check-setup = at-checked.before.before in
     let call = at-check-setup.before.before.before in
-    setup-refused call.args.u call.args.out.now at-check-setup.check-setup.result at-check-setup.check-setup.ensures
+    setup_refused call.args.u call.args.out.now at-check-setup.check-setup.result at-check-setup.check-setup.ensures
     at-checked.checked.given.0.0 at-checked.checked.given.1 (contents call.args.capture-read call.args.capture.now)
     c.refuse.result c.refuse.ensures.0 c.refuse.ensures.1
 
@@ -100,7 +100,7 @@ returns-4 c =
     let at-enum-told = at-if.before in
     let at-check-setup = at-enum-told.before.before in
     let call = at-check-setup.before.before.before in
-    setup-read call.args.u call.args.out.now at-check-setup.check-setup.result at-check-setup.check-setup.ensures
+    setup_read call.args.u call.args.out.now at-check-setup.check-setup.result at-check-setup.check-setup.ensures
     at-enum-told.enum_told.given.1 call.args.capture-read call.args.capture.now
     (not-false call.args.capture-read at-if.if1.false) at-of-capture.of-capture.new.1.1.0 at-of-capture.of-capture.result
     at-of-capture.of-capture.ensures

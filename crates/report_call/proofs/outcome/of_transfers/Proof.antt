@@ -17,8 +17,8 @@ packets-requires c κs =
     let call = c.before.before.before in
     subst (λ (s : Shape). Passed s call.args.transfers.now) (sym c.shape-of.ensures) call.requires.1
 
-repack-requires : tie.Need-repack-requires
-repack-requires c κs = search rules
+convert-requires : tie.Need-convert-requires
+convert-requires c κs = search rules
 
 enum-known-w : tie.Need-enum-known-w
 enum-known-w c = search rules
@@ -37,14 +37,14 @@ record-size-requires c κs =
     let call = c.before.before.before.before.before.before.before.before.before.before.before.before in
     subst Narrow (sym c.out-shape.ensures) (narrow_out call.args.u call.requires.0)
 
-mul-t17 : tie.Need-overflow-mul-t17
-mul-t17 c =
+mul-t18 : tie.Need-overflow-mul-t18
+mul-t18 c =
     let at-w = c.before.before.before in
-    let at-repack = at-w.before.before.before.before in
-    let at-shape-of = at-repack.before.before.before in
+    let at-convert = at-w.before.before.before.before in
+    let at-shape-of = at-convert.before.before.before in
     let call = at-shape-of.before.before.before in
     omega
-    (arith, long-fits call.args.u call.args.count call.args.transfers.now call.args.out.now at-repack.repack.new.1.1.1.0 at-repack.repack.result at-shape-of.shape-of.result at-shape-of.shape-of.ensures at-repack.repack.ensures at-w.w2.given.0.0 at-w.w2.given.1 c.before.out-shape.result c.before.out-shape.ensures c.record-size.result c.record-size.ensures, call.well-formed)
+    (arith, long-fits call.args.u call.args.count call.args.transfers.now call.args.out.now at-convert.convert.new.1.1.1.1.0 at-convert.convert.result at-shape-of.shape-of.result at-shape-of.shape-of.ensures at-convert.convert.ensures at-w.w2.given.0.0 at-w.w2.given.1 c.before.out-shape.result c.before.out-shape.ensures c.record-size.result c.record-size.ensures, call.well-formed)
 
 same_length : tie.Need-same-length
 same_length c = search rules
@@ -52,11 +52,11 @@ same_length c = search rules
 returns : tie.Need-returns
 returns c =
     let at-w = c.before.before in
-    let at-repack = at-w.before.before.before.before in
-    let at-shape-of = at-repack.before.before.before in
+    let at-convert = at-w.before.before.before.before in
+    let at-shape-of = at-convert.before.before.before in
     let call = at-shape-of.before.before.before in
-    room-short call.args.u call.args.count call.args.transfers.now call.args.out.now at-repack.repack.new.1.1.1.0
-    at-repack.repack.result at-shape-of.shape-of.result at-shape-of.shape-of.ensures at-repack.repack.ensures
+    room-short call.args.u call.args.count call.args.transfers.now call.args.out.now at-convert.convert.new.1.1.1.1.0
+    at-convert.convert.result at-shape-of.shape-of.result at-shape-of.shape-of.ensures at-convert.convert.ensures
     at-w.w.given.0.0 at-w.w.given.1 c.refuse.result c.refuse.ensures.0 c.refuse.ensures.1
 
 same-length-2 : tie.Need-same-length-2
@@ -65,12 +65,12 @@ same-length-2 c = search rules
 returns-2 : tie.Need-returns-2
 returns-2 c =
     let at-w = c.before.before.before in
-    let at-repack = at-w.before.before.before.before in
-    let at-packets = at-repack.before.before in
+    let at-convert = at-w.before.before.before.before in
+    let at-packets = at-convert.before.before in
     let at-shape-of = at-packets.before in
     let call = at-shape-of.before.before.before in
-    all-written call.args.u call.args.count call.args.transfers.now call.args.out.now at-repack.repack.new.1.1.1.0
-    at-repack.repack.result at-shape-of.shape-of.result at-shape-of.shape-of.ensures at-repack.repack.ensures
+    all-written call.args.u call.args.count call.args.transfers.now call.args.out.now at-convert.convert.new.1.1.1.1.0
+    at-convert.convert.result at-shape-of.shape-of.result at-shape-of.shape-of.ensures at-convert.convert.ensures
     at-w.w2.given.0.0 at-w.w2.given.1 c.before.out-shape.result c.before.out-shape.ensures c.record-size.result
     c.record-size.ensures at-packets.packets.result at-packets.packets.ensures
 
@@ -80,13 +80,13 @@ of-transfers-spec =
     (tie.spec
     shape-of-requires
     packets-requires
-    repack-requires
+    convert-requires
     enum-known-w
     refuse-requires
     enum-known-w-2
     out-shape-requires
     record-size-requires
-    mul-t17
+    mul-t18
     same_length
     returns
     same-length-2

@@ -1,0 +1,4 @@
+pub mod Lanes
+pub mod Slices
+pub mod Take
+pub mod Answer
