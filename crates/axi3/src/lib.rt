@@ -2,6 +2,8 @@
 // what is not allowed. What the answers mean is in the crate axi3_spec. `cut` has the form that paper 01 names, a lent row of
 // bursts; whoever calls it needs a proof by hand, so `cut_into` alone does, and all others call `cut_row` or `cut_numbers`, which
 // stand above it.
+#![tactic(auto)]
+
 ghost use Rattle.std.specs.Prelude.{◌≡◌, ◌+◌, ◌*◌, ◌≤◌, ◌<◌, min, length};
 ghost use Rattle.burst_spec.specs.Address.{beats, beat_address};
 ghost use Rattle.burst_spec.specs.Legal.{Accepted};

@@ -1,5 +1,7 @@
 // The types that cutting a burst for an AXI3 board answers with (paper 02, T-02). The calls are in the crate axi3 above; what
 // each must answer is in specs/, and the laws about that are in proofs/. Nothing is computed here.
+#![tactic(auto)]
+
 use burst_spec::Burst;
 use refusal::Refusal;
 
@@ -7,14 +9,14 @@ use refusal::Refusal;
 pub const ROW_LENGTH: usize = 16;
 
 // What cutting a burst answers: how many bursts it was cut into, which stand at the front of the row.
-#[derive(Drop)]
+#[derive(Clone, Copy)]
 pub enum CutAnswer {
     Bursts(usize),
     Refused(Refusal),
 }
 
 // A cut with a row of its own: the answer, and the row, in which descriptions that are not used are blank.
-#[derive(Drop)]
+#[derive(Clone, Copy)]
 pub struct CutRow {
     pub answer: CutAnswer,
     pub bursts: [Burst; ROW_LENGTH],

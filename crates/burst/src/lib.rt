@@ -1,6 +1,8 @@
 // Judging AXI4 bursts, and the address, byte lanes and step of each beat (paper 01, 'Bursts'). Every call takes any numbers
 // and refuses what is not allowed. What the answers mean is in the crate burst_spec. The calls come first; then, private to
 // this file, the tests of the refusals, the beats of an accepted burst, and the arithmetic on addresses.
+#![tactic(auto)]
+
 ghost use Rattle.std.specs.Prelude.{not, ◌≡◌, ◌/◌, ◌%◌, ◌^◌, ◌≤◌, ◌<◌};
 ghost use Rattle.std.proofs.Math.IntN.{sub_ℕ};
 ghost use Rattle.burst_spec.specs.Address.{bytes, beats, round_down, beat_address, beat_at};

@@ -1,5 +1,7 @@
 // The types that the burst calls take and answer with. The calls are in the crate burst above; what each must answer is
 // in specs/, and the laws about that are in proofs/. Nothing is computed here.
+#![tactic(auto)]
+
 use refusal::Refusal;
 
 // How wide an address is. The code says it here and nowhere else, the proofs in `address_bits` of burst (T-10: 64 bits).
@@ -7,7 +9,7 @@ pub type Address = u32;
 
 // AxBURST, paper 01's kind: FIXED 0, INCR 1, WRAP 2. Reserved is Arm's word for the encoding b11, and stands for every
 // number from 3 on.
-#[derive(Drop)]
+#[derive(Clone, Copy)]
 pub enum Kind {
     Fixed,
     Incr,
@@ -17,7 +19,7 @@ pub enum Kind {
 
 // A burst as its control signals say it: AxADDR, AxLEN (beats less one), AxSIZE (a beat has 2 to this power bytes),
 // AxBURST, and the data bus in bytes. Any numbers may stand here: a burst that breaks a rule is refused.
-#[derive(Drop)]
+#[derive(Clone, Copy)]
 pub struct Burst {
     pub start: Address,
     pub len: u32,
@@ -27,7 +29,7 @@ pub struct Burst {
 }
 
 // One beat: its address, and the byte lanes it uses, from lower to upper.
-#[derive(Drop)]
+#[derive(Clone, Copy)]
 pub struct Beat {
     pub address: Address,
     pub lower: u32,
@@ -35,21 +37,21 @@ pub struct Beat {
 }
 
 // What judging a burst answers.
-#[derive(Drop)]
+#[derive(Clone, Copy)]
 pub enum Judgement {
     Accepted,
     Refused(Refusal),
 }
 
 // What asking for beat k answers.
-#[derive(Drop)]
+#[derive(Clone, Copy)]
 pub enum BeatAnswer {
     At(Beat),
     Refused(Refusal),
 }
 
 // What asking for the step from beat k to beat k + 1 answers: so many bytes up, or down where it is negative.
-#[derive(Drop)]
+#[derive(Clone, Copy)]
 pub enum StepAnswer {
     By(i32),
     Refused(Refusal),

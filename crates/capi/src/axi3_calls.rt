@@ -9,7 +9,7 @@ use refusal::Refusal;
 
 // What cutting a burst answers: the refusal's number, or 0; how many bursts were written. What it has not is 0.
 #[repr(C)]
-#[derive(Drop)]
+#[derive(Clone, Copy)]
 pub struct CutAnswer {
     pub refusal: u32,
     pub count: u64,

@@ -7,7 +7,7 @@ use refusal::Refusal;
 
 // What a burst call answers: the refusal's number, or 0; a beat's address and byte lanes; a step. What it has not is 0.
 #[repr(C)]
-#[derive(Drop)]
+#[derive(Clone, Copy)]
 pub struct BurstAnswer {
     pub refusal: u32,
     pub lower: u32,

@@ -1,5 +1,7 @@
 // The library for other languages: each call as a C function on plain numbers and slices (a pointer, then a length), with
 // the answer as a struct of paper 01's numbers. Nothing is decided here; the calls are in the crates below.
+#![tactic(auto)]
+
 mod axi3_calls;
 mod burst_calls;
 mod merge_calls;

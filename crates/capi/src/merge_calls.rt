@@ -12,7 +12,7 @@ use stream_record::shape_of;
 // What merging answers: the refusal's number, or 0; the port that it names; its place, the record in that port's list; the count of
 // records. A number that an answer does not have is 0.
 #[repr(C)]
-#[derive(Drop)]
+#[derive(Clone, Copy)]
 pub struct MergeAnswer {
     pub refusal: u32,
     pub port: u32,

@@ -9,7 +9,7 @@ use report_spec::Verdict;
 // a refusal or the broken cycle; the counts of a clean take; how many octets of text stand at the front of `text`, and how
 // many of result at the front of `out`. What it has not is 0.
 #[repr(C)]
-#[derive(Drop)]
+#[derive(Clone, Copy)]
 pub struct ReportAnswer {
     pub verdict: u32,
     pub refusal: u32,

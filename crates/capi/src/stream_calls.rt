@@ -12,7 +12,7 @@ use stream_spec::{Lookup, Verdict, Written};
 // What a stream call answers: the refusal's number, or 0; its place, or the broken cycle; the rule; the count of transfers
 // or records. What it has not is 0.
 #[repr(C)]
-#[derive(Drop)]
+#[derive(Clone, Copy)]
 pub struct StreamAnswer {
     pub refusal: u32,
     pub rule: u32,
@@ -125,7 +125,7 @@ pub extern "C" fn urd_downsize(
 
 // Where the data octets of a record stand in a take: the refusal's number, or 0 with their offset and their number.
 #[repr(C)]
-#[derive(Drop)]
+#[derive(Clone, Copy)]
 pub struct PartAnswer {
     pub refusal: u32,
     pub start: u64,

@@ -10,7 +10,7 @@ use write_data_spec::WriteVerdict;
 // What judging write beats answers: the refusal's number, or 0; the rule; its beat, of W5 the count given, or the refusal's
 // place; the number of high strobes. What it has not is 0.
 #[repr(C)]
-#[derive(Drop)]
+#[derive(Clone, Copy)]
 pub struct WriteAnswer {
     pub refusal: u32,
     pub rule: u32,

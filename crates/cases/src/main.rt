@@ -1,6 +1,8 @@
 // Runs the papers' bench cases, and cases worked from the change requests, through the library's calls and prints what each
 // answers, a line an answer. What it must print is in the file stdout, typed from the papers.
 // The starred cases are also proved of the definitions (specs/Starred).
+#![tactic(auto)]
+
 mod bursts;
 mod cuts;
 mod merges;

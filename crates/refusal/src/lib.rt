@@ -1,11 +1,13 @@
 // The refusals of paper 01's table 'Refusal numbers' and of paper 02, and the numbers that each one shows to a user.
 // Every call of the library that can refuse answers with this enum inside its own answer. Which call gives which
 // refusal, and in which order, is not here: it stands in the definitions of the calls (the crates whose names end in _spec).
+#![tactic(auto)]
+
 ghost use Rattle.std.specs.Prelude.{◌≡◌};
 ghost use Rattle.refusal.specs.Code.{code_of};
 
 // One constructor for each line of the table. The place is a part of the constructors that have one.
-#[derive(Drop)]
+#[derive(Clone, Copy)]
 pub enum Refusal {
     // 1 WIDTH: a width is 0 or above 16
     Width,
@@ -45,7 +47,7 @@ pub enum Refusal {
 
 // What a refusal shows, in this order: its number in the table, its place (a record or a cycle), the handshake rule.
 // What it does not have is 0.
-#[derive(Drop)]
+#[derive(Clone, Copy)]
 pub struct Code(pub u32, pub usize, pub u32);
 
 // The numbers of a refusal.

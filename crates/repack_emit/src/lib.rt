@@ -1,6 +1,8 @@
 // Writes the packed form of a table's stretches without user bits, stretch by stretch, where the output has room for it: ROOM is
 // refused here, before anything is written. One stretch is repack_plain's where no item of the take is marked, and else
 // repack_marked's.
+#![tactic(auto)]
+
 ghost use Rattle.std.specs.Prelude.{◌≡◌, ◌+◌, ◌*◌, ◌-◌, ◌/◌, ◌≤◌, ◌<◌, length};
 ghost use Rattle.stream_spec.specs.Memory.{in_front};
 ghost use Rattle.repack_scratch.specs.Codes.{stretch_room, codes_in};

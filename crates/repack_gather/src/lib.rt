@@ -1,6 +1,8 @@
 // The kept lanes of one record as held items, behind the items that are there: an octet each, and a mark where it is a
 // position item. Null lanes are closed up by repack_sieve. Which records are read, and when, is not here. Helpers for
 // repack_parse, which has made room for the lanes.
+#![tactic(auto)]
+
 ghost use Rattle.std.specs.Prelude.{◌≡◌, [], ◌∷◌, ◌+◌, ◌-◌, ◌*◌, ◌/◌, ◌%◌, ◌^◌, ◌≤◌, ◌<◌, length, get_or, drop, set};
 ghost use Rattle.stream_spec.specs.Layout.{head_octets};
 ghost use Rattle.repack_scratch.specs.Codes.{mark_bits};

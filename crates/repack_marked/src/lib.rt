@@ -1,6 +1,8 @@
 // Writes a stretch of a take with position items but without user bits: a record near which no mark stands is written as one
 // of data, any other lane by lane. Stretches of takes without a mark are repack_plain's, and which stretches there are
 // repack_emit's.
+#![tactic(auto)]
+
 ghost use Rattle.std.specs.Prelude.{◌≡◌, true, ◌++◌, map, ℕ, ◌+◌, ◌*◌, ◌-◌, ◌≤◌, ◌<◌, length, get_or, drop};
 ghost use Rattle.stream_spec.specs.Layout.{head_octets, size, mask_of, of_width};
 ghost use Rattle.repack_scratch.specs.Codes.{codes_in, mark_bits};

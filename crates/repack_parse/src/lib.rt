@@ -1,6 +1,8 @@
 // Reads a take of transfer records without user bits, once, into held items and a table of stretches, or refuses it. The usual
 // records are read in usual.rt. Nothing is written to the caller's memory here. The steps on table and state, `turn` to
 // `finish`, serve the reader of records with user bits too.
+#![tactic(auto)]
+
 mod usual;
 
 ghost use Rattle.std.specs.Prelude.{◌≡◌, ◌-◌, ◌*◌, ◌≤◌, ◌<◌, length, set};
@@ -18,7 +20,7 @@ use stream_record::{Fault, HEAD_OCTETS, Header};
 use words::widen4;
 
 // What reading one record gives: how far the take has been read, with no mark or with some, or the record's fault.
-#[derive(Drop)]
+#[derive(Clone, Copy)]
 pub enum Next {
     Read(Open),
     Marked(Open),
@@ -26,7 +28,7 @@ pub enum Next {
 }
 
 // What reading a take gives: so many stretches in the table and whether every item is data, or the first fault.
-#[derive(Drop)]
+#[derive(Clone, Copy)]
 pub enum Parsed {
     Stretches(usize, bool),
     Refused(Refusal),

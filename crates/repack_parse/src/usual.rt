@@ -14,7 +14,7 @@ use stream_record::HEAD_OCTETS;
 use stream_record::layout::TKEEP;
 
 // How far a take has been read: up to this octet, with this state.
-#[derive(Drop)]
+#[derive(Clone, Copy)]
 pub struct Place {
     pub at: usize,
     pub st: Open,

@@ -1,6 +1,8 @@
 // Writes a stretch of a take without user bits in which every item is data: all records but the last are full and go in a tight
 // loop, that of one lane in a loop of its own; then comes the last one. Stretches with position items are repack_marked's,
 // and which stretches there are repack_emit's.
+#![tactic(auto)]
+
 ghost use Rattle.std.specs.Prelude.{◌≡◌, ◌++◌, map, ◌≤◌, ◌<◌, length, drop};
 ghost use Rattle.stream_spec.specs.Layout.{size, of_width};
 ghost use Rattle.repack_scratch.specs.Codes.{data_code};
@@ -9,7 +11,7 @@ ghost use Rattle.repack_plain.specs.Write.{record_at, HeadFits, StretchFits, Str
 use stream_record::layout::HEAD_OCTETS;
 
 // How far a stretch is written: up to octet `to` of the output; `left` items, from item `from` on, are not written yet.
-#[derive(Drop)]
+#[derive(Clone, Copy)]
 pub struct Cursor {
     pub to: usize,
     pub from: usize,
@@ -17,7 +19,7 @@ pub struct Cursor {
 }
 
 // The pair of a record, and its TLAST; of a stretch, that of its last record.
-#[derive(Drop)]
+#[derive(Clone, Copy)]
 pub struct Head {
     pub pair: u32,
     pub last: u32,

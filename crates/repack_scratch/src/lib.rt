@@ -1,6 +1,8 @@
 // How a converter holds a take between reading and writing: an item as a code, and a stretch as one entry of a table. The fast
 // converter, which knows a record by its width and carries no user bits, holds a code as an octet and a mark. What codes and
 // entries mean is in specs/, the laws are in proofs/. Reading and writing records is not here.
+#![tactic(auto)]
+
 ghost use Rattle.std.specs.Prelude.{◌≡◌, ◌≤◌, ◌<◌};
 ghost use Rattle.stream_spec.specs.Layout.{size, of_width};
 ghost use Rattle.repack_scratch.specs.Codes.{entry_of, entry_count, entry_last, entry_pair};
@@ -18,7 +20,7 @@ pub const STRETCH_ROOM: usize = 0x2001;
 
 // How far a take has been read: so many items are kept, those from `start` on belong to the open stretch, which has this
 // pair; so many stretches are closed.
-#[derive(Drop)]
+#[derive(Clone, Copy)]
 pub struct Open {
     pub items: usize,
     pub start: usize,
@@ -27,7 +29,7 @@ pub struct Open {
 }
 
 // How many lanes each record has, and the mask of them all.
-#[derive(Drop)]
+#[derive(Clone, Copy)]
 pub struct Lanes {
     pub width: usize,
     pub full: u32,

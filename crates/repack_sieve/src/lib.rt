@@ -1,6 +1,8 @@
 // The sieve: closes up the null lanes of a record of which each kept lane is data, without a branch on TKEEP. Lanes stand in
 // a word, low octet first. For each four TKEEP bits the sieve has a row: the octets that are kept, those of them that move
 // down one place (an odd number of null lanes is below them), those that then move down two places, and how many are kept.
+#![tactic(auto)]
+
 ghost use Rattle.std.specs.Prelude.{◌≡◌, ◌+◌, ◌-◌, ◌*◌, ◌^◌, ◌≤◌, ◌<◌, length, drop};
 ghost use Rattle.stream_spec.specs.Layout.{head_octets};
 ghost use Rattle.words.specs.Words.{octets_of_word, padded};

@@ -1,5 +1,7 @@
 // Writes the packed form of a table's stretches with user bits, stretch by stretch, where the output has room for it: ROOM is
 // refused here, before anything is written. A record is repack_tags's; takes without user bits are repack_emit's.
+#![tactic(auto)]
+
 ghost use Rattle.std.specs.Prelude.{◌≡◌, ◌+◌, ◌≤◌, length, take};
 ghost use Rattle.stream_spec.specs.Layout.{size};
 ghost use Rattle.stream_spec.specs.Memory.{in_front};

@@ -1,5 +1,7 @@
 // Reads a take of transfer records with user bits, once, into one array of codes and a table of stretches, or refuses it: one
 // plain path, record by record. The steps on table and state are repack_parse's. Nothing is written to the caller's memory here.
+#![tactic(auto)]
+
 ghost use Rattle.std.specs.Prelude.{◌≡◌, length};
 ghost use Rattle.stream_spec.specs.Layout.{size};
 ghost use Rattle.stream_spec.specs.Walk.{Narrow, Passed};
@@ -13,14 +15,14 @@ use stream_record::{Fault, HEAD_OCTETS, Header};
 use stream_spec::Shape;
 
 // What reading one record gives: how far the take has been read, or the record's fault.
-#[derive(Drop)]
+#[derive(Clone, Copy)]
 pub enum Next {
     Read(Open),
     Refused(Refusal),
 }
 
 // What reading a take gives: so many stretches in the table, or the first fault.
-#[derive(Drop)]
+#[derive(Clone, Copy)]
 pub enum Parsed {
     Stretches(usize),
     Refused(Refusal),

@@ -1,5 +1,7 @@
 // Items with user bits, which repack_scratch holds as one code each: reading a record's kept lanes, and writing a record. Which
 // records are read and written, and when, is not here. Helpers for the crates above, which have tested and made room.
+#![tactic(auto)]
+
 ghost use Rattle.std.specs.Prelude.{◌≡◌, ◌++◌, map, ◌+◌, ◌%◌, ◌≤◌, ◌<◌, length, take, drop, set};
 ghost use Rattle.words.specs.Splice.{splice};
 ghost use Rattle.stream_spec.specs.Layout.{head_octets, size, shaped, odd, lane_octet, octets_of};
@@ -10,7 +12,7 @@ ghost use Rattle.repack_tags.specs.Tags.{GatheredTags, TagsFit, item_lanes, tags
 use stream_record::layout::HEAD_OCTETS;
 
 // TSTRB and the user bits of a record's lanes, lane 0's bits the lowest.
-#[derive(Drop)]
+#[derive(Clone, Copy)]
 pub struct Tags {
     pub strb: u32,
     pub user: u64,

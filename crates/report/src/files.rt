@@ -10,7 +10,7 @@ use report_spec::Summary;
 
 // How many octets of a file stand at the front of the buffer, and whether they are the whole file: false where it can't be
 // opened, where a read fails at any point, and where the file is longer than the buffer.
-#[derive(Drop)]
+#[derive(Clone, Copy)]
 pub struct Input {
     pub octets: usize,
     pub whole: bool,

@@ -4,6 +4,8 @@
 // Proved is that `report_on` reports on all that it is handed, that what `files::save` is handed is the whole result of a clean
 // report with this verdict, and what `files::print` is handed the verdict's whole text. Only code and tests/report show that
 // `main` reads those two files into cleared buffers and hands that on, and that a clean result is saved, then the text printed.
+#![tactic(auto)]
+
 mod files;
 
 ghost use Rattle.std.specs.Prelude.{◌≤◌, ◌≡◌, length};

@@ -1,6 +1,8 @@
 // The report of paper 01 ('The report program') as one function on octets: setup sheet and take in; verdict, text and
 // result out. The types are in report_spec, and so is what it must answer: `report_of` of specs/Report. The verdict is reached in
 // outcome, its text is made in lines. Reading and writing files is not here: that is the program, crate report.
+#![tactic(auto)]
+
 mod lines;
 mod outcome;
 

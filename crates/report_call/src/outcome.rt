@@ -20,7 +20,7 @@ use stream_record::Checked;
 use stream_spec::{Shape, Written};
 
 // The verdict, and how many octets of result stand at the front of the lent output.
-#[derive(Drop)]
+#[derive(Clone, Copy)]
 pub struct Ending {
     pub verdict: Verdict,
     pub octets: usize,

@@ -1,6 +1,8 @@
 // The setup sheet of the report program (paper 01, 'The report program'; 02's T-06 for `user=`): its five lines, read from octets.
 // The types are in report_setup_spec, and so is what a sheet says (specs/Grammar) and what the answer shows (specs/Answers). A width
 // is any number from 0 to 99 here, and user bits are 0 to 9: which of them are allowed is decided in the crate report_call.
+#![tactic(auto)]
+
 ghost use Rattle.std.specs.Prelude.{[], ◌∷◌, ◌≡◌, ◌≤◌, length, drop};
 ghost use Rattle.report_setup_spec.specs.Grammar.{is_digit, is_word, digit, number, line_of, modes, tlasts};
 ghost use Rattle.report_setup_spec.specs.Answers.{Parsed};
@@ -9,14 +11,14 @@ ghost use Rattle.report_setup.specs.Reading.{told, LineEnd, Begins, EndSays, Lin
 use report_setup_spec::{Mode, Setup, Sheet, Tlast};
 
 // A number that was read from a text, if there is one.
-#[derive(Drop)]
+#[derive(Clone, Copy)]
 enum Value {
     Is(usize),
     Missing,
 }
 
 // A line that was read: the number that it holds, or which of its words, and the place after its LF.
-#[derive(Drop)]
+#[derive(Clone, Copy)]
 enum Line {
     Read(usize, usize),
     Refused,

@@ -3,7 +3,9 @@
 // and the laws about both in proofs/. No octet is read here.
 
 // `mode=pack`: repacking. `mode=lanes`: lane-keeping downsizing.
-#[derive(Drop)]
+#![tactic(auto)]
+
+#[derive(Clone, Copy)]
 pub enum Mode {
     Pack,
     Lanes,
@@ -11,7 +13,7 @@ pub enum Mode {
 
 // `tlast=wired`: TLAST is as sampled. The port has no such wire with the two others, and TLAST is filled in first: high with
 // `tlast=none`, low with `tlast=low`.
-#[derive(Drop)]
+#[derive(Clone, Copy)]
 pub enum Tlast {
     Wired,
     Absent,
@@ -20,7 +22,7 @@ pub enum Tlast {
 
 // What a sheet says. The widths are as written, 0 to 99, and so are the user bits to a byte, 0 to 9: which of them are allowed is
 // decided in the crate report_call.
-#[derive(Drop)]
+#[derive(Clone, Copy)]
 pub struct Setup {
     pub width_in: usize,
     pub width_out: usize,
@@ -30,7 +32,7 @@ pub struct Setup {
 }
 
 // A sheet that was read, or one that is not as paper 01 has it.
-#[derive(Drop)]
+#[derive(Clone, Copy)]
 pub enum Sheet {
     Read(Setup),
     Refused,

@@ -1,16 +1,18 @@
 // The types that the report answers with. The call is in the crate report_call above; what it must answer is `report_of` in
 // specs/Report, and the laws about that are in proofs/. Nothing is computed here.
+#![tactic(auto)]
+
 use refusal::Refusal;
 
 // What a clean take amounts to: its transfers, how many of them have TLAST, and the records written.
-#[derive(Drop)]
+#[derive(Clone, Copy)]
 pub struct Tally {
     pub transfers: usize,
     pub packets: usize,
     pub records: usize,
 }
 
-#[derive(Drop)]
+#[derive(Clone, Copy)]
 pub enum Verdict {
     Clean(Tally),
     // the earliest cycle that breaks a rule, and the lowest rule it breaks, 1 to 4
@@ -20,7 +22,7 @@ pub enum Verdict {
 
 // The verdict; how many octets of text stand at the front of the lent `text`; how many octets of result stand at the
 // front of the lent `out`, 0 unless the verdict is clean.
-#[derive(Drop)]
+#[derive(Clone, Copy)]
 pub struct Summary {
     pub verdict: Verdict,
     pub text: usize,

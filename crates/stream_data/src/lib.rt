@@ -1,5 +1,7 @@
 // The data octets of record k of a take, handed out as that very part of the caller's slice, and the refusal where there
 // is no such part. Two calls of one definition, since no enum can hold a part.
+#![tactic(auto)]
+
 ghost use Rattle.std.specs.Prelude.{◌≡◌};
 ghost use Rattle.stream_spec.specs.Answers.{LookedUp, data_part, data_start};
 

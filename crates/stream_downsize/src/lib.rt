@@ -1,5 +1,7 @@
 // The public call `downsize`: lane-keeping downsizing of a take of transfer records to a width that divides its own, or
 // a refusal. Which octet of a record is what is in the crate stream_record; the packed form is not made here, but in stream_repack.
+#![tactic(auto)]
+
 ghost use Rattle.std.specs.Prelude.{◌≡◌, List, [], ◌∷◌, ◌++◌, ℕ, ◌+◌, ◌≤◌, length, take, drop};
 ghost use Rattle.std.proofs.Math.Option.{none};
 ghost use Rattle.refusal.specs.Checks.{first};

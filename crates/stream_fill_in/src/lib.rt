@@ -1,5 +1,7 @@
 // Fill-in of TLAST, for ports that have no such wire: bit 0 of octet 0 of every record of a lent take is set to a level, and
 // nothing else is touched. Judging is in the crate stream_judge, harvesting in stream_harvest.
+#![tactic(auto)]
+
 ghost use Rattle.std.specs.Prelude.{◌≡◌, ◌≤◌, ◌<◌, length};
 ghost use Rattle.stream_spec.specs.Layout.{bit_of};
 ghost use Rattle.stream_spec.specs.Handshake.{with_last};

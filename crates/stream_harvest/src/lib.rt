@@ -1,5 +1,7 @@
 // Harvesting: the transfers of a judged take, written into a lent output. What is written is stream_spec's `harvested`, and
 // the rules that a take must keep are judged by the crate stream_judge. No rule is read here, and nothing is repacked.
+#![tactic(auto)]
+
 ghost use Rattle.std.specs.Prelude.{◌≡◌, ◌+◌, ◌≤◌, ◌<◌};
 ghost use Rattle.stream_spec.specs.Layout.{size_least};
 ghost use Rattle.stream_spec.specs.Handshake.{as_transfer, harvested};

@@ -1,5 +1,7 @@
 // Judging a take of cycle records against the handshake rules. A record's octets are read by stream_record and stream_head,
 // and compared here in words; what the rules say is in stream_spec's Handshake.
+#![tactic(auto)]
+
 ghost use Rattle.std.specs.Prelude.{◌≡◌, ◌+◌, ◌≤◌, length, take, drop, ◌&&◌, not, true};
 ghost use Rattle.std.proofs.Math.Option.{none, some};
 ghost use Rattle.stream_spec.specs.Layout.{bit, aresetn_bit, size, records, bit_of};

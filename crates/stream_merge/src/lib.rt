@@ -1,6 +1,8 @@
 // The public call `merge`: two takes of transfer records onto one port, turn by turn, or a refusal. For each record `pick` returns the
 // next one as a part of the take that holds it, and only then `put_picked` copies it. What the merged list is stands in merge_spec;
 // which octet of a record is what is in stream_record. Nothing is repacked here.
+#![tactic(auto)]
+
 ghost use Rattle.std.specs.Prelude.{◌≡◌, true, ◌+◌, ◌≤◌, ◌<◌, length, take, drop};
 ghost use Rattle.refusal.specs.Checks.{first};
 ghost use Rattle.words.specs.Splice.{splice};
@@ -23,7 +25,7 @@ const TID_ADDED: u8 = 0x80;
 
 // Whether port 1 has the turn, and where the next record of port 0 and of port 1 starts. A port with nothing left has no turn, unless
 // neither has anything.
-#[derive(Drop)]
+#[derive(Clone, Copy)]
 struct Turn {
     port1: bool,
     at0: usize,

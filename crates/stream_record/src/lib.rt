@@ -1,6 +1,8 @@
 // A record's octets in code: its size, its header's fields, the faults of a width, a length and a record. What each octet is
 // stands in stream_spec's Layout, against which everything here and in the crates above is proved; the numbers of the layout
 // have their names in `layout`. Functions with a `requires` are for the crates above, which test first.
+#![tactic(auto)]
+
 mod checks;
 mod faults;
 pub mod layout;
@@ -20,7 +22,7 @@ use stream_spec::Shape;
 use words::{load8, widen4};
 
 // The fields of a record before its data.
-#[derive(Drop)]
+#[derive(Clone, Copy)]
 pub struct Header {
     pub flags: u32,
     pub tid: u8,
@@ -30,14 +32,14 @@ pub struct Header {
 }
 
 // What tests in a stated order answer: the first refusal, if there is one.
-#[derive(Drop)]
+#[derive(Clone, Copy)]
 pub enum Checked {
     Passed,
     Refused(Refusal),
 }
 
 // What is wrong with a transfer record.
-#[derive(Drop)]
+#[derive(Clone, Copy)]
 pub enum Fault {
     Sound,
     Field,

@@ -1,6 +1,8 @@
 // The public call `repack`: a take of transfer records as its packed form at another width, or a refusal. A take without user bits
 // is read in repack_parse and written in repack_emit, which know a record by its width; one with user bits is read in
 // repack_tagged_parse and written in repack_tagged_emit.
+#![tactic(auto)]
+
 ghost use Rattle.std.specs.Prelude.{◌≡◌};
 ghost use Rattle.std.proofs.Math.Option.{none};
 ghost use Rattle.refusal.specs.Checks.{first};

@@ -1,16 +1,18 @@
 // The types that the stream calls take and answer with. The calls themselves are in the crates above; what each must
 // answer is in specs/, and the laws about that are in proofs/. No octet is read or written here.
+#![tactic(auto)]
+
 use refusal::Refusal;
 
 // What a record looks like: how many byte lanes it has, and how many user bits go with each byte. Every stream call takes one.
-#[derive(Drop)]
+#[derive(Clone, Copy)]
 pub struct Shape {
     pub width: usize,
     pub user: usize,
 }
 
 // What judging a take of cycle records answers.
-#[derive(Drop)]
+#[derive(Clone, Copy)]
 pub enum Verdict {
     // no rule is broken; the count of cycles with a transfer
     Clean(usize),
@@ -20,7 +22,7 @@ pub enum Verdict {
 }
 
 // What a call answers that writes records into lent memory.
-#[derive(Drop)]
+#[derive(Clone, Copy)]
 pub enum Written {
     // so many records stand at the front of the lent memory
     Records(usize),
@@ -30,7 +32,7 @@ pub enum Written {
 
 // Whether a take has the record whose data octets are asked for. The octets themselves are handed out by another call,
 // since no enum can hold a part of a slice.
-#[derive(Drop)]
+#[derive(Clone, Copy)]
 pub enum Lookup {
     Present,
     Refused(Refusal),

@@ -1,5 +1,7 @@
 // Writing a record's octets, as stream_spec's Layout has them: its header, its null lanes, and its user bits. The lanes that
 // carry something are written by the crates above, which know what they carry.
+#![tactic(auto)]
+
 ghost use Rattle.std.specs.Prelude.{◌≡◌, ◌∷◌, ◌++◌, ◌+◌, ◌≤◌, ◌<◌, length, drop};
 ghost use Rattle.words.specs.Splice.{splice};
 ghost use Rattle.words.specs.Words.{octets_of_word};

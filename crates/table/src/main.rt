@@ -1,5 +1,7 @@
 // Prints the refusal table of the papers, a line for each refusal: its name there, then the number, place and rule that the
 // library shows for it. The refusals that have a place are shown at record 7, and the unclean take at cycle 7, rule 3.
+#![tactic(auto)]
+
 use refusal::Refusal;
 
 fn number(key: &[u8], n: u64) {

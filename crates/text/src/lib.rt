@@ -1,6 +1,8 @@
 // Text in a lent slice, as ASCII octets: decimal numbers and LF-ended key=value lines, each written at a place, with the
 // place after it as the answer. What they look like is in specs/Text. Which lines a text has is not here: that is the
 // caller's (report_call). Helpers for other crates: each asks that there is room, and the caller shows that there is.
+#![tactic(auto)]
+
 ghost use Rattle.std.specs.Prelude.{◌+◌, ◌≤◌, ◌<◌, [], ◌∷◌, length};
 ghost use Rattle.text.specs.Text.{digit, decimal, line, Put};
 

@@ -1,5 +1,7 @@
 // Octets moved in groups of four and eight, as numbers with the low octet first: one load and one store each when
 // compiled. Functions with a `requires` are for the crates above. What the octets mean is not known here.
+#![tactic(auto)]
+
 ghost use Rattle.std.specs.Prelude.{◌≡◌, [], ◌∷◌, ◌+◌, ◌-◌, ◌≤◌, ◌<◌, length, drop};
 ghost use Rattle.words.specs.Splice.{splice};
 ghost use Rattle.words.specs.Words.{word_at, octets_of_word, padded};

@@ -1,6 +1,8 @@
 // Judging the beats of the write data channel against their burst (paper 02, T-05). The call takes any numbers and octets and refuses
 // what is not allowed. What it answers is defined in the crate write_data_spec; a beat's lanes are what `burst::beat` answers. The call comes
 // first, then the refusals, the rules of one beat, and its strobes octet by octet.
+#![tactic(auto)]
+
 ghost use Rattle.std.specs.Prelude.{◌≡◌, true, ◌&&◌, ◌+◌, ◌-◌, ◌*◌, ◌≤◌, ◌<◌, min, leb, length};
 ghost use Rattle.burst_spec.specs.Address.{beats, beat_of};
 ghost use Rattle.burst_spec.specs.Answers.{judgement_for};
