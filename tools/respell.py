@@ -28,6 +28,7 @@ CAMEL = re.compile(r"[a-z][A-Za-z0-9]*[A-Z]")
 STD = set(
     "length append drop take map reverse get_or get set cons nil none some suc zero sum concat cond true false add mul sub mod div".split()
 )
+OURS = [os.path.basename(c) for c in glob.glob("crates/*")]
 # A spelling that a name has to take because the plain one is taken, and names that are not ours to turn.
 EXCEPT = {}
 
@@ -99,6 +100,11 @@ def table():
                 m = DECLARED.match(line)
                 if m:
                     declared.update(m.group(1).split(" "))
+    # what comes from a library keeps its name
+    for path in files():
+        for items in re.findall(r"use (?!Rattle\.(?:" + "|".join(OURS) + r")\.)[\w.'-]+\.\{([^}]*)\}", read(path)):
+            for item in re.split(r",\s*", items):
+                declared.pop(item.split(" as ")[0].strip(), None)
     defined = set()
     for path in files():
         if path.endswith(".antt") and "/specs/" in path:

@@ -5,7 +5,7 @@ use Prim.Native.Nat.{ℕ, zero, suc, ◌<◌}
 use native.Mathlib.Decide.{dec_lt}
 use native.Mathlib.Omega.{arith}
 use Rattle.burst_spec.specs.Checks.{some_below}
-use Rattle.burst_spec.proofs.Known.{clash, or_false}
+use Rattle.burst_spec.proofs.Known.{clash, or-false}
 
 pub none_below : (n : ℕ) (p : ℕ → Bool) → ((k : ℕ) → k < n → p k ≡ false) → some_below n p ≡ false
 unfolding some_below
@@ -15,7 +15,7 @@ none_below (suc n) p h = rw (h n (omega arith)) (none_below n p (λ k l. h k (om
 pub each_below : (n : ℕ) (p : ℕ → Bool) → some_below n p ≡ false → (k : ℕ) → k < n → p k ≡ false
 unfolding some_below
 each_below zero p e k l = absurd (omega arith)
-each_below (suc n) p e k l = go (or_false _ _ e) (each_below n p) (dec_lt k n)
+each_below (suc n) p e k l = go (or-false _ _ e) (each_below n p) (dec_lt k n)
   where
     go : (p n ≡ false) × (some_below n p ≡ false) → (some_below n p ≡ false → (j : ℕ) → j < n → p j ≡ false) → Dec (k < n) → p k ≡ false
     go h rest (yes below) = rest h.1 k below

@@ -19,9 +19,9 @@ use Rattle.burst_spec.specs.Legal.{Legal}
 pub clash : true ≡ false → ⊥
 clash e = let z : ◌≡◌ {A = ℕ} 0 1 = cc in omega arith
 
-pub or_false : (a b : Bool) → (a || b) ≡ false → (a ≡ false) × (b ≡ false)
-or_false true b e = absurd (clash cc)
-or_false false b e = (refl, e)
+pub or-false : (a b : Bool) → (a || b) ≡ false → (a ≡ false) × (b ≡ false)
+or-false true b e = absurd (clash cc)
+or-false false b e = (refl, e)
 
 -- a property of every number of a list is one of whatever is among them
 abbrev pub Each : (ℕ → Type 0) → List ℕ → Type 0
@@ -84,12 +84,12 @@ pub record Known (x : Burst) : Type 0 where
 module _ (x : Burst) where
   pub size-known : too_wide x ≡ false → (x.size ≤ axsize_most) × (bytes x ≤ x.bus)
   size-known e =
-      let h : (ltb axsize_most x.size ≡ false) × (ltb x.bus (bytes x) ≡ false) = or_false _ _ e in
+      let h : (ltb axsize_most x.size ≡ false) × (ltb x.bus (bytes x) ≡ false) = or-false _ _ e in
       (ltb-false axsize_most x.size h.0, ltb-false x.bus (bytes x) h.1)
 
   count-known : count_refused x ≡ false → (x.len ≤ axlen_most) × (count_allowed x.kind (beats x) ≡ true)
   count-known e =
-      let h : (ltb axlen_most x.len ≡ false) × (not (count_allowed x.kind (beats x)) ≡ false) = or_false _ _ e in
+      let h : (ltb axlen_most x.len ≡ false) × (not (count_allowed x.kind (beats x)) ≡ false) = or-false _ _ e in
       (ltb-false axlen_most x.len h.0, not-false _ h.1)
 
   pub known : Legal x → Known x

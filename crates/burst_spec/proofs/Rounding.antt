@@ -1,7 +1,7 @@
 -- Rounding down, and which addresses fall into one block of b bytes. Everything else rests on these. Assumes nothing.
 use mathlib.Core.Path.{◌≡◌, ap, ◌∙◌}
 use Prim.Native.Nat.{ℕ, ◌+◌, ◌-◌, ◌*◌, ◌/◌, ◌%◌, ◌^◌, ◌≤◌, ◌<◌}
-use native.Mathlib.Nat.{div-lt_iff_lt-mul, div-add-mod', div-mul-le_self, lt-div-mul-add, mul-div_cancel, mul-add-div_right, div-eq_of_lt, div-div_eq_div-mul, add-zero}
+use native.Mathlib.Nat.{div-lt_iff_lt-mul, div-add-mod', div-mul-le_self, lt-div-mul-add, mul-div_cancel, mul-add-div_right, div-eq_of_lt, div-div-eq-div-mul, add-zero}
 use native.Mathlib.Omega.{arith}
 use lib.Pow.{pow_pos, pow-add}
 use Rattle.burst_spec.specs.Address.{round_down, highest_byte}
@@ -11,7 +11,7 @@ pub power_positive : {x : ℕ} → Power x → 0 < x
 power_positive p = rw p.is (pow_pos p.log)
 
 finer : (a c b q : ℕ) → a / b ≡ c / b → a / (b * q) ≡ c / (b * q)
-finer a c b q e = rw (← div-div_eq_div-mul a b q, ← div-div_eq_div-mul c b q, e)
+finer a c b q e = rw (← div-div-eq-div-mul a b q, ← div-div-eq-div-mul c b q, e)
 
 module _ (a b : ℕ) where
   pub round_le : round_down a b ≤ a

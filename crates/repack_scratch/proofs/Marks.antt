@@ -5,7 +5,7 @@ use mathlib.Core.List.{List, [], ◌∷◌, ◌++◌}
 use Prim.Native.Nat.{ℕ, zero, suc, ◌+◌, ◌-◌, ◌*◌, ◌/◌, ◌%◌, ◌^◌, ◌≤◌, ◌<◌}
 use native.Mathlib.Nat.{pow-suc, mul_assoc, mul_comm}
 use native.Mathlib.Omega.{arith}
-use lib.Pow.{shr_shr}
+use lib.Pow.{shr-shr}
 use lib.ListN.{length, get_or, set, replicate, length-append, length-replicate, get_or-append}
 use lib.Seq.{get_or-append-add}
 use Rattle.repack_scratch.specs.Codes.{bits_of, mark_bits, Unmarked}
@@ -26,7 +26,7 @@ bit_at : (k i x : ℕ) → i < k → get_or (bits_of k x) i 0 ≡ x / 2 ^ i % 2
 bit_at zero i x h = absurd (omega arith)
 bit_at (suc k) zero x h = omega arith
 bit_at (suc k) (suc i) x h =
-    bit_at k i (x / 2) (omega arith) ∙ ap (λ (y : ℕ). y % 2) (shr_shr x 1 i) ∙ ap (λ (j : ℕ). x / 2 ^ j % 2) (omega arith)
+    bit_at k i (x / 2) (omega arith) ∙ ap (λ (y : ℕ). y % 2) (shr-shr x 1 i) ∙ ap (λ (j : ℕ). x / 2 ^ j % 2) (omega arith)
 
 doubled : (m j : ℕ) → m * 2 ^ suc j ≡ 2 * (m * 2 ^ j)
 doubled m j = rw (pow-suc 2 j) (sym (mul_assoc m (2 ^ j) 2) ∙ mul_comm (m * 2 ^ j) 2)
@@ -41,7 +41,7 @@ bit-set (suc k) zero x m h l e =
 bit-set (suc k) (suc j) x m h l e =
     let low : (x + m * 2 ^ suc j) % 2 ≡ x % 2 = omega (arith, doubled m j) in
     let high : (x + m * 2 ^ suc j) / 2 ≡ x / 2 + m * 2 ^ j = omega (arith, doubled m j) in
-    let clear : x / 2 / 2 ^ j % 2 ≡ 0 = ap (λ (y : ℕ). y % 2) (shr_shr x 1 j) ∙ ap (λ (i : ℕ). x / 2 ^ i % 2) (omega arith) ∙ e in
+    let clear : x / 2 / 2 ^ j % 2 ≡ 0 = ap (λ (y : ℕ). y % 2) (shr-shr x 1 j) ∙ ap (λ (i : ℕ). x / 2 ^ i % 2) (omega arith) ∙ e in
     rw (low, high, bit-set k j (x / 2) m (omega arith) l clear) refl
 
 -- and the number keeps within its bits
@@ -49,7 +49,7 @@ pub bit-fits : (k j x m : ℕ) → j < k → m ≤ 1 → x < 2 ^ k → x / 2 ^ j
 bit-fits zero j x m h l b e = absurd (omega arith)
 bit-fits (suc k) zero x m h l b e = omega (arith, pow-suc 2 k)
 bit-fits (suc k) (suc j) x m h l b e =
-    let clear : x / 2 / 2 ^ j % 2 ≡ 0 = ap (λ (y : ℕ). y % 2) (shr_shr x 1 j) ∙ ap (λ (i : ℕ). x / 2 ^ i % 2) (omega arith) ∙ e in
+    let clear : x / 2 / 2 ^ j % 2 ≡ 0 = ap (λ (y : ℕ). y % 2) (shr-shr x 1 j) ∙ ap (λ (i : ℕ). x / 2 ^ i % 2) (omega arith) ∙ e in
     omega (arith, pow-suc 2 k, doubled m j, bit-fits k j (x / 2) m (omega arith) l (omega (arith, pow-suc 2 k)) clear)
 
 -- ---- two lists joined

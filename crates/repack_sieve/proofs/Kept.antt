@@ -6,7 +6,7 @@ use mathlib.Core.List.{List, [], ◌∷◌, ◌++◌, append_assoc}
 use Prim.Native.Nat.{ℕ, zero, suc, ◌+◌, ◌*◌, ◌/◌, ◌%◌, ◌^◌, ◌≤◌, ◌<◌}
 use native.Mathlib.Nat.{pow-suc}
 use native.Mathlib.Omega.{arith}
-use lib.Pow.{mod-pow-add, shr_shr}
+use lib.Pow.{mod-pow-add, shr-shr}
 use lib.ListN.{length, get_or, take, drop, length-append}
 use lib.Seq.{drop-drop, length-take-le, take-append-add, take-append-le}
 use Rattle.stream_spec.specs.Layout.{odd}
@@ -36,7 +36,7 @@ kept_split zero b k ds =
 kept_split (suc a) b k ds =
     let one : suc a + b ≡ suc (a + b) = omega arith in
     let past : suc a ≡ 1 + a = omega arith in
-    let rest : k / 2 / 2 ^ a ≡ k / 2 ^ (1 + a) = shr_shr k 1 a in
+    let rest : k / 2 / 2 ^ a ≡ k / 2 ^ (1 + a) = shr-shr k 1 a in
     rw one
     (ap (λ (l : List ℕ). kept_octet k (get_or ds 0 0) ++ l) (kept_split a b (k / 2) (drop 1 ds) ∙ rw (rest, drop-drop a 1 ds, ← past) refl)
     ∙ sym (append_assoc (kept_octet k (get_or ds 0 0)) (kept_octets a (k / 2) (drop 1 ds)) (kept_octets b (k / 2 ^ suc a) (drop (suc a) ds))))

@@ -4,7 +4,7 @@ use mathlib.Core.List.{List}
 use Prim.Native.Nat.{ℕ, zero, suc, ◌+◌, ◌-◌, ◌*◌, ◌/◌, ◌%◌, ◌^◌, ◌≤◌, ◌<◌}
 use native.Mathlib.Nat.{add-zero}
 use native.Mathlib.Omega.{arith}
-use lib.Pow.{shr_shr}
+use lib.Pow.{shr-shr}
 use lib.ListN.{get_or, drop}
 use lib.Seq.{get_or-drop, drop-drop}
 use Rattle.words.specs.Words.{word_at, octets_of_word, padded}
@@ -32,7 +32,7 @@ module _ (s : List ℕ) (octets : (j : ℕ) → get_or s j 0 < 256) where
       let more : 8 * suc m ≡ 8 + 8 * m = omega arith in
       let next : i + suc m ≡ i + 1 + m = omega arith in
       let high : (get_or s i 0 + 256 * word_at (m + n) s (i + 1)) / 256 ≡ word_at (m + n) s (i + 1) = omega (arith, octets i) in
-      rw (one, more, next) (sym (shr_shr (get_or s i 0 + 256 * word_at (m + n) s (i + 1)) 8 (8 * m)) ∙ rw high (word_shifted m n (i + 1)))
+      rw (one, more, next) (sym (shr-shr (get_or s i 0 + 256 * word_at (m + n) s (i + 1)) 8 (8 * m)) ∙ rw high (word_shifted m n (i + 1)))
 
   -- the last n of the k octets before place e
   pub last-octets : (top k n e x : ℕ) → 1 ≤ n → n ≤ k → k ≤ e → 8 * k ≤ top → x ≡ word_at k s (e - k)

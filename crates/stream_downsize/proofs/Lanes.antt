@@ -5,10 +5,10 @@ use mathlib.Core.Bool.{Bool, true, false, cond}
 use mathlib.Core.List.{List, [], ◌∷◌, ◌++◌, map}
 use mathlib.Core.Option.{Option}
 use Prim.Native.Nat.{ℕ, zero, suc, ◌+◌, ◌*◌, ◌/◌, ◌%◌, ◌^◌, ◌≤◌, ◌<◌}
-use native.Mathlib.Nat.{add-zero, add-suc, zero-mul, suc-mul, mul_comm, mul-le-mul, div-one, div-div_eq_div-mul, pow-suc, pow-succ', mod-eq_of_lt}
+use native.Mathlib.Nat.{add-zero, add-suc, zero-mul, suc-mul, mul_comm, mul-le-mul, div-one, div-div-eq-div-mul, pow-suc, pow-succ', mod-eq_of_lt}
 use native.Mathlib.Omega.{arith}
 use lib.Arith.{mod-mul}
-use lib.Pow.{pow_pos, pow_mono, shr_shr}
+use lib.Pow.{pow_pos, pow_mono, shr-shr}
 use lib.ListN.{length, get_or, take, drop, length-map, length-drop, length-append}
 use lib.Seq.{drop-nil, drop-cons, drop_at, drop-length, length-take-le}
 use Rattle.words.specs.Splice.{splice}
@@ -49,13 +49,13 @@ lanes_taken m (suc n) keep strb u (d ∷ ds) =
     ap (λ (ls : List (Option Kept)). lane_of (lane_type (odd keep) (odd strb)) d (u % 2 ^ m) ∷ ls) (lanes_taken m n (keep / 2) (strb / 2) (u / 2 ^ m) ds)
 
 halved : (x v : ℕ) → x / 2 / 2 ^ v ≡ x / 2 ^ suc v
-halved x v = div-div_eq_div-mul x 2 (2 ^ v) ∙ ap (λ (m : ℕ). x / m) (sym (pow-succ' 2 v))
+halved x v = div-div-eq-div-mul x 2 (2 ^ v) ∙ ap (λ (m : ℕ). x / m) (sym (pow-succ' 2 v))
 
 -- the user bits without those of one lane, and of v lanes more
 lane_less : (u m v : ℕ) → u / 2 ^ m / 2 ^ (v * m) ≡ u / 2 ^ (suc v * m)
 lane_less u m v =
     let all : m + v * m ≡ suc v * m = omega (arith, suc-mul v m) in
-    shr_shr u m (v * m) ∙ ap (λ (n : ℕ). u / 2 ^ n) all
+    shr-shr u m (v * m) ∙ ap (λ (n : ℕ). u / 2 ^ n) all
 
 no-lane_less : (u m : ℕ) → u ≡ u / 2 ^ (0 * m)
 no-lane_less u m = rw (zero-mul m) (sym (div-one u))

@@ -1,7 +1,7 @@
 -- The pass over the cycles: what is known at its start, what one cycle more leaves known, and what is told at its end; and
 -- the pass behind a finding, which looks for a bad field only. Assumes nothing.
 use mathlib.Core.Path.{◌≡◌, refl, sym, ap, ap₂, ◌∙◌, subst}
-use mathlib.Core.Bool.{Bool, true, false, cond, ◌||◌, or-true, or_false}
+use mathlib.Core.Bool.{Bool, true, false, cond, ◌||◌, or-true, or-false}
 use mathlib.Core.List.{List, [], ◌∷◌, ◌++◌}
 use mathlib.Core.Option.{Option, none, some}
 use Prim.Native.Nat.{ℕ, suc, ◌+◌, ◌-◌, ◌*◌, ◌%◌, ◌≤◌, ◌<◌}
@@ -100,7 +100,7 @@ pub fault_is : (s : Shape) (c : List ℕ) (z : Zeros) (r t : Bool) → s.width �
     → TellsFault z c r → r ≡ t → field_fault cycle_flags s c ≡ t
 fault_is s c z r t w e u f g =
     let head = header_fault cycle_flags s (header_of c) in
-    ap (λ (b : Bool). head || b) u ∙ or_false head ∙ sym (f cycle_flags s (omega arith) w e) ∙ g
+    ap (λ (b : Bool). head || b) u ∙ or-false head ∙ sym (f cycle_flags s (omega arith) w e) ∙ g
 
 -- ---- behind a finding
 

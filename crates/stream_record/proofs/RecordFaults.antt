@@ -1,7 +1,7 @@
 -- The faults of transfer records: what a header's fault says of the record's checks, and the first fault of a take by one
 -- loop. Assumes nothing.
 use mathlib.Core.Path.{◌≡◌, refl, sym, ap, ◌∙◌}
-use mathlib.Core.Bool.{Bool, true, false, cond, or-true, or_false}
+use mathlib.Core.Bool.{Bool, true, false, cond, or-true, or-false}
 use mathlib.Core.List.{List, [], ◌∷◌}
 use mathlib.Core.Option.{Option, none, some}
 use Prim.Native.Nat.{ℕ, ◌+◌, ◌%◌, ◌^◌, ◌≤◌, ◌<◌}
@@ -89,7 +89,7 @@ pub padding_tells : (s : Shape) (rec : List ℕ) → user_fault s rec ≡ true �
 padding_tells s rec u = rw (u, or-true (header_fault transfer_flags s (header_of rec))) refl
 
 pub head-tells : (s : Shape) (rec : List ℕ) (h : Header) → h ≡ header_of rec → user_fault s rec ≡ false → fault_of s h ≡ record_fault s rec
-head-tells s rec h e u = rw (e, u, or_false (header_fault transfer_flags s (header_of rec))) refl
+head-tells s rec h e u = rw (e, u, or-false (header_fault transfer_flags s (header_of rec))) refl
 
 -- ---- the first fault of a take, whatever is checked of each record
 

@@ -1,7 +1,7 @@
 -- Records without user bits: size, faults and octets are paper 01's formulas, written out. So with m = 0 all else in 01 stays octet for
 -- octet, and code for such records may know them by their width. Assumes nothing.
 use mathlib.Core.Path.{◌≡◌, refl, ap, ◌∙◌}
-use mathlib.Core.Bool.{false, or_false}
+use mathlib.Core.Bool.{false, or-false}
 use mathlib.Core.List.{List, [], ◌∷◌, ◌++◌, map, append-nil}
 use mathlib.Core.Option.{Option}
 use Prim.Native.Nat.{ℕ, ◌+◌, ◌*◌, ◌/◌, ◌%◌, ◌^◌}
@@ -26,7 +26,7 @@ bare_user w r = lt-leb (2 ^ (w * 0)) (user_number (of_width w) r) (rw (bare_numb
 
 pub bare_field : (used w : ℕ) (r : List ℕ) → field_fault used (of_width w) r ≡ head_fault used (of_width w) (flags r) (pair_of r).tdest (tkeep r) (tstrb r)
 bare_field used w r =
-    rw (bare_user w r) (or_false (head_fault used (of_width w) (flags r) (pair_of r).tdest (tkeep r) (tstrb r)))
+    rw (bare_user w r) (or-false (head_fault used (of_width w) (flags r) (pair_of r).tdest (tkeep r) (tstrb r)))
 
 -- ---- lanes
 

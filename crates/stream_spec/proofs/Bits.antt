@@ -3,12 +3,12 @@ use mathlib.Core.Path.{◌≡◌, refl, sym, ap, ◌∙◌}
 use mathlib.Core.Bool.{Bool, true, false}
 use mathlib.Core.List.{List, [], ◌∷◌}
 use Prim.Native.Nat.{ℕ, zero, suc, ◌+◌, ◌*◌, ◌/◌, ◌%◌, ◌^◌, ◌≤◌, ◌<◌}
-use native.Mathlib.Nat.{div-one, div-div_eq_div-mul, mul_comm, mul_assoc, pow-suc, zero-div}
+use native.Mathlib.Nat.{div-one, div-div-eq-div-mul, mul_comm, mul_assoc, pow-suc, zero-div}
 use native.Mathlib.Omega.{arith}
 use borrow.Author.Tests.{eq-eqb, ne_eqb, eqb-true, eqb-false}
 use lib.Dec.{eqb}
 use lib.ListN.{length}
-use lib.Pow.{shr_shr}
+use lib.Pow.{shr-shr}
 use Rattle.stream_spec.specs.Layout.{bit, odd, bit_of, mask_of, octet_values}
 
 -- ---- one bit
@@ -18,7 +18,7 @@ pub bit-zero : (n : ℕ) → bit 0 n ≡ odd n
 bit-zero n = rw (div-one n) refl
 
 pub bit-suc : (x n : ℕ) → bit (suc x) n ≡ bit x (n / 2)
-bit-suc x n = rw (pow-suc 2 x, mul_comm (2 ^ x) 2, ← div-div_eq_div-mul n 2 (2 ^ x)) refl
+bit-suc x n = rw (pow-suc 2 x, mul_comm (2 ^ x) 2, ← div-div-eq-div-mul n 2 (2 ^ x)) refl
 
 -- the lowest bit as a number
 pub odd_number : (n : ℕ) → bit_of (odd n) ≡ n % 2
@@ -66,7 +66,7 @@ bit_below (suc k) o n (suc x) l =
 pub bit-above : (o n y : ℕ) → o < 256 → bit (8 + y) (o + 256 * n) ≡ bit y n
 bit-above o n y small =
     let whole : (o + 256 * n) / 256 ≡ n = omega arith in
-    ap (λ (m : ℕ). eqb (m % 2) 1) (sym (shr_shr (o + 256 * n) 8 y) ∙ ap (λ (m : ℕ). m / 2 ^ y) whole)
+    ap (λ (m : ℕ). eqb (m % 2) 1) (sym (shr-shr (o + 256 * n) 8 y) ∙ ap (λ (m : ℕ). m / 2 ^ y) whole)
 
 pub no-bit : (x : ℕ) → bit x 0 ≡ false
 no-bit x = ap (λ (m : ℕ). eqb (m % 2) 1) (zero-div (2 ^ x))

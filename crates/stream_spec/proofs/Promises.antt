@@ -6,7 +6,7 @@ use mathlib.Core.List.{List, [], ◌∷◌, map}
 use borrow.Author.Tests.{eqb-true, eqb-false, eq-eqb, ne_eqb, ltb-true, lt-ltb, leb-true, leb-false, le-leb, not-true}
 use lib.Dec.{eqb, ltb}
 use Prim.Native.Nat.{ℕ, zero, suc, ◌+◌, ◌-◌, ◌*◌, ◌/◌, ◌%◌, ◌^◌, ◌≤◌, ◌<◌}
-use lib.Pow.{pow_pos, pow_mono, shr_shr}
+use lib.Pow.{pow_pos, pow_mono, shr-shr}
 use native.Mathlib.Nat.{le_trans, one-mul, mod-le, le-div_iff_mul-le, suc-mul, zero-mul, div-add-mod', mul-le-mul_right, div-mul-le_self}
 use native.Mathlib.Omega.{arith}
 use lib.ListN.{length, get_or, drop, length-map, length-append, length-drop}
@@ -86,7 +86,7 @@ field_bits n m = (found, bounded)
         record {
           place = n + some'.place;
           above = omega arith;
-          high = ap (λ (x : ℕ). eqb (x % 2) 1) (sym (shr_shr m n some'.place)) ∙ some'.high;
+          high = ap (λ (x : ℕ). eqb (x % 2) 1) (sym (shr-shr m n some'.place)) ∙ some'.high;
         }
 
     bounded : SetAbove n m → 2 ^ n ≤ m

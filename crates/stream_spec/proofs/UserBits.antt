@@ -10,7 +10,7 @@ use native.Mathlib.Nat.{div-one, div-add-mod, suc-mul, zero-mul, mul-le-mul_righ
 use native.Mathlib.Omega.{arith}
 use lib.Dec.{eqb}
 use lib.ListN.{length, get_or}
-use lib.Pow.{pow_pos, pow_mono, shr_shr}
+use lib.Pow.{pow_pos, pow_mono, shr-shr}
 use Rattle.words.specs.Words.{word_at}
 use Rattle.words.proofs.Words.{word_fits}
 use Rattle.stream_spec.specs.declared.Shape.{Shape}
@@ -51,7 +51,7 @@ part-bits n a m j h =
     let whole : n / 2 ^ a % 2 ^ m + 2 ^ m * (n / 2 ^ a / 2 ^ m) ≡ n / 2 ^ a = omega (arith, div-add-mod (n / 2 ^ a) (2 ^ m)) in
     sym (bit_below m (n / 2 ^ a % 2 ^ m) (n / 2 ^ a / 2 ^ m) j h)
     ∙ ap (bit j) whole
-    ∙ ap (λ (x : ℕ). eqb (x % 2) 1) (shr_shr n a j)
+    ∙ ap (λ (x : ℕ). eqb (x % 2) 1) (shr-shr n a j)
 
 -- ---- what a lane carries
 
@@ -61,9 +61,9 @@ lanes_at m [] u ds x h = absurd (omega arith)
 lanes_at m (t ∷ ts) u [] zero h = rw (zero-mul m, div-one u) refl
 lanes_at m (t ∷ ts) u (d ∷ ds) zero h = rw (zero-mul m, div-one u) refl
 lanes_at m (t ∷ ts) u [] (suc x) h =
-    lanes_at m ts (u / 2 ^ m) [] x (omega arith) ∙ rw (shr_shr u m (x * m), suc-mul x m, add_comm m (x * m)) refl
+    lanes_at m ts (u / 2 ^ m) [] x (omega arith) ∙ rw (shr-shr u m (x * m), suc-mul x m, add_comm m (x * m)) refl
 lanes_at m (t ∷ ts) u (d ∷ ds) (suc x) h =
-    lanes_at m ts (u / 2 ^ m) ds x (omega arith) ∙ rw (shr_shr u m (x * m), suc-mul x m, add_comm m (x * m)) refl
+    lanes_at m ts (u / 2 ^ m) ds x (omega arith) ∙ rw (shr-shr u m (x * m), suc-mul x m, add_comm m (x * m)) refl
 
 -- the bits of the lanes below w end before w*m
 below_all : (w m x j : ℕ) → x < w → j < m → x * m + j < w * m
@@ -127,7 +127,7 @@ users_at m [] x k h = absurd (omega arith)
 users_at m (l ∷ ls) zero k h = rw (zero-mul m, div-one (users_of m (l ∷ ls))) (users_low m (lane_user l) (users_of m ls) (lane_first m l ls k).0)
 users_at m (l ∷ ls) (suc x) k h =
     let f = lane_first m l ls k in
-    rw (suc-mul x m, add_comm (x * m) m, ← shr_shr (users_of m (l ∷ ls)) m (x * m), users_high m (lane_user l) (users_of m ls) f.0)
+    rw (suc-mul x m, add_comm (x * m) m, ← shr-shr (users_of m (l ∷ ls)) m (x * m), users_high m (lane_user l) (users_of m ls) f.0)
     (users_at m ls x f.1 (omega arith))
 
 types_back : (ls : List (Option Kept)) (x : ℕ) → x < length ls

@@ -5,7 +5,7 @@ use mathlib.Core.Bool.{Bool, true, false}
 use mathlib.Core.List.{List, [], ◌∷◌, map}
 use mathlib.Core.Option.{Option, none, some}
 use Prim.Native.Nat.{ℕ, suc, ◌+◌, ◌-◌, ◌*◌, ◌/◌, ◌%◌, ◌^◌, ◌≤◌, ◌<◌}
-use native.Mathlib.Nat.{add-zero, zero-mul, suc-mul, mul_comm, mul-add, mul-le-mul_left, div-eq_of_lt, mod-eq_of_lt, zero-add, add-mul_div_left, add-mul-mod_self_left, mod-lt}
+use native.Mathlib.Nat.{add-zero, zero-mul, suc-mul, mul_comm, mul-add, mul-le-mul_left, div-eq_of_lt, mod-eq_of_lt, zero-add, add-mul-div_left, add-mul-mod_self_left, mod-lt}
 use native.Mathlib.Omega.{arith}
 use borrow.Author.Tests.{leb-true, leb-false, le-leb, lt-leb}
 use lib.Dec.{leb}
@@ -82,7 +82,7 @@ pub users_low : (m a b : ℕ) → a < 2 ^ m → (a + 2 ^ m * b) % 2 ^ m ≡ a
 users_low m a b h = add-mul-mod_self_left a (2 ^ m) b ∙ mod-eq_of_lt h
 
 pub users_high : (m a b : ℕ) → a < 2 ^ m → (a + 2 ^ m * b) / 2 ^ m ≡ b
-users_high m a b h = add-mul_div_left a b (pow_pos m) ∙ ap (λ (n : ℕ). n + b) (div-eq_of_lt h) ∙ zero-add b
+users_high m a b h = add-mul-div_left a b (pow_pos m) ∙ ap (λ (n : ℕ). n + b) (div-eq_of_lt h) ∙ zero-add b
 
 -- so many lanes have so many bits, and their octets hold them
 pub users_fit : (m : ℕ) (ls : List (Option Kept)) → LanesTagged m ls → users_of m ls < 2 ^ (length ls * m)

@@ -5,7 +5,7 @@ use mathlib.Core.List.{List, [], ◌∷◌, ◌++◌, append_assoc}
 use Prim.Native.Nat.{ℕ, zero, suc, ◌+◌, ◌-◌, ◌*◌, ◌/◌, ◌%◌, ◌^◌, ◌≤◌, ◌<◌}
 use native.Mathlib.Nat.{add-zero, one-mul, mul_assoc, mod-eq_of_lt}
 use native.Mathlib.Omega.{arith}
-use lib.Pow.{mod-pow-add, pow-add, pow_pos, pow-lt, shr_shr}
+use lib.Pow.{mod-pow-add, pow-add, pow_pos, pow-lt, shr-shr}
 use lib.ListN.{length, get_or, take, drop, set, length-append, length-drop}
 use lib.Seq.{take-append-le, drop-drop, get_or-drop, length-take-le, drop-append-add, take-append-add, sets-eq, set_split}
 use Rattle.words.specs.Splice.{splice}
@@ -115,7 +115,7 @@ octets_split zero b x =
 octets_split (suc a) b x =
     let one : suc a + b ≡ suc (a + b) = omega arith in
     let eight : 8 * suc a ≡ 8 + 8 * a = omega arith in
-    let past : x / 2 ^ (8 * suc a) ≡ x / 256 / 2 ^ (8 * a) = rw eight (sym (shr_shr x 8 (8 * a))) in
+    let past : x / 2 ^ (8 * suc a) ≡ x / 256 / 2 ^ (8 * a) = rw eight (sym (shr-shr x 8 (8 * a))) in
     rw (one, past) (ap {B = List ℕ} (λ l. x % 256 ∷ l) (octets_split a b (x / 256)))
 
 -- of a word's low octets nothing above them is seen
