@@ -41,7 +41,7 @@ module _ {A : Type 0} where
   attach-items (byte p a) (s ∷ ss) = go (same_pair p s.pair) refl
     where
       go : (b : Bool) → same_pair p s.pair ≡ b → stretches_items (attach (byte p a) (s ∷ ss)) ≡ byte p a ∷ stretches_items (s ∷ ss)
-      go true e = rw e (rw (same_pair_eq p s.pair e) refl)
+      go true e = rw e (ap (λ (q : Pair). byte p a ∷ (items_of q s.bytes s.ended ++ stretches_items ss)) (same_pair_eq p s.pair e))
       go false e = rw e refl
 
   -- the stretches hold the items, in order

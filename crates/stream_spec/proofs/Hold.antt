@@ -115,14 +115,17 @@ module _ {A : Type 0} where
       → HoldsAs v (map (byte p) (y ∷ ys)) (spread k v p (map some (y ∷ ys)) false) js
       → HoldsAs v (map (byte p) (xs ++ y ∷ ys)) (spread (suc k) v p (map some (xs ++ y ∷ ys)) false) js
   hold_full k v h p xs y ys js e ih =
-      rw (map-append (λ (a : A). some a) xs (y ∷ ys))
-      (rw (fitted-full v (map some xs) (map some (y ∷ ys)) (length-map xs some ∙ e), drop_at (map some xs) (map some (y ∷ ys)) v (length-map xs some ∙ e))
-      (let t : Transfer A = record { pair = p; lanes = map some xs; last = false } in
+      let t : Transfer A = record { pair = p; lanes = map some xs; last = false } in
       let ts : List (Transfer A) = spread k v p (map some (y ∷ ys)) false in
-      pack-full v h p xs y ys js e ∙ ap {B = List (Transfer A)} (λ l. t ∷ l) ih
+      let same : spread (suc k) v p (map some (xs ++ y ∷ ys)) false ≡ t ∷ ts =
+          rw (map-append (λ (a : A). some a) xs (y ∷ ys))
+          (rw (fitted-full v (map some xs) (map some (y ∷ ys)) (length-map xs some ∙ e), drop_at (map some xs) (map some (y ∷ ys)) v (length-map xs some ∙ e))
+          refl) in
+      subst (λ (us : List (Transfer A)). HoldsAs v (map (byte p) (xs ++ y ∷ ys)) us js) (sym same)
+      (pack-full v h p xs y ys js e ∙ ap {B = List (Transfer A)} (λ l. t ∷ l) ih
       ∙ sym
       (ap₂ (λ (a b : List (Transfer A)). a ++ pack v (items b ++ js)) (settled-first t ts (spread-some k v p (map some (y ∷ ys)) false))
-      (held_first t ts (spread-some k v p (map some (y ∷ ys)) false)))))
+      (held_first t ts (spread-some k v p (map some (y ∷ ys)) false))))
 
   -- of bytes laid out without an end the full records are settled, and the last one is held
   hold_run : (k v : ℕ) → 0 < v → (p : Pair) (bs : List A) (js : List (Item A)) → k * v < length bs → length bs ≤ suc k * v
