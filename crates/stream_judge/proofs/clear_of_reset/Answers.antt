@@ -1,0 +1,11 @@
+-- `stream_judge::clear_of_reset` meets its contract: one flag after the other. Assumes nothing.
+use mathlib.Core.Path.{refl, sym, ◌∙◌}
+use Rattle.std.proofs.Common.{rules}
+use borrow.Author.Tests.{not-true, not-false}
+use Rattle.stream_judge.proofs.clear_of_reset.Goals as goal
+
+pub returns-then-not-aresetn : goal.returns-then-not-aresetn
+returns-then-not-aresetn c = let a = c.aresetn in rw (sym a.ensures ∙ not-true a.result c.if-not-aresetn.true) refl
+
+pub returns : goal.returns
+returns c = let a = c.aresetn in rw (sym a.ensures ∙ not-false a.result c.if-not-aresetn.false) c.aresetn-2.ensures

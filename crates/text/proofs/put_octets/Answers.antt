@@ -1,0 +1,45 @@
+-- `text::put_octets` meets its contract: after i turns the first i octets stand in their place. Assumes nothing.
+use Prim.Native.Nat.{◌-◌}
+use native.Mathlib.Omega.{arith}
+use lib.ListN.{length}
+use Rattle.text.proofs.Laws.{Copied, copied_none, copied_more, copied_long, copied_all}
+use Rattle.text.proofs.put_octets.Goals as goal
+
+pub loop-i-init : goal.loop-i-init
+loop-i-init c = copied_none c.args.at c.args.octets.now c.args.out.now c.requires
+
+pub bounds-octets-i : goal.bounds-octets-i
+bounds-octets-i c = c.loop-i-test.true
+
+pub overflow_add-out : goal.overflow_add-out
+overflow_add-out c =
+    omega (arith, c.loop-i-test.true, c.loop-i.invariant.room, c.well_formed)
+
+pub bounds-out-at : goal.bounds-out-at
+bounds-out-at c =
+    omega
+    (arith, c.loop-i-test.true, c.loop-i.invariant.room, copied_long c.args.at c.args.octets.now c.args.out.now c.loop-i.out c.loop-i.i c.loop-i.invariant)
+
+pub overflow_add-i : goal.overflow_add-i
+overflow_add-i c = omega (arith, c.loop-i-test.true)
+
+pub loop-i-smaller : goal.loop-i-smaller
+loop-i-smaller c = omega (arith, c.loop-i-test.true)
+
+pub loop-i-preserved : goal.loop-i-preserved
+loop-i-preserved c =
+    copied_more c.args.at c.args.octets.now c.args.out.now c.loop-i.out c.loop-i.i c.loop-i.invariant
+    c.loop-i-test.true
+
+pub overflow_add-result : goal.overflow_add-result
+overflow_add-result c = omega (arith, c.requires)
+
+pub shape_of-out : goal.shape_of-out
+shape_of-out c =
+    copied_long c.args.at c.args.octets.now c.args.out.now c.loop-i.out
+    c.loop-i.i c.loop-i.invariant
+
+pub returns : goal.returns
+returns c =
+    copied_all c.args.at c.args.octets.now c.args.out.now c.loop-i.out
+    c.loop-i.i c.loop-i.invariant c.loop-i-test.false
