@@ -14,26 +14,6 @@ use Rattle.stream_fill_in.specs.Filling.{Filling}
 use Rattle.stream_fill_in.proofs.Laws.{filling_start, fits, filling_more, filling_end}
 use Rattle.stream_fill_in.proofs.fill.Goals as goal
 
-abbrev entry : tie.At-loop invariant-loop decreases-loop → tie.Start invariant-loop decreases-loop
-entry t = t.before.before
-
--- the turn, from where the record's size is told
-abbrev turn : tie.After-record-size invariant-loop decreases-loop → tie.In-loop invariant-loop decreases-loop
-turn c = c.before.before.before.before.before
-
-abbrev octets : tie.After-record-size invariant-loop decreases-loop → List ℕ
-octets c = (entry (turn c).before).args.capture.now
-
-record_fits : (c : tie.After-record-size invariant-loop decreases-loop) → (turn c).before.loop.at + c.record-size.result ≤ length (octets c)
-record_fits c =
-    let t = (turn c).before in
-    let a = (entry t).args in
-    fits a.level a.s (octets c) t.loop.capture t.loop.at t.loop.k t.loop.inv (turn c).loop-test.true
-    c.record-size.result c.record-size.ensures
-
-short : (t : tie.At-loop invariant-loop decreases-loop) → length (entry t).args.capture.now ≤ capture_most
-short t = (entry t).requires.short
-
 pub loop-at-init : goal.loop-at-init
 loop-at-init c = filling_start c.args.level c.args.s c.args.capture.now c.requires
 
@@ -45,24 +25,36 @@ put_last-requires c =
 
 pub record_size-at-requires : goal.record_size-at-requires
 record_size-at-requires c =
-    let e = entry c in
-    passed_narrow e.args.s e.args.capture.now e.pre
+    passed_narrow c.args.s c.args.capture.now c.requires
 
 pub overflow_add-at : goal.overflow_add-at
-overflow_add-at c = omega (arith, record_fits c, short (turn c).before)
+overflow_add-at c =
+    let octets : List ℕ = c.args.capture.now in
+    let record_fits : c.loop-at.at + c.record_size-at.result ≤ length octets = let a = c.args in
+    fits a.level a.s octets c.loop-at.capture c.loop-at.at c.loop-at.k c.loop-at.invariant c.loop-at-test.true
+    c.record_size-at.result c.record_size-at.ensures in
+    let short : length c.args.capture.now ≤ capture_most = c.requires.short in
+    omega (arith, record_fits, short)
 
 pub overflow_add-k : goal.overflow_add-k
-overflow_add-k c = let t = (turn c).before in omega (arith, t.loop.inv.few, t.loop.inv.left.within, short t)
+overflow_add-k c =
+    let short : length c.args.capture.now ≤ capture_most = c.requires.short in
+    omega (arith, c.loop-at.invariant.few, c.loop-at.invariant.left.within, short)
 
 pub loop-at-smaller : goal.loop-at-smaller
-loop-at-smaller c = omega (arith, record_fits c, c.record_size-at.ensures, size_pos (entry (turn c).before).args.s)
+loop-at-smaller c =
+    let octets : List ℕ = c.args.capture.now in
+    let record_fits : c.loop-at.at + c.record_size-at.result ≤ length octets = let a = c.args in
+    fits a.level a.s octets c.loop-at.capture c.loop-at.at c.loop-at.k c.loop-at.invariant c.loop-at-test.true
+    c.record_size-at.result c.record_size-at.ensures in
+    omega (arith, record_fits, c.record_size-at.ensures, size_pos c.args.s)
 
 pub loop-at-preserved : goal.loop-at-preserved
 loop-at-preserved c =
-    let t = (turn c).before in
-    let a = (entry t).args in
+    let octets : List ℕ = c.args.capture.now in
+    let a = c.args in
     let put = c.put_last in
-    filling_more a.level a.s (octets c) t.loop.capture t.loop.at t.loop.k t.loop.inv (turn c).loop-test.true
+    filling_more a.level a.s octets c.loop-at.capture c.loop-at.at c.loop-at.k c.loop-at.invariant c.loop-at-test.true
     c.record_size-at.result c.record_size-at.ensures put.new.rec put.ensures
 
 pub shape_of-capture : goal.shape_of-capture
@@ -70,5 +62,5 @@ shape_of-capture c = c.loop-at.invariant.writing.same
 
 pub returns : goal.returns
 returns c =
-    let a = (entry c).args in
+    let a = c.args in
     filling_end a.level a.s a.capture.now c.loop-at.capture c.loop-at.at c.loop-at.k c.loop-at.invariant c.loop-at-test.false

@@ -18,4 +18,4 @@ pub returns-in-Passed : goal.returns-in-Passed
 returns-in-Passed c =
     let a = c.args in
     filled a.level a.s a.capture.now c.check_take.result c.check_take.ensures c.in-Passed.is
-    c.fill.new.1.0 c.fill.result c.fill.ensures
+    c.fill.new.capture c.fill.result c.fill.ensures

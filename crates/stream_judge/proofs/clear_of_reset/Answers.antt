@@ -5,7 +5,7 @@ use borrow.Author.Tests.{not-true, not-false}
 use Rattle.stream_judge.proofs.clear_of_reset.Goals as goal
 
 pub returns-then-not-aresetn : goal.returns-then-not-aresetn
-returns-then-not-aresetn c = let a = c.aresetn in rw (sym a.ensures ∙ not-true a.result c.if-not-aresetn.true) refl
+returns-then-not-aresetn c = let a = c.aresetn in rw (sym a.ensures ∙ c.if-not-aresetn.true) refl
 
 pub returns : goal.returns
-returns c = let a = c.aresetn in rw (sym a.ensures ∙ not-false a.result c.if-not-aresetn.false) c.aresetn-2.ensures
+returns c = let a = c.aresetn in rw (sym a.ensures ∙ c.if-not-aresetn.false) c.aresetn-2.ensures

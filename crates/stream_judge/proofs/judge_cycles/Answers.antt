@@ -20,66 +20,6 @@ use Rattle.stream_judge.specs.Scan.{Turning}
 use Rattle.stream_judge.proofs.Turns.{fault_is, turn-clear, at_most_one, turning_start, turn-bad, asks, asks_behind, finds, goes_on, turns-end}
 use Rattle.stream_judge.proofs.judge_cycles.Goals as goal
 
-abbrev Turns : Type 0
-Turns = tie.At-loop invariant-loop decreases-loop
-
-abbrev entry : Turns → tie.Start invariant-loop decreases-loop
-entry t = t.before.before.before.before
-
-abbrev shape : Turns → Shape
-shape t = (entry t).args.s
-
-abbrev octets : Turns → List ℕ
-octets t = (entry t).args.capture.now
-
-abbrev long : Turns → ℕ
-long t = t.before.before.record-size.result
-
-abbrev Turn : Type 0
-Turn = tie.In-loop invariant-loop decreases-loop
-
-abbrev rec : Turn → List ℕ
-rec c = record_at (octets c.before) c.before.loop.at (long c.before)
-
-fits : (c : Turn) → c.before.loop.at + long c.before ≤ length (octets c.before)
-fits c =
-    let t = c.before in
-    record_fits (shape t) (octets t) t.loop.at t.loop.invariant.left c.loop-test.true (long t) t.before.before.record-size.ensures
-
-header-fits : (c : Turn) → head_octets ≤ length (rec c)
-header-fits c =
-    let t = c.before in
-    let whole = record_long (shape t) (octets t) t.loop.at t.loop.invariant.left c.loop-test.true (long t) t.before.before.record-size.ensures in
-    omega (arith, whole, size_holds (shape t))
-
-counts : (t : Turns) → t.loop.k ≤ capture_most
-counts t = omega (arith, t.loop.inv.few, t.loop.inv.left.within, (entry t).pre.0.short)
-
--- what the test told of the record
-fault-told : (c : tie.After-breaks invariant-loop decreases-loop) (r : Bool) → c.breaks.result ≡ r
-    → field_fault cycle_flags (shape c.before.before.before) (rec c.before.before) ≡ r
-fault-told c r e =
-    let t = c.before.before.before in
-    let clear = turn-clear (shape t) (octets t) t.loop.from t.loop.at t.loop.k t.loop.count t.loop.prev-flags t.loop.invariant
-    c.before.before.loop-test.true (long t) t.before.before.record-size.ensures in
-    fault_is (shape t) (rec c.before.before) t.before.must-be-zero.result c.breaks.result r (entry t).requires.0.high
-    t.before.must-be-zero.ensures clear.0 c.breaks.ensures e
-
--- a turn whose record is sound, from where its header is read
-abbrev sound-turn : tie.After-read-header invariant-loop decreases-loop → Turn
-sound-turn c = c.before.before.before.before.before
-
-sound : (c : tie.After-read-header invariant-loop decreases-loop) → field_fault cycle_flags (shape (sound-turn c).before) (rec (sound-turn c)) ≡ false
-sound c = fault-told c.before.before.before false c.before.before.if1.false
-
--- from where a rule is told, where the header was read
-abbrev read_of : tie.After-rule-of invariant-loop decreases-loop → tie.After-read-header invariant-loop decreases-loop
-read_of c = c.before.before.before
-
--- the turn, from its end
-abbrev turn-of : tie.After-transfers invariant-loop decreases-loop → Turn
-turn-of c = sound-turn (read_of c.before.before)
-
 pub record_size-size-requires : goal.record_size-size-requires
 record_size-size-requires c = passed_narrow c.args.s c.args.capture.now c.requires.0
 
@@ -90,105 +30,210 @@ pub loop-at-init : goal.loop-at-init
 loop-at-init c = turning_start c.args.s c.args.capture.now c.requires.0 c.requires.1
 
 pub overflow_add-next : goal.overflow_add-next
-overflow_add-next c = omega (arith, fits c)
+overflow_add-next c =
+    let shape : Shape = c.args.s in
+    let octets : List ℕ = c.args.capture.now in
+    let long : ℕ = c.record_size-size.result in
+    let fits : c.loop-at.at + long ≤ length octets = record_fits shape octets c.loop-at.at c.loop-at.invariant.left c.loop-at-test.true long c.record_size-size.ensures in
+    omega (arith, fits)
 
 pub slice_bounds-breaks-count : goal.slice_bounds-breaks-count
-slice_bounds-breaks-count c = omega (arith, fits c)
+slice_bounds-breaks-count c =
+    let shape : Shape = c.args.s in
+    let octets : List ℕ = c.args.capture.now in
+    let long : ℕ = c.record_size-size.result in
+    let fits : c.loop-at.at + long ≤ length octets = record_fits shape octets c.loop-at.at c.loop-at.invariant.left c.loop-at-test.true long c.record_size-size.ensures in
+    omega (arith, fits)
 
 pub slice_bounds-breaks-start : goal.slice_bounds-breaks-start
-slice_bounds-breaks-start c = omega (arith, fits c)
+slice_bounds-breaks-start c =
+    let shape : Shape = c.args.s in
+    let octets : List ℕ = c.args.capture.now in
+    let long : ℕ = c.record_size-size.result in
+    let fits : c.loop-at.at + long ≤ length octets = record_fits shape octets c.loop-at.at c.loop-at.invariant.left c.loop-at-test.true long c.record_size-size.ensures in
+    omega (arith, fits)
 
 pub slice_bounds-breaks-end : goal.slice_bounds-breaks-end
-slice_bounds-breaks-end c = omega (arith, fits c)
+slice_bounds-breaks-end c =
+    let shape : Shape = c.args.s in
+    let octets : List ℕ = c.args.capture.now in
+    let long : ℕ = c.record_size-size.result in
+    let fits : c.loop-at.at + long ≤ length octets = record_fits shape octets c.loop-at.at c.loop-at.invariant.left c.loop-at-test.true long c.record_size-size.ensures in
+    omega (arith, fits)
 
 pub breaks-requires : goal.breaks-requires
-breaks-requires c = header-fits c
+breaks-requires c =
+    let shape : Shape = c.args.s in
+    let octets : List ℕ = c.args.capture.now in
+    let long : ℕ = c.record_size-size.result in
+    let rec : List ℕ = record_at octets c.loop-at.at long in
+    let header-fits : head_octets ≤ length rec = let whole = record_long shape octets c.loop-at.at c.loop-at.invariant.left c.loop-at-test.true long c.record_size-size.ensures in
+    omega (arith, whole, size_holds shape) in
+    header-fits
 
 pub returns-then-breaks : goal.returns-then-breaks
 returns-then-breaks c =
-    turn-bad (shape c) (octets c) c.loop-at.from c.loop-at.at c.loop-at.k c.loop-at.count c.loop-at.prev-flags c.loop-at.invariant
-    c.loop-at-test.true (long c) c.record_size-size.ensures (fault-told c true c.if-breaks.true)
+    let shape : Shape = c.args.s in
+    let octets : List ℕ = c.args.capture.now in
+    let long : ℕ = c.record_size-size.result in
+    let rec : List ℕ = record_at octets c.loop-at.at long in
+    let fault-told : (r : Bool) → c.breaks.result ≡ r
+    → field_fault cycle_flags shape rec ≡ r = λ r e. let clear = turn-clear shape octets c.loop-at.from c.loop-at.at c.loop-at.k c.loop-at.count c.loop-at.prev_flags c.loop-at.invariant
+    c.loop-at-test.true long c.record_size-size.ensures in
+    fault_is shape rec c.must_be_zero-z.result c.breaks.result r c.requires.0.high
+    c.must_be_zero-z.ensures clear.0 c.breaks.ensures e in
+    turn-bad shape octets c.loop-at.from c.loop-at.at c.loop-at.k c.loop-at.count c.loop-at.prev_flags c.loop-at.invariant
+    c.loop-at-test.true long c.record_size-size.ensures (fault-told true c.if-breaks.true)
 
 pub slice_bounds-read_header-count : goal.slice_bounds-read_header-count
-slice_bounds-read_header-count c = omega (arith, fits c)
+slice_bounds-read_header-count c =
+    let shape : Shape = c.args.s in
+    let octets : List ℕ = c.args.capture.now in
+    let long : ℕ = c.record_size-size.result in
+    let fits : c.loop-at.at + long ≤ length octets = record_fits shape octets c.loop-at.at c.loop-at.invariant.left c.loop-at-test.true long c.record_size-size.ensures in
+    omega (arith, fits)
 
 pub slice_bounds-read_header-start : goal.slice_bounds-read_header-start
-slice_bounds-read_header-start c = omega (arith, fits c)
+slice_bounds-read_header-start c =
+    let shape : Shape = c.args.s in
+    let octets : List ℕ = c.args.capture.now in
+    let long : ℕ = c.record_size-size.result in
+    let fits : c.loop-at.at + long ≤ length octets = record_fits shape octets c.loop-at.at c.loop-at.invariant.left c.loop-at-test.true long c.record_size-size.ensures in
+    omega (arith, fits)
 
 pub slice_bounds-read_header-end : goal.slice_bounds-read_header-end
-slice_bounds-read_header-end c = omega (arith, fits c)
+slice_bounds-read_header-end c =
+    let shape : Shape = c.args.s in
+    let octets : List ℕ = c.args.capture.now in
+    let long : ℕ = c.record_size-size.result in
+    let fits : c.loop-at.at + long ≤ length octets = record_fits shape octets c.loop-at.at c.loop-at.invariant.left c.loop-at-test.true long c.record_size-size.ensures in
+    omega (arith, fits)
 
 pub read_header-h-requires : goal.read_header-h-requires
-read_header-h-requires c = header-fits c
+read_header-h-requires c =
+    let shape : Shape = c.args.s in
+    let octets : List ℕ = c.args.capture.now in
+    let long : ℕ = c.record_size-size.result in
+    let rec : List ℕ = record_at octets c.loop-at.at long in
+    let header-fits : head_octets ≤ length rec = let whole = record_long shape octets c.loop-at.at c.loop-at.invariant.left c.loop-at-test.true long c.record_size-size.ensures in
+    omega (arith, whole, size_holds shape) in
+    header-fits
 
 pub slice_bounds-rule_of-count : goal.slice_bounds-rule_of-count
-slice_bounds-rule_of-count c = let t = (sound-turn c).before in omega (arith, t.loop.inv.behind, t.loop.inv.left.within)
+slice_bounds-rule_of-count c = omega (arith, c.loop-at.invariant.behind, c.loop-at.invariant.left.within)
 
 pub slice_bounds-rule_of-start : goal.slice_bounds-rule_of-start
-slice_bounds-rule_of-start c = let t = (sound-turn c).before in omega (arith, t.loop.inv.behind, t.loop.inv.left.within)
+slice_bounds-rule_of-start c = omega (arith, c.loop-at.invariant.behind, c.loop-at.invariant.left.within)
 
 pub slice_bounds-rule_of-end : goal.slice_bounds-rule_of-end
-slice_bounds-rule_of-end c = let t = (sound-turn c).before in omega (arith, t.loop.inv.behind, t.loop.inv.left.within)
+slice_bounds-rule_of-end c = omega (arith, c.loop-at.invariant.behind, c.loop-at.invariant.left.within)
 
 pub slice_bounds-rule_of-count-in-loop-at : goal.slice_bounds-rule_of-count-in-loop-at
-slice_bounds-rule_of-count-in-loop-at c = omega (arith, fits (sound-turn c))
+slice_bounds-rule_of-count-in-loop-at c =
+    let shape : Shape = c.args.s in
+    let octets : List ℕ = c.args.capture.now in
+    let long : ℕ = c.record_size-size.result in
+    let fits : c.loop-at.at + long ≤ length octets = record_fits shape octets c.loop-at.at c.loop-at.invariant.left c.loop-at-test.true long c.record_size-size.ensures in
+    omega (arith, fits)
 
 pub slice_bounds-rule_of-start-in-loop-at : goal.slice_bounds-rule_of-start-in-loop-at
-slice_bounds-rule_of-start-in-loop-at c = omega (arith, fits (sound-turn c))
+slice_bounds-rule_of-start-in-loop-at c =
+    let shape : Shape = c.args.s in
+    let octets : List ℕ = c.args.capture.now in
+    let long : ℕ = c.record_size-size.result in
+    let fits : c.loop-at.at + long ≤ length octets = record_fits shape octets c.loop-at.at c.loop-at.invariant.left c.loop-at-test.true long c.record_size-size.ensures in
+    omega (arith, fits)
 
 pub slice_bounds-rule_of-end-in-loop-at : goal.slice_bounds-rule_of-end-in-loop-at
-slice_bounds-rule_of-end-in-loop-at c = omega (arith, fits (sound-turn c))
+slice_bounds-rule_of-end-in-loop-at c =
+    let shape : Shape = c.args.s in
+    let octets : List ℕ = c.args.capture.now in
+    let long : ℕ = c.record_size-size.result in
+    let fits : c.loop-at.at + long ≤ length octets = record_fits shape octets c.loop-at.at c.loop-at.invariant.left c.loop-at-test.true long c.record_size-size.ensures in
+    omega (arith, fits)
 
 pub rule_of-rule-requires : goal.rule_of-rule-requires
 rule_of-rule-requires c =
-    let turn = sound-turn c in
-    let t = turn.before in
-    asks (shape t) (octets t) t.loop.from t.loop.at t.loop.k t.loop.count t.loop.prev-flags t.loop.inv
-    turn.loop-test.taken (long t) t.before.before.record-size.ensures
-    (entry t).pre.0 c.read_header-h.result c.read_header-h.ensures (sound c)
+    let shape : Shape = c.args.s in
+    let octets : List ℕ = c.args.capture.now in
+    let long : ℕ = c.record_size-size.result in
+    let rec : List ℕ = record_at octets c.loop-at.at long in
+    let fault-told : (r : Bool) → c.breaks.result ≡ r
+    → field_fault cycle_flags shape rec ≡ r = λ r e. let clear = turn-clear shape octets c.loop-at.from c.loop-at.at c.loop-at.k c.loop-at.count c.loop-at.prev_flags c.loop-at.invariant
+    c.loop-at-test.true long c.record_size-size.ensures in
+    fault_is shape rec c.must_be_zero-z.result c.breaks.result r c.requires.0.high
+    c.must_be_zero-z.ensures clear.0 c.breaks.ensures e in
+    let sound : field_fault cycle_flags shape rec ≡ false = fault-told false c.if-breaks.false in
+    asks shape octets c.loop-at.from c.loop-at.at c.loop-at.k c.loop-at.count c.loop-at.prev_flags c.loop-at.invariant
+    c.loop-at-test.true long c.record_size-size.ensures
+    c.requires.0 c.read_header-h.result c.read_header-h.ensures sound
 
 pub overflow_add-k : goal.overflow_add-k
-overflow_add-k c = omega (arith, counts (sound-turn (read_of c)).before)
+overflow_add-k c =
+    let counts : c.loop-at.k ≤ capture_most = omega (arith, c.loop-at.invariant.few, c.loop-at.invariant.left.within, c.requires.0.short) in
+    omega (arith, counts)
 
 pub broken-requires : goal.broken-requires
 broken-requires c =
-    let turn = sound-turn (read_of c) in
-    let t = turn.before in
-    asks_behind (shape t) (octets t) t.loop.from t.loop.at t.loop.k t.loop.count t.loop.prev-flags t.loop.inv
-    turn.loop-test.taken (long t) t.before.before.record-size.ensures (entry t).pre.0 t.before.must-be-zero.result t.before.must-be-zero.ensures
+    let shape : Shape = c.args.s in
+    let octets : List ℕ = c.args.capture.now in
+    let long : ℕ = c.record_size-size.result in
+    asks_behind shape octets c.loop-at.from c.loop-at.at c.loop-at.k c.loop-at.count c.loop-at.prev_flags c.loop-at.invariant
+    c.loop-at-test.true long c.record_size-size.ensures c.requires.0 c.must_be_zero-z.result c.must_be_zero-z.ensures
 
 pub returns-then-rule-ne0 : goal.returns-then-rule-ne0
 returns-then-rule-ne0 c =
-    let turn = sound-turn (read_of c) in
-    let t = turn.before in
-    finds (shape t) (octets t) t.loop.from t.loop.at t.loop.k t.loop.count t.loop.prev-flags t.loop.inv
-    turn.loop-test.taken (long t) t.before.before.record-size.ensures (sound (read_of c))
+    let shape : Shape = c.args.s in
+    let octets : List ℕ = c.args.capture.now in
+    let long : ℕ = c.record_size-size.result in
+    let rec : List ℕ = record_at octets c.loop-at.at long in
+    let fault-told : (r : Bool) → c.breaks.result ≡ r
+    → field_fault cycle_flags shape rec ≡ r = λ r e. let clear = turn-clear shape octets c.loop-at.from c.loop-at.at c.loop-at.k c.loop-at.count c.loop-at.prev_flags c.loop-at.invariant
+    c.loop-at-test.true long c.record_size-size.ensures in
+    fault_is shape rec c.must_be_zero-z.result c.breaks.result r c.requires.0.high
+    c.must_be_zero-z.ensures clear.0 c.breaks.ensures e in
+    let sound : field_fault cycle_flags shape rec ≡ false = fault-told false c.if-breaks.false in
+    finds shape octets c.loop-at.from c.loop-at.at c.loop-at.k c.loop-at.count c.loop-at.prev_flags c.loop-at.invariant
+    c.loop-at-test.true long c.record_size-size.ensures sound
     c.rule_of-rule.result c.rule_of-rule.ensures c.if-rule-ne0.true c.broken.result c.broken.ensures
 
 pub overflow_add-count : goal.overflow_add-count
 overflow_add-count c =
-    let read = read_of c in
-    let t = (sound-turn read).before in
-    omega (arith, t.loop.inv.counted, counts t, at_most_one c.transfers-count.result read.read-header.result.flags c.transfers-count.ensures)
+    let counts : c.loop-at.k ≤ capture_most = omega (arith, c.loop-at.invariant.few, c.loop-at.invariant.left.within, c.requires.0.short) in
+    omega (arith, c.loop-at.invariant.counted, counts, at_most_one c.transfers-count.result c.read_header-h.result.flags c.transfers-count.ensures)
 
 pub overflow_add-k-in-loop-at : goal.overflow_add-k-in-loop-at
-overflow_add-k-in-loop-at c = omega (arith, counts (turn-of c).before)
+overflow_add-k-in-loop-at c =
+    let counts : c.loop-at.k ≤ capture_most = omega (arith, c.loop-at.invariant.few, c.loop-at.invariant.left.within, c.requires.0.short) in
+    omega (arith, counts)
 
 pub loop-at-smaller : goal.loop-at-smaller
 loop-at-smaller c =
-    let t = (turn-of c).before in
-    omega (arith, fits (turn-of c), t.before.before.record-size.ensures, size_pos (shape t))
+    let shape : Shape = c.args.s in
+    let octets : List ℕ = c.args.capture.now in
+    let long : ℕ = c.record_size-size.result in
+    let fits : c.loop-at.at + long ≤ length octets = record_fits shape octets c.loop-at.at c.loop-at.invariant.left c.loop-at-test.true long c.record_size-size.ensures in
+    omega (arith, fits, c.record_size-size.ensures, size_pos shape)
 
 pub loop-at-preserved : goal.loop-at-preserved
 loop-at-preserved c =
-    let read = read_of c in
-    let turn = turn-of c in
-    let t = turn.before in
-    goes_on (shape t) (octets t) t.loop.from t.loop.at t.loop.k t.loop.count t.loop.prev-flags t.loop.inv
-    turn.loop-test.taken (long t) t.before.before.record-size.ensures (sound read)
-    c.rule_of-rule.result c.rule_of-rule.ensures c.if-rule-ne0.false read.read-header.result read.read-header.ensures
+    let shape : Shape = c.args.s in
+    let octets : List ℕ = c.args.capture.now in
+    let long : ℕ = c.record_size-size.result in
+    let rec : List ℕ = record_at octets c.loop-at.at long in
+    let fault-told : (r : Bool) → c.breaks.result ≡ r
+    → field_fault cycle_flags shape rec ≡ r = λ r e. let clear = turn-clear shape octets c.loop-at.from c.loop-at.at c.loop-at.k c.loop-at.count c.loop-at.prev_flags c.loop-at.invariant
+    c.loop-at-test.true long c.record_size-size.ensures in
+    fault_is shape rec c.must_be_zero-z.result c.breaks.result r c.requires.0.high
+    c.must_be_zero-z.ensures clear.0 c.breaks.ensures e in
+    let sound : field_fault cycle_flags shape rec ≡ false = fault-told false c.if-breaks.false in
+    goes_on shape octets c.loop-at.from c.loop-at.at c.loop-at.k c.loop-at.count c.loop-at.prev_flags c.loop-at.invariant
+    c.loop-at-test.true long c.record_size-size.ensures sound
+    c.rule_of-rule.result c.rule_of-rule.ensures c.if-rule-ne0.false c.read_header-h.result c.read_header-h.ensures
     c.transfers-count.result c.transfers-count.ensures
 
 pub returns : goal.returns
 returns c =
-    turns-end (shape c) (octets c) c.loop-at.from c.loop-at.at c.loop-at.k c.loop-at.count c.loop-at.prev-flags c.loop-at.invariant c.loop-at-test.false
+    let shape : Shape = c.args.s in
+    let octets : List ℕ = c.args.capture.now in
+    turns-end shape octets c.loop-at.from c.loop-at.at c.loop-at.k c.loop-at.count c.loop-at.prev_flags c.loop-at.invariant c.loop-at-test.false

@@ -7,24 +7,24 @@ use Rattle.stream_spec.specs.Layout.{bit, tvalid_bit, aresetn_bit}
 use Rattle.stream_judge.proofs.transfers.Goals as goal
 
 pub returns-then-not-aresetn : goal.returns-then-not-aresetn
-returns-then-not-aresetn c = let a = c.aresetn in rw (sym a.ensures ∙ not-true a.result c.if-not-aresetn.true) refl
+returns-then-not-aresetn c = let a = c.aresetn in rw (sym a.ensures ∙ c.if-not-aresetn.true) refl
 
 pub returns-then-not-tvalid : goal.returns-then-not-tvalid
 returns-then-not-tvalid c =
-    let out-of-reset : bit aresetn_bit c.args.flags ≡ true = let a = c.aresetn in sym a.ensures ∙ not-false a.result c.if-not-aresetn.false in
+    let out-of-reset : bit aresetn_bit c.args.flags ≡ true = let a = c.aresetn in sym a.ensures ∙ c.if-not-aresetn.false in
     let v = c.tvalid in
-    rw (out-of-reset, sym v.ensures ∙ not-true v.result c.if-not-tvalid.true) refl
+    rw (out-of-reset, sym v.ensures ∙ c.if-not-tvalid.true) refl
 
 pub returns-then-not-tready : goal.returns-then-not-tready
 returns-then-not-tready c =
-    let out-of-reset : bit aresetn_bit c.args.flags ≡ true = let a = c.aresetn in sym a.ensures ∙ not-false a.result c.if-not-aresetn.false in
-    let valid : bit tvalid_bit c.args.flags ≡ true = let v = c.tvalid in sym v.ensures ∙ not-false v.result c.if-not-tvalid.false in
+    let out-of-reset : bit aresetn_bit c.args.flags ≡ true = let a = c.aresetn in sym a.ensures ∙ c.if-not-aresetn.false in
+    let valid : bit tvalid_bit c.args.flags ≡ true = let v = c.tvalid in sym v.ensures ∙ c.if-not-tvalid.false in
     let r = c.tready in
-    rw (out-of-reset, valid, sym r.ensures ∙ not-true r.result c.if-not-tready.true) refl
+    rw (out-of-reset, valid, sym r.ensures ∙ c.if-not-tready.true) refl
 
 pub returns : goal.returns
 returns c =
-    let out-of-reset : bit aresetn_bit c.args.flags ≡ true = let a = c.aresetn in sym a.ensures ∙ not-false a.result c.if-not-aresetn.false in
-    let valid : bit tvalid_bit c.args.flags ≡ true = let v = c.tvalid in sym v.ensures ∙ not-false v.result c.if-not-tvalid.false in
+    let out-of-reset : bit aresetn_bit c.args.flags ≡ true = let a = c.aresetn in sym a.ensures ∙ c.if-not-aresetn.false in
+    let valid : bit tvalid_bit c.args.flags ≡ true = let v = c.tvalid in sym v.ensures ∙ c.if-not-tvalid.false in
     let r = c.tready in
-    rw (out-of-reset, valid, sym r.ensures ∙ not-false r.result c.if-not-tready.false) refl
+    rw (out-of-reset, valid, sym r.ensures ∙ c.if-not-tready.false) refl
