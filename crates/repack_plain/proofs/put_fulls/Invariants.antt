@@ -1,0 +1,15 @@
+use mathlib.Core.Path.{refl}
+use mathlib.Core.Bool.{false}
+use native.Mathlib.Omega.{arith}
+use Rattle.std.proofs.Common.{rules}
+use Rattle.stream_spec.specs.Layout.{size, of_width}
+use Rattle.repack_plain.specs.Write.{Advanced}
+use Rattle.repack_plain.proofs.Fulls.{advanced_none, full-room, full-written, lent_codes, lent-room}
+use Rattle.repack_plain.proofs.put_fulls.Given as goal
+
+abbrev pub invariant-loop-left : goal.invariant-loop-left
+invariant-loop-left l =
+    Advanced l.v l.pair l.octets l.initial.out (record { to = l.initial.to; from = l.initial.from; left = l.initial.left }) l.out (record { to = l.to; from = l.from; left = l.left })
+
+abbrev pub decreases-loop-left : goal.decreases-loop-left
+decreases-loop-left l = l.left

@@ -1,0 +1,17 @@
+use mathlib.Core.Path.{refl, sym, ◌∙◌}
+use mathlib.Core.Bool.{false}
+use Prim.Native.Nat.{◌-◌}
+use native.Mathlib.Omega.{arith}
+use Rattle.std.proofs.Common.{rules}
+use lib.ListN.{length, get_or, take, drop}
+use Rattle.repack_plain.specs.Write.{Advanced}
+use Rattle.repack_plain.proofs.Fulls.{advanced_none, full-room, full-written, one_written, lent-room}
+use Rattle.stream_spec.proofs.Size.{size_bare}
+use Rattle.repack_plain.proofs.put_ones.Given as goal
+
+abbrev pub invariant-loop-left : goal.invariant-loop-left
+invariant-loop-left l =
+    Advanced 1 l.pair l.octets l.initial.out (record { to = l.initial.to; from = l.initial.from; left = l.initial.left }) l.out (record { to = l.to; from = l.from; left = l.left })
+
+abbrev pub decreases-loop-left : goal.decreases-loop-left
+decreases-loop-left l = l.left

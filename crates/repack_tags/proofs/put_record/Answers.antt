@@ -1,0 +1,80 @@
+-- `repack_tags::put_record` meets its contract: items, nulls, user bits and header make the record. Assumes nothing.
+use mathlib.Core.Path.{◌≡◌, refl, ap, ◌∙◌}
+use mathlib.Core.List.{List}
+use Prim.Native.Nat.{ℕ, ◌+◌, ◌-◌, ◌*◌, ◌%◌, ◌^◌, ◌≤◌}
+use native.Mathlib.Omega.{arith}
+use lib.Pow.{pow_pos, pow_mono}
+use lib.ListN.{length, take, drop, length-drop}
+use lib.Seq.{length-take-le}
+use Rattle.stream_spec.specs.declared.Shape.{Shape}
+use Rattle.stream_spec.specs.Layout.{shaped, user_octets}
+use Rattle.stream_spec.specs.Walk.{Narrow}
+use Rattle.stream_spec.proofs.Size.{size_is}
+use Rattle.stream_record.proofs.Field.{shifted}
+use Rattle.repack_tags.specs.declared.Tags.{Tags}
+use Rattle.repack_tags.proofs.Putting.{strobes-small, record_written}
+use Rattle.std.proofs.Common.{rules}
+use Rattle.repack_tags.proofs.put_record.Goals as goal
+
+few : (items : List ℕ) (from n : ℕ) → from + n ≤ length items → length (take n (drop from items)) ≡ n
+few items from n h = length-take-le n (drop from items) (omega (arith, length-drop from items))
+
+narrow : (s : Shape) (v m : ℕ) → v ≤ 16 → m ≤ 4 → s ≡ shaped v m → Narrow s
+narrow s v m h l e = rw e (record { width = h; user = l })
+
+octets-of : (s : Shape) (k v m : ℕ) → s ≡ shaped v m → k ≡ user_octets s.width s.user → k ≡ user_octets v m
+octets-of s k v m e f = f ∙ ap (λ (t : Shape). user_octets t.width t.user) e
+
+pub put_items-tags-requires : goal.put_items-tags-requires
+put_items-tags-requires c =
+    let p = c.requires.0 in
+    (omega (arith, p.few, p.high), p.user, p.held, omega (arith, size_is (shaped c.args.v c.args.m), p.few, c.requires.1), p.fits)
+
+pub write_nulls-requires : goal.write_nulls-requires
+write_nulls-requires c =
+    (c.requires.0.few, omega (arith, size_is (shaped c.args.v c.args.m), c.requires.1, c.put_items-tags.auto.out))
+
+pub user_octets-requires : goal.user_octets-requires
+user_octets-requires c =
+    narrow c.shape_of.result c.args.v c.args.m c.requires.0.high c.requires.0.user c.shape_of.ensures
+
+pub write_user-requires : goal.write_user-requires
+write_user-requires c =
+    let a = c.args in
+    omega (
+      arith,
+      size_is (shaped a.v a.m),
+      octets-of c.shape_of.result c.user_octets.result a.v a.m c.shape_of.ensures c.user_octets.ensures.0,
+      c.requires.1,
+      c.put_items-tags.auto.out,
+      c.write_nulls.auto.out,
+    )
+
+pub overflow_sub-n : goal.overflow_sub-n
+overflow_sub-n c =
+    let p = c.requires.0 in
+    omega (arith, shifted c.args.n (omega (arith, p.few, p.high)), pow_pos c.args.n)
+
+pub write_header-requires : goal.write_header-requires
+write_header-requires c =
+    let a = c.args in
+    let p = c.requires.0 in
+    let most : a.n ≤ 16 = omega (arith, p.few, p.high) in
+    let codes = take a.n (drop a.from a.items.now) in (
+      omega (arith, size_is (shaped a.v a.m), c.requires.1, c.put_items-tags.auto.out, c.write_nulls.auto.out, c.write_user.auto.out),
+      omega (arith, shifted a.n most, pow_mono most),
+      omega (arith, ap (λ (t : Tags). t.strb) c.put_items-tags.ensures.value, strobes-small codes (omega (arith, most, few a.items.now a.from a.n p.held))),
+    )
+
+pub returns : goal.returns
+returns c =
+    let a = c.args in
+    let p = c.requires.0 in
+    let most : a.n ≤ 16 = omega (arith, p.few, p.high) in
+    let k = c.user_octets in
+    let shape = c.shape_of in
+    record_written a.m a.v a.out.now c.put_items-tags.new.out c.write_nulls.new.out c.write_user.new.out c.write_header.new.out (take a.n (drop a.from a.items.now))
+    a.n a.pair a.last (1 * 2 ^ a.n % 0x1_0000_0000 - 1) k.result c.put_items-tags.result
+    (few a.items.now a.from a.n p.held) p.few c.requires.1 p.headed.0 p.headed.1 (rw (shifted a.n most) refl)
+    (octets-of shape.result k.result a.v a.m shape.ensures k.ensures.0)
+    c.put_items-tags.ensures.value c.put_items-tags.ensures.out_after c.write_nulls.ensures c.write_user.ensures c.write_header.ensures

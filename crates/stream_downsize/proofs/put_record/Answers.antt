@@ -1,0 +1,51 @@
+-- `stream_downsize::put_record` meets its contract: data octets, user bits and header make the slice. Assumes nothing.
+use Rattle.std.proofs.Common.{rules}
+use mathlib.Core.Path.{◌≡◌, refl}
+use Prim.Native.Nat.{◌*◌, ◌%◌, ◌^◌}
+use native.Mathlib.Nat.{mod-lt}
+use native.Mathlib.Omega.{arith}
+use lib.Pow.{pow_pos, pow_mono}
+use Rattle.stream_record.proofs.Field.{shifted}
+use Rattle.stream_spec.proofs.Size.{size_is, size_holds}
+use Rattle.stream_downsize.proofs.Lanes.{slice_written}
+use Rattle.stream_downsize.proofs.put_record.Goals as goal
+
+pub put_lanes-requires : goal.put_lanes-requires
+put_lanes-requires c =
+    (c.requires.0.width, c.requires.1, omega (arith, size_holds c.args.t, c.requires.2), c.requires.3)
+
+pub write_user-requires : goal.write_user-requires
+write_user-requires c =
+    omega (arith, size_is c.args.t, c.requires.2, c.put_lanes.auto.0, c.user_octets-k.ensures.0)
+
+pub nonzero_rem-h : goal.nonzero_rem-h
+nonzero_rem-h c =
+    let masks : 1 * 2 ^ c.args.t.width % 4294967296 ≡ 2 ^ c.args.t.width = shifted c.args.t.width c.requires.0.width in
+    omega (arith, masks, pow_pos c.args.t.width)
+
+pub nonzero_rem-h-2 : goal.nonzero_rem-h-2
+nonzero_rem-h-2 c =
+    let masks : 1 * 2 ^ c.args.t.width % 4294967296 ≡ 2 ^ c.args.t.width = shifted c.args.t.width c.requires.0.width in
+    omega (arith, masks, pow_pos c.args.t.width)
+
+pub write_header-requires : goal.write_header-requires
+write_header-requires c =
+    let masks : 1 * 2 ^ c.args.t.width % 4294967296 ≡ 2 ^ c.args.t.width = shifted c.args.t.width c.requires.0.width in
+    let a = c.args in
+    rw masks (
+      omega (arith, size_holds a.t, c.requires.2, c.put_lanes.kept.0, c.write_user.auto.0),
+      omega (arith, mod-lt a.h.keep (pow_pos a.t.width), pow_mono c.requires.0.width),
+      omega (arith, mod-lt a.h.strb (pow_pos a.t.width), pow_mono c.requires.0.width),
+    )
+
+pub returns : goal.returns
+returns c =
+    let masks : 1 * 2 ^ c.args.t.width % 4294967296 ≡ 2 ^ c.args.t.width = shifted c.args.t.width c.requires.0.width in
+    let user = c.write_user in
+    let bits = c.slice_user-bits in
+    let lanes = c.put_lanes in
+    let a = c.args in
+    let m = 1 * 2 ^ a.t.width % 4294967296 in
+    slice_written a.t a.h a.user a.lanes.now a.out.now lanes.last.0 user.last.0 c.write_header.new.out a.last
+    (a.h.keep % m) (a.h.strb % m) bits.result c.user_octets-k.result c.requires.2 c.requires.3 c.requires.4 (rw masks refl) (rw masks refl)
+    (bits.ensures a.h.strb a.lanes.now) c.user_octets-k.ensures.0 lanes.ensures user.ensures c.write_header.ensures
