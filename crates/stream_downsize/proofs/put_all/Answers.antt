@@ -51,10 +51,9 @@ pub put_slices-to-requires : goal.put_slices-to-requires
 put_slices-to-requires c =
     let octets : List ℕ = c.args.transfers.now in
     let lent : List ℕ = c.args.out.now in
-    let c c in
     let a = c.args in
     let z = c.record_size-z in
-    sliding_asks a.s a.t octets lent c.loop-at-test.out c.loop-at-test.to c.loop-at-test.at c.loop-at-test.invariant c z.result z.ensures
+    sliding_asks a.s a.t octets lent c.loop-at.out c.loop-at.to c.loop-at.at c.loop-at.invariant c.loop-at-test.true z.result z.ensures
     lent c.requires
 
 pub loop-at-smaller : goal.loop-at-smaller

@@ -21,8 +21,8 @@ loop-j-preserved c =
     let l = c.loop-j in
     let y = c.octet_if.result in (
       omega arith,
-      length-set l.out (7 + (l.j - 1)) y ∙ l.inv.1,
-      fill_down a.out.now (drop l.j (data_in a.v a.h a.lanes.now) ++ drop (7 + a.v) a.out.now) l.out (7 + (l.j - 1)) (7 + l.j) y (omega arith) (omega arith) l.inv.2
+      length-set l.out (7 + (l.j - 1)) y ∙ l.invariant.1,
+      fill_down a.out.now (drop l.j (data_in a.v a.h a.lanes.now) ++ drop (7 + a.v) a.out.now) l.out (7 + (l.j - 1)) (7 + l.j) y (omega arith) (omega arith) l.invariant.2
           ∙ ap (λ (zs : List ℕ). take (7 + (l.j - 1)) a.out.now ++ (zs ++ drop (7 + a.v) a.out.now))
           (data_down a.v a.h a.lanes.now (l.j - 1) l.j y (omega arith) (omega arith) c.requires.3 c.octet_if.ensures),
     )

@@ -16,7 +16,7 @@ put_lanes-requires c =
 
 pub write_user-requires : goal.write_user-requires
 write_user-requires c =
-    omega (arith, size_is c.args.t, c.requires.2, c.put_lanes.auto.0, c.user_octets-k.ensures.0)
+    omega (arith, size_is c.args.t, c.requires.2, c.put_lanes.auto.out, c.user_octets-k.ensures.0)
 
 pub nonzero_rem-h : goal.nonzero_rem-h
 nonzero_rem-h c =
@@ -33,7 +33,7 @@ write_header-requires c =
     let masks : 1 * 2 ^ c.args.t.width % 4294967296 ≡ 2 ^ c.args.t.width = shifted c.args.t.width c.requires.0.width in
     let a = c.args in
     rw masks (
-      omega (arith, size_holds a.t, c.requires.2, c.put_lanes.kept.0, c.write_user.auto.0),
+      omega (arith, size_holds a.t, c.requires.2, c.put_lanes.auto.out, c.write_user.auto.out),
       omega (arith, mod-lt a.h.keep (pow_pos a.t.width), pow_mono c.requires.0.width),
       omega (arith, mod-lt a.h.strb (pow_pos a.t.width), pow_mono c.requires.0.width),
     )
@@ -46,6 +46,6 @@ returns c =
     let lanes = c.put_lanes in
     let a = c.args in
     let m = 1 * 2 ^ a.t.width % 4294967296 in
-    slice_written a.t a.h a.user a.lanes.now a.out.now lanes.last.0 user.last.0 c.write_header.new.out a.last
+    slice_written a.t a.h a.user a.lanes.now a.out.now lanes.new.out user.new.out c.write_header.new.out a.last
     (a.h.keep % m) (a.h.strb % m) bits.result c.user_octets-k.result c.requires.2 c.requires.3 c.requires.4 (rw masks refl) (rw masks refl)
     (bits.ensures a.h.strb a.lanes.now) c.user_octets-k.ensures.0 lanes.ensures user.ensures c.write_header.ensures

@@ -64,9 +64,8 @@ put_at-to-requires c =
     let lent : lanes ≡ drop c.loop-k.from rec = take_all (length rec - c.loop-k.from) (drop c.loop-k.from rec) (omega (arith, length-drop c.loop-k.from rec)) in
     let lanes_fit : c.loop-k.from + c.args.t.width ≤ length rec = slicing_lanes c.loop-k.invariant in
     let lent-long : c.args.t.width ≤ length (drop c.loop-k.from rec) = omega (arith, lanes_fit, length-drop c.loop-k.from rec) in
-    let c c in
     rw lent
-    (output_narrow c.requires.cuts, lent-long, slicing_room c.loop-k-test.invariant c, slicing_unreserved c.loop-k-test.invariant, omega arith)
+    (output_narrow c.requires.cuts, lent-long, slicing_room c.loop-k.invariant c.loop-k-test.true, slicing_unreserved c.loop-k.invariant, omega arith)
 
 pub shifted-h-requires : goal.shifted-h-requires
 shifted-h-requires c = c.requires.cuts.small
@@ -79,7 +78,7 @@ pub overflow_add-from : goal.overflow_add-from
 overflow_add-from c =
     let rec : List ℕ = c.args.rec.now in
     let lanes_fit : c.loop-k.from + c.args.t.width ≤ length rec = slicing_lanes c.loop-k.invariant in
-    omega (arith, lanes_fit, c.good)
+    omega (arith, lanes_fit, c.well_formed)
 
 pub loop-k-preserved : goal.loop-k-preserved
 loop-k-preserved c =
@@ -87,7 +86,7 @@ loop-k-preserved c =
     let lanes : List ℕ = take (length rec - c.loop-k.from) (drop c.loop-k.from rec) in
     let lent : lanes ≡ drop c.loop-k.from rec = take_all (length rec - c.loop-k.from) (drop c.loop-k.from rec) (omega (arith, length-drop c.loop-k.from rec)) in
     let p = c.put_at-to in
-    slicing_next c.loop-k.invariant c.loop-k-test.true p.last.0 p.result c.shifted-h.result c.shifted-h.ensures p.ensures.0 p.ensures.1.same
+    slicing_next c.loop-k.invariant c.loop-k-test.true p.new.out p.result c.shifted-h.result c.shifted-h.ensures p.ensures.0 p.ensures.1.same
     (rw lent at p.ensures.1.writes)
 
 pub slice_bounds-put_at-count-2 : goal.slice_bounds-put_at-count-2
@@ -122,7 +121,7 @@ put_at-requires c =
     (output_narrow c.requires.cuts, lent-long, slicing_last-room c.loop-k.invariant c.loop-k-test.false, slicing_unreserved c.loop-k.invariant, omega (arith, c.tlast.ensures.1))
 
 pub shape_of-out : goal.shape_of-out
-shape_of-out c = c.put_at.auto.0 ∙ c.loop-k.invariant.same
+shape_of-out c = c.put_at.auto.out ∙ c.loop-k.invariant.same
 
 pub returns : goal.returns
 returns c =
@@ -136,6 +135,6 @@ returns c =
     record {
       same = p.ensures.1.same ∙ c.loop-k.invariant.same;
       writes =
-          slicing_told c.requires h.result h.ensures c.load_user-user.result c.load_user-user.ensures p.last.0 p.result
-          (slicing_done c.loop-k.invariant c.loop-k-test.false lanes lent (odd bit.result) is p.last.0 p.result p.ensures.1.writes);
+          slicing_told c.requires h.result h.ensures c.load_user-user.result c.load_user-user.ensures p.new.out p.result
+          (slicing_done c.loop-k.invariant c.loop-k-test.false lanes lent (odd bit.result) is p.new.out p.result p.ensures.1.writes);
     }

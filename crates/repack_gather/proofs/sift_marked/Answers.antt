@@ -1,0 +1,48 @@
+-- `repack_gather::sift_marked` meets its contract: lane by lane, what is left to keep gets shorter. Assumes nothing.
+use native.Mathlib.Omega.{arith}
+use mathlib.Core.Path.{◌∙◌}
+use Prim.Native.Nat.{◌-◌}
+use lib.ListN.{length}
+use Rattle.repack_scratch.specs.Codes.{mark_bits}
+use Rattle.repack_scratch.proofs.Marks.{length-marks}
+use Rattle.repack_gather.proofs.Marked.{Marking, marking_starts, marking_lane, marking_done}
+use Rattle.std.proofs.Common.{rules}
+use Rattle.repack_gather.proofs.sift_marked.Goals as goal
+
+pub loop-j-init : goal.loop-j-init
+loop-j-init c =
+    let a = c.args in
+    marking_starts a.keep a.strb a.lanes.now a.octets.now (mark_bits a.marks.now) a.at (length-marks a.marks.now ∙ c.requires.0)
+
+pub keep_marked-n-requires : goal.keep_marked-n-requires
+keep_marked-n-requires c =
+    let a = c.args in
+    let p = c.requires in
+    let l = c.loop-j in (
+      omega (arith, l.invariant.near, l.invariant.same_octets, p.1, c.loop-j-test.true),
+      omega (arith, l.invariant.near, l.invariant.same_marks, length-marks l.marks, p.1, c.loop-j-test.true),
+      l.invariant.clear p.2 l.n (omega arith),
+    )
+
+pub loop-j-preserved : goal.loop-j-preserved
+loop-j-preserved c =
+    let a = c.args in
+    let l = c.loop-j in
+    let e = c.keep_marked-n.ensures in
+    marking_lane a.keep a.strb a.lanes.now a.octets.now (mark_bits a.marks.now) a.at (length-marks a.marks.now ∙ c.requires.0) l.octets (mark_bits l.marks) l.n l.k l.t l.j l.invariant
+    c.requires.1 c.loop-j-test.true c.keep_marked-n.new.octets (mark_bits c.keep_marked-n.new.marks) c.keep_marked-n.result e.0 e.1.0 e.1.1
+
+pub shape_of-octets : goal.shape_of-octets
+shape_of-octets c = c.loop-j.invariant.same_octets
+
+pub shape_of-marks : goal.shape_of-marks
+shape_of-marks c =
+    omega
+    (arith, c.loop-j.invariant.same_marks, length-marks c.loop-j.marks, c.requires.0)
+
+pub returns : goal.returns
+returns c =
+    let a = c.args in
+    let l = c.loop-j in
+    marking_done a.keep a.strb a.lanes.now a.octets.now (mark_bits a.marks.now) a.at (length-marks a.marks.now ∙ c.requires.0) l.octets (mark_bits l.marks) l.n l.k l.t l.j l.invariant
+    c.loop-j-test.false
