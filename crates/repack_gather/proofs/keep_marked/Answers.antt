@@ -22,4 +22,8 @@ pub returns : goal.returns
 returns c =
     let a = c.args in
     let p = c.requires in
-    (refl, (refl, rw c.add_mark.ensures (mark_set a.marks.now a.n (mark_of a.keep a.strb) p.1 (mark_small a.keep a.strb) p.2)))
+    record {
+      value = refl;
+      octets_after = refl;
+      marks_after = rw c.add_mark.ensures (mark_set a.marks.now a.n (mark_of a.keep a.strb) p.1 (mark_small a.keep a.strb) p.2);
+    }

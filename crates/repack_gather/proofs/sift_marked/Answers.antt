@@ -30,7 +30,7 @@ loop-j-preserved c =
     let l = c.loop-j in
     let e = c.keep_marked-n.ensures in
     marking_lane a.keep a.strb a.lanes.now a.octets.now (mark_bits a.marks.now) a.at (length-marks a.marks.now ∙ c.requires.0) l.octets (mark_bits l.marks) l.n l.k l.t l.j l.invariant
-    c.requires.1 c.loop-j-test.true c.keep_marked-n.new.octets (mark_bits c.keep_marked-n.new.marks) c.keep_marked-n.result e.0 e.1.0 e.1.1
+    c.requires.1 c.loop-j-test.true c.keep_marked-n.new.octets (mark_bits c.keep_marked-n.new.marks) c.keep_marked-n.result e.value e.octets_after e.marks_after
 
 pub shape_of-octets : goal.shape_of-octets
 shape_of-octets c = c.loop-j.invariant.same_octets

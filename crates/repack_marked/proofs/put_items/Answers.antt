@@ -13,11 +13,8 @@ use Rattle.repack_scratch.proofs.Held.{length-held, drop-held}
 use Rattle.repack_plain.specs.Write.{item_octet, item_strobe}
 use Rattle.repack_plain.proofs.Lanes.{octets_down, strb_down, slice_small, octet-small}
 use Rattle.repack_marked.proofs.Near.{marks-same}
+use Rattle.repack_marked.proofs.put_items.Invariants.{items}
 use Rattle.repack_marked.proofs.put_items.Goals as goal
-
--- the items from one on
-abbrev items : List ℕ → List ℕ → ℕ → List ℕ
-items octets marks from = held_codes (drop from octets) (drop from (mark_bits marks))
 
 same : (octets marks : List ℕ) (from : ℕ) → length octets ≡ 8 * length marks → length (drop from octets) ≡ length (drop from (mark_bits marks))
 same octets marks from h = omega (arith, length-drop from octets, length-drop from (mark_bits marks), marks-same octets marks h)
@@ -92,5 +89,4 @@ returns c =
     let all : l.j ≡ 0 = omega arith in
     let is : drop a.from (held_codes a.octets.now (mark_bits a.marks.now)) ≡ items a.octets.now a.marks.now a.from =
     drop-held a.from a.octets.now (mark_bits a.marks.now) (marks-same a.octets.now a.marks.now p.2) in
-    let both = rw is (l.invariant.2 ∙ rw all refl, l.invariant.3 ∙ rw all refl) in
-    record { value = both.0; out_after = both.1 }
+    record { value = rw is (l.invariant.2 ∙ rw all refl); out_after = rw is (l.invariant.3 ∙ rw all refl) }

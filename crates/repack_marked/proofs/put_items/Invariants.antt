@@ -14,6 +14,10 @@ use Rattle.repack_plain.proofs.Lanes.{octets_down, strb_down, slice_small, octet
 use Rattle.repack_marked.proofs.Near.{marks-same}
 use Rattle.repack_marked.proofs.put_items.Given as goal
 
+-- the items from one on
+abbrev pub items : List ℕ → List ℕ → ℕ → List ℕ
+items octets marks from = held_codes (drop from octets) (drop from (mark_bits marks))
+
 abbrev pub invariant-loop-j : goal.invariant-loop-j
 invariant-loop-j l =
     (l.j ≤ l.n) × (length l.out ≡ length l.initial.out) × (l.strb ≡ mask_of (map item_strobe (slice l.j l.n (items l.octets l.marks l.from))))

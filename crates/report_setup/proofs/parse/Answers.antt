@@ -14,14 +14,14 @@ enum_told-1 c =
 
 pub enum_known-width_out : goal.enum_known-width_out
 enum_known-width_out c =
-    (read c.width-out.given.1 c.number-line2.ensures).within
+    (read c.width-out.given.1 c.number_line-2.ensures).within
 
 pub word_line-requires : goal.word_line-requires
 word_line-requires c =
     parsed
     (third_refused
     (read c.in-Read.is c.number_line.ensures)
-    (read c.in-Read-number_line.is c.number-line2.ensures)
+    (read c.in-Read-number_line.is c.number_line-2.ensures)
     (mode-refused c.args.sheet.now c.in-Read-number_line.third (refused c.enum-told3.given.1 c.word_line.ensures)))
 
 pub mode_of-mode-requires : goal.mode_of-mode-requires
@@ -32,10 +32,10 @@ pub enum_told-in_default-word_line-2 : goal.enum_told-in_default-word_line-2
 enum_told-in_default-word_line-2 c =
     parsed
     (fourth_refused
-    (read c.width_in-1.given.1 c.number_line.ensures)
-    (read c.width_out-1.given.1 c.number_line-2.ensures)
-    (mode-read c.args.sheet.now c.width_out-1.given.0.1.0 c.in-Read-word_line.word c.in-Read-word_line.fourth c.Mode-of.result c.Mode-of.ensures (read c.in-Read-word_line.is c.word_line.ensures))
-    (tlast-refused c.args.sheet.now c.in-Read-word_line.fourth (refused c.enum-told4.given.1 c.word-line2.ensures)))
+    (read c.in-Read.is c.number_line.ensures)
+    (read c.in-Read-number_line.is c.number_line-2.ensures)
+    (mode-read c.args.sheet.now c.in-Read-number_line.third c.in-Read-word_line.word c.in-Read-word_line.fourth c.Mode-of.result c.Mode-of.ensures (read c.in-Read-word_line.is c.word_line.ensures))
+    (tlast-refused c.args.sheet.now c.in-Read-word_line.fourth (refused c.enum-told4.given.1 c.word_line-2.ensures)))
 
 pub digit_line-requires : goal.digit_line-requires
 digit_line-requires c =
@@ -45,20 +45,20 @@ pub returns-in_default-digit_line : goal.returns-in_default-digit_line
 returns-in_default-digit_line c =
     parsed
     (fifth_refused
-    (read c.width_in-1.given.1 c.number_line.ensures)
-    (read c.width_out-1.given.1 c.number_line-2.ensures)
-    (mode-read c.args.sheet.now c.width_out-1.given.0.1.0 c.word-1.given.0.0 c.word-1.given.0.1.0 c.Mode-of.result c.Mode-of.ensures (read c.word-1.given.1 c.word_line.ensures))
-    (tlast-read c.args.sheet.now c.word-1.given.0.1.0 c.in-Read-word_line-2.wire c.in-Read-word_line-2.fifth c.tlast_of-tlast.result c.tlast_of-tlast.ensures (read c.in-Read-word_line-2.is c.word_line-2.ensures))
+    (read c.in-Read.is c.number_line.ensures)
+    (read c.in-Read-number_line.is c.number_line-2.ensures)
+    (mode-read c.args.sheet.now c.in-Read-number_line.third c.in-Read-word_line.word c.in-Read-word_line.fourth c.Mode-of.result c.Mode-of.ensures (read c.in-Read-word_line.is c.word_line.ensures))
+    (tlast-read c.args.sheet.now c.in-Read-word_line.fourth c.in-Read-word_line-2.wire c.in-Read-word_line-2.fifth c.tlast_of-tlast.result c.tlast_of-tlast.ensures (read c.in-Read-word_line-2.is c.word_line-2.ensures))
     (refused c.in_default-digit_line.is c.digit_line.ensures))
 
 pub returns-then-end-sheet : goal.returns-then-end-sheet
 returns-then-end-sheet c =
     parsed
     (end_refused
-    (read c.width_in-1.given.1 c.number_line.ensures)
-    (read c.width_out-1.given.1 c.number_line-2.ensures)
-    (mode-read c.args.sheet.now c.width_out-1.given.0.1.0 c.word-1.given.0.0 c.word-1.given.0.1.0 c.Mode-of.result c.Mode-of.ensures (read c.word-1.given.1 c.word_line.ensures))
-    (tlast-read c.args.sheet.now c.word-1.given.0.1.0 c.in-Read-word_line-2.wire c.in-Read-word_line-2.fifth c.tlast_of-tlast.result c.tlast_of-tlast.ensures (read c.in-Read-word_line-2.is c.word_line-2.ensures))
+    (read c.in-Read.is c.number_line.ensures)
+    (read c.in-Read-number_line.is c.number_line-2.ensures)
+    (mode-read c.args.sheet.now c.in-Read-number_line.third c.in-Read-word_line.word c.in-Read-word_line.fourth c.Mode-of.result c.Mode-of.ensures (read c.in-Read-word_line.is c.word_line.ensures))
+    (tlast-read c.args.sheet.now c.in-Read-word_line.fourth c.in-Read-word_line-2.wire c.in-Read-word_line-2.fifth c.tlast_of-tlast.result c.tlast_of-tlast.ensures (read c.in-Read-word_line-2.is c.word_line-2.ensures))
     (read c.in-Read-digit_line.is c.digit_line.ensures)
     c.if-end-sheet.true)
 
@@ -66,9 +66,9 @@ pub returns : goal.returns
 returns c =
     parsed
     (sheet-read
-    (read c.width_in-1.given.1 c.number_line.ensures)
-    (read c.width_out-1.given.1 c.number_line-2.ensures)
-    (mode-read c.args.sheet.now c.width_out-1.given.0.1.0 c.word-1.given.0.0 c.word-1.given.0.1.0 c.Mode-of.result c.Mode-of.ensures (read c.word-1.given.1 c.word_line.ensures))
-    (tlast-read c.args.sheet.now c.word-1.given.0.1.0 c.in-Read-word_line-2.wire c.in-Read-word_line-2.fifth c.tlast_of-tlast.result c.tlast_of-tlast.ensures (read c.in-Read-word_line-2.is c.word_line-2.ensures))
+    (read c.in-Read.is c.number_line.ensures)
+    (read c.in-Read-number_line.is c.number_line-2.ensures)
+    (mode-read c.args.sheet.now c.in-Read-number_line.third c.in-Read-word_line.word c.in-Read-word_line.fourth c.Mode-of.result c.Mode-of.ensures (read c.in-Read-word_line.is c.word_line.ensures))
+    (tlast-read c.args.sheet.now c.in-Read-word_line.fourth c.in-Read-word_line-2.wire c.in-Read-word_line-2.fifth c.tlast_of-tlast.result c.tlast_of-tlast.ensures (read c.in-Read-word_line-2.is c.word_line-2.ensures))
     (read c.in-Read-digit_line.is c.digit_line.ensures)
     c.if-end-sheet.false)

@@ -10,15 +10,15 @@ returns-then-n-rest c =
 
 pub slice_bounds-begins-end : goal.slice_bounds-begins-end
 slice_bounds-begins-end c =
-    line-length c.args.key.now c.args.text.now c.args.from c.requires c.line-end.result
-    c.line-end.ensures c.if1.false
+    line-length c.args.key.now c.args.text.now c.args.from c.requires c.line_end-n.result
+    c.line_end-n.ensures c.if-n-rest.false
 
 pub returns-then-begins : goal.returns-then-begins
 returns-then-begins c =
-    line-found c.args.key.now c.args.text.now c.args.from c.requires c.line-end.result
-    c.line-end.ensures c.if1.false c.if-begins.true c.begins.ensures
+    line-found c.args.key.now c.args.text.now c.args.from c.requires c.line_end-n.result
+    c.line_end-n.ensures c.if-n-rest.false c.if-begins.true c.begins.ensures
 
 pub returns : goal.returns
 returns c =
-    other_key c.args.key.now c.args.text.now c.args.from c.requires c.line-end.result
-    c.line-end.ensures c.if1.false c.if-begins.false c.begins.ensures
+    other_key c.args.key.now c.args.text.now c.args.from c.requires c.line_end-n.result
+    c.line_end-n.ensures c.if-n-rest.false c.if-begins.false c.begins.ensures

@@ -19,39 +19,39 @@ returns-then-n-rest c =
 
 pub slice_bounds-is_word-end : goal.slice_bounds-is_word-end
 slice_bounds-is_word-end c =
-    word-long c.args.value.now c.args.words.now c.loop-at.at c.loop-at.k c.loop-at.invariant c.line-end.result c.line-end.ensures c.if1.false
+    word-long c.args.value.now c.args.words.now c.loop-at.at c.loop-at.k c.loop-at.invariant c.line_end-n.result c.line_end-n.ensures c.if-n-rest.false
 
 pub returns-then-is_word : goal.returns-then-is_word
 returns-then-is_word c =
-    word_here c.args.value.now c.args.words.now c.loop-at.at c.loop-at.k c.loop-at.invariant c.line-end.result c.line-end.ensures c.if1.false (sym c.is_word.ensures ∙ c.if-is_word.true)
+    word_here c.args.value.now c.args.words.now c.loop-at.at c.loop-at.k c.loop-at.invariant c.line_end-n.result c.line_end-n.ensures c.if-n-rest.false (sym c.is_word.ensures ∙ c.if-is_word.true)
 
 pub overflow_add-at : goal.overflow_add-at
 overflow_add-at c =
-    let inside : c.loop-at.at + (c.line-end.result + 1) ≤ length c.args.words.now =
-    word-inside c.args.value.now c.args.words.now c.loop-at.at c.loop-at.k c.loop-at.invariant c.line-end.result c.line-end.ensures c.if1.false in
+    let inside : c.loop-at.at + (c.line_end-n.result + 1) ≤ length c.args.words.now =
+    word-inside c.args.value.now c.args.words.now c.loop-at.at c.loop-at.k c.loop-at.invariant c.line_end-n.result c.line_end-n.ensures c.if-n-rest.false in
     omega (arith, inside, c.well_formed)
 
 pub overflow_add-at-in-loop-at : goal.overflow_add-at-in-loop-at
 overflow_add-at-in-loop-at c =
-    let inside : c.loop-at.at + (c.line-end.result + 1) ≤ length c.args.words.now =
-    word-inside c.args.value.now c.args.words.now c.loop-at.at c.loop-at.k c.loop-at.invariant c.line-end.result c.line-end.ensures c.if1.false in
+    let inside : c.loop-at.at + (c.line_end-n.result + 1) ≤ length c.args.words.now =
+    word-inside c.args.value.now c.args.words.now c.loop-at.at c.loop-at.k c.loop-at.invariant c.line_end-n.result c.line_end-n.ensures c.if-n-rest.false in
     omega (arith, inside, c.well_formed)
 
 pub overflow_add-k : goal.overflow_add-k
 overflow_add-k c =
-    let inside : c.loop-at.at + (c.line-end.result + 1) ≤ length c.args.words.now =
-    word-inside c.args.value.now c.args.words.now c.loop-at.at c.loop-at.k c.loop-at.invariant c.line-end.result c.line-end.ensures c.if1.false in
+    let inside : c.loop-at.at + (c.line_end-n.result + 1) ≤ length c.args.words.now =
+    word-inside c.args.value.now c.args.words.now c.loop-at.at c.loop-at.k c.loop-at.invariant c.line_end-n.result c.line_end-n.ensures c.if-n-rest.false in
     omega (arith, inside, c.well_formed, c.loop-at.invariant.few)
 
 pub loop-at-smaller : goal.loop-at-smaller
 loop-at-smaller c =
-    let inside : c.loop-at.at + (c.line-end.result + 1) ≤ length c.args.words.now =
-    word-inside c.args.value.now c.args.words.now c.loop-at.at c.loop-at.k c.loop-at.invariant c.line-end.result c.line-end.ensures c.if1.false in
+    let inside : c.loop-at.at + (c.line_end-n.result + 1) ≤ length c.args.words.now =
+    word-inside c.args.value.now c.args.words.now c.loop-at.at c.loop-at.k c.loop-at.invariant c.line_end-n.result c.line_end-n.ensures c.if-n-rest.false in
     omega (arith, inside)
 
 pub loop-at-preserved : goal.loop-at-preserved
 loop-at-preserved c =
-    word-passed c.args.value.now c.args.words.now c.loop-at.at c.loop-at.k c.loop-at.invariant c.line-end.result c.line-end.ensures c.if1.false (sym c.is_word.ensures ∙ c.if-is_word.false)
+    word-passed c.args.value.now c.args.words.now c.loop-at.at c.loop-at.k c.loop-at.invariant c.line_end-n.result c.line_end-n.ensures c.if-n-rest.false (sym c.is_word.ensures ∙ c.if-is_word.false)
 
 pub returns : goal.returns
 returns c =

@@ -81,4 +81,4 @@ returns c =
     let z = c.record_size in
     let y = c.record_size-2 in
     all-written c.args.s c.args.v octets c.args.out.now c.requires.0 c.requires.1 z.result z.ensures y.result slice-size
-    c.if-out-n.false c.put_all_lem.new.out (sliced-told c.put_all_lem.new.out c.put_all_lem.ensures)
+    c.if-out-n.false c.put_all.new.out (sliced-told c.put_all.new.out c.put_all.ensures)

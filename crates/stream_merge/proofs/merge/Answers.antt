@@ -145,6 +145,6 @@ returns c =
     c.in-Passed-find_port_fault.is in
     let seconds : first (port_checks shape ys) ≡ none = passed_is c.find_port_fault-2.result (port_checks shape ys) c.find_port_fault-2.ensures
     c.in-Passed-find_port_fault-2.is in
-    let put = c.put_all_lem in
+    let put = c.put_all in
     all-written shape xs ys lent take other firsts seconds c.if-out-first.false
-    c.record_size.result c.record_size.ensures put.new.1.1.1.0 put.ensures
+    c.record_size.result c.record_size.ensures put.new.out put.ensures
