@@ -34,7 +34,7 @@ enum_told-in_default-word_line-2 c =
     (fourth_refused
     (read c.in-Read.is c.number_line.ensures)
     (read c.in-Read-number_line.is c.number_line-2.ensures)
-    (mode-read c.args.sheet.now c.in-Read-number_line.third c.in-Read-word_line.word c.in-Read-word_line.fourth c.Mode-of.result c.Mode-of.ensures (read c.in-Read-word_line.is c.word_line.ensures))
+    (mode-read c.args.sheet.now c.in-Read-number_line.third c.in-Read-word_line.word c.in-Read-word_line.fourth c.mode_of-mode.result c.mode_of-mode.ensures (read c.in-Read-word_line.is c.word_line.ensures))
     (tlast-refused c.args.sheet.now c.in-Read-word_line.fourth (refused c.enum-told4.given.1 c.word_line-2.ensures)))
 
 pub digit_line-requires : goal.digit_line-requires
@@ -47,7 +47,7 @@ returns-in_default-digit_line c =
     (fifth_refused
     (read c.in-Read.is c.number_line.ensures)
     (read c.in-Read-number_line.is c.number_line-2.ensures)
-    (mode-read c.args.sheet.now c.in-Read-number_line.third c.in-Read-word_line.word c.in-Read-word_line.fourth c.Mode-of.result c.Mode-of.ensures (read c.in-Read-word_line.is c.word_line.ensures))
+    (mode-read c.args.sheet.now c.in-Read-number_line.third c.in-Read-word_line.word c.in-Read-word_line.fourth c.mode_of-mode.result c.mode_of-mode.ensures (read c.in-Read-word_line.is c.word_line.ensures))
     (tlast-read c.args.sheet.now c.in-Read-word_line.fourth c.in-Read-word_line-2.wire c.in-Read-word_line-2.fifth c.tlast_of-tlast.result c.tlast_of-tlast.ensures (read c.in-Read-word_line-2.is c.word_line-2.ensures))
     (refused c.in_default-digit_line.is c.digit_line.ensures))
 
@@ -57,7 +57,7 @@ returns-then-end-sheet c =
     (end_refused
     (read c.in-Read.is c.number_line.ensures)
     (read c.in-Read-number_line.is c.number_line-2.ensures)
-    (mode-read c.args.sheet.now c.in-Read-number_line.third c.in-Read-word_line.word c.in-Read-word_line.fourth c.Mode-of.result c.Mode-of.ensures (read c.in-Read-word_line.is c.word_line.ensures))
+    (mode-read c.args.sheet.now c.in-Read-number_line.third c.in-Read-word_line.word c.in-Read-word_line.fourth c.mode_of-mode.result c.mode_of-mode.ensures (read c.in-Read-word_line.is c.word_line.ensures))
     (tlast-read c.args.sheet.now c.in-Read-word_line.fourth c.in-Read-word_line-2.wire c.in-Read-word_line-2.fifth c.tlast_of-tlast.result c.tlast_of-tlast.ensures (read c.in-Read-word_line-2.is c.word_line-2.ensures))
     (read c.in-Read-digit_line.is c.digit_line.ensures)
     c.if-end-sheet.true)
@@ -68,7 +68,7 @@ returns c =
     (sheet-read
     (read c.in-Read.is c.number_line.ensures)
     (read c.in-Read-number_line.is c.number_line-2.ensures)
-    (mode-read c.args.sheet.now c.in-Read-number_line.third c.in-Read-word_line.word c.in-Read-word_line.fourth c.Mode-of.result c.Mode-of.ensures (read c.in-Read-word_line.is c.word_line.ensures))
+    (mode-read c.args.sheet.now c.in-Read-number_line.third c.in-Read-word_line.word c.in-Read-word_line.fourth c.mode_of-mode.result c.mode_of-mode.ensures (read c.in-Read-word_line.is c.word_line.ensures))
     (tlast-read c.args.sheet.now c.in-Read-word_line.fourth c.in-Read-word_line-2.wire c.in-Read-word_line-2.fifth c.tlast_of-tlast.result c.tlast_of-tlast.ensures (read c.in-Read-word_line-2.is c.word_line-2.ensures))
     (read c.in-Read-digit_line.is c.digit_line.ensures)
     c.if-end-sheet.false)

@@ -1,0 +1,14 @@
+use mathlib.Core.Path.{◌≡◌, refl}
+use Prim.Native.Nat.{◌+◌, ◌-◌, ◌*◌, ◌≤◌}
+use native.Mathlib.Omega.{arith}
+use Rattle.std.proofs.Common.{rules}
+use lib.ListN.{length, drop, drop_of_length-le}
+use Rattle.repack_emit.specs.Emit.{count_of}
+use Rattle.repack_emit.proofs.Tables.{count-step}
+use Rattle.repack_emit.proofs.count.Given as goal
+
+abbrev pub invariant-loop-k : goal.invariant-loop-k
+invariant-loop-k l = (l.k ≤ length l.table) × (l.n ≤ 0x10000 * l.k) × (l.n + count_of l.v (drop l.k l.table) ≡ count_of l.v l.table)
+
+abbrev pub decreases-loop-k : goal.decreases-loop-k
+decreases-loop-k l = length l.table - l.k
