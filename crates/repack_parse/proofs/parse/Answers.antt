@@ -51,7 +51,7 @@ finish-requires c =
     let plain : Bool = c.loop-lanes.plain in
     let parsed : Parsing width transfers octets marks table st at plain = let l = c.loop-lanes in
     parsing_skimmed width transfers l.octets l.marks l.table l.st l.at l.plain l.invariant octets table st at
-    (rw wide at) in
+    (rw wide at c.skim-p.ensures) in
     parsing_closes width transfers octets marks table st at plain parsed c.if-transfers-from.true
 
 pub shape_of-octets-then-transfers-from : goal.shape_of-octets-then-transfers-from
@@ -67,7 +67,7 @@ shape_of-octets-then-transfers-from c =
     let plain : Bool = c.loop-lanes.plain in
     let parsed : Parsing width transfers octets marks table st at plain = let l = c.loop-lanes in
     parsing_skimmed width transfers l.octets l.marks l.table l.st l.at l.plain l.invariant octets table st at
-    (rw wide at) in
+    (rw wide at c.skim-p.ensures) in
     parsed.reading.same_items ∙ sym c.requires.octets_len.0
 
 pub shape_of-marks-then-transfers-from : goal.shape_of-marks-then-transfers-from
@@ -83,7 +83,7 @@ shape_of-marks-then-transfers-from c =
     let plain : Bool = c.loop-lanes.plain in
     let parsed : Parsing width transfers octets marks table st at plain = let l = c.loop-lanes in
     parsing_skimmed width transfers l.octets l.marks l.table l.st l.at l.plain l.invariant octets table st at
-    (rw wide at) in
+    (rw wide at c.skim-p.ensures) in
     marks-room width transfers octets marks table st at plain parsed ∙ sym c.requires.octets_len.1
 
 pub shape_of-table-then-transfers-from : goal.shape_of-table-then-transfers-from
@@ -99,7 +99,7 @@ shape_of-table-then-transfers-from c =
     let plain : Bool = c.loop-lanes.plain in
     let parsed : Parsing width transfers octets marks table st at plain = let l = c.loop-lanes in
     parsing_skimmed width transfers l.octets l.marks l.table l.st l.at l.plain l.invariant octets table st at
-    (rw wide at) in
+    (rw wide at c.skim-p.ensures) in
     c.finish.auto.table ∙ parsed.reading.same_table ∙ sym c.requires.octets_len.2
 
 pub returns-then-transfers-from : goal.returns-then-transfers-from
@@ -115,7 +115,7 @@ returns-then-transfers-from c =
     let plain : Bool = c.loop-lanes.plain in
     let parsed : Parsing width transfers octets marks table st at plain = let l = c.loop-lanes in
     parsing_skimmed width transfers l.octets l.marks l.table l.st l.at l.plain l.invariant octets table st at
-    (rw wide at) in
+    (rw wide at c.skim-p.ensures) in
     let finish = c.finish in
     parsing_done width transfers octets marks table st at plain parsed c.if-transfers-from.true finish.new.table finish.result finish.ensures
 
@@ -134,7 +134,7 @@ overflow_add-e c =
     let plain : Bool = c.loop-lanes.plain in
     let parsed : Parsing width transfers octets marks table st at plain = let l = c.loop-lanes in
     parsing_skimmed width transfers l.octets l.marks l.table l.st l.at l.plain l.invariant octets table st at
-    (rw wide at) in
+    (rw wide at c.skim-p.ensures) in
     omega (arith, parsing_fits width transfers octets marks table st at plain parsed c.if-transfers-from.false record-size sized)
 
 pub slice_bounds-unusual-end : goal.slice_bounds-unusual-end
@@ -152,7 +152,7 @@ slice_bounds-unusual-end c =
     let plain : Bool = c.loop-lanes.plain in
     let parsed : Parsing width transfers octets marks table st at plain = let l = c.loop-lanes in
     parsing_skimmed width transfers l.octets l.marks l.table l.st l.at l.plain l.invariant octets table st at
-    (rw wide at) in
+    (rw wide at c.skim-p.ensures) in
     parsing_fits width transfers octets marks table st at plain parsed c.if-transfers-from.false record-size sized
 
 pub unusual-requires : goal.unusual-requires
@@ -170,9 +170,9 @@ unusual-requires c =
     let plain : Bool = c.loop-lanes.plain in
     let parsed : Parsing width transfers octets marks table st at plain = let l = c.loop-lanes in
     parsing_skimmed width transfers l.octets l.marks l.table l.st l.at l.plain l.invariant octets table st at
-    (rw wide at) in
+    (rw wide at c.skim-p.ensures) in
     let more : at < length transfers = c.if-transfers-from.false in
-    let more = c.if-transfers-from.false in record { wide = (c.lanes_of-lanes.ensures.1, rw wide (parsing_long width transfers octets marks table st at plain parsed more sized), rw wide (parsing_ready width transfers octets marks table st at plain parsed more sized)); marks_value = (parsing_marks width transfers octets marks table st at plain parsed more sized, parsed.holding.clear) }
+    let more = c.if-transfers-from.false in record { wide = (c.lanes_of-lanes.ensures.1, rw wide (parsing_long width transfers octets marks table st at plain parsed more record-size sized), rw wide (parsing_ready width transfers octets marks table st at plain parsed more record-size sized)); marks_value = (parsing_marks width transfers octets marks table st at plain parsed more record-size sized, parsed.holding.clear) }
 
 pub shape_of-octets-in-Refused : goal.shape_of-octets-in-Refused
 shape_of-octets-in-Refused c =
@@ -187,8 +187,8 @@ shape_of-octets-in-Refused c =
     let plain : Bool = c.loop-lanes.plain in
     let parsed : Parsing width transfers octets marks table st at plain = let l = c.loop-lanes in
     parsing_skimmed width transfers l.octets l.marks l.table l.st l.at l.plain l.invariant octets table st at
-    (rw wide at) in
-    c.unusual.auto.1.1.1.0 ∙ parsed.reading.same_items ∙ sym c.requires.octets_len.0
+    (rw wide at c.skim-p.ensures) in
+    c.unusual.auto.octets ∙ parsed.reading.same_items ∙ sym c.requires.octets_len.0
 
 pub shape_of-marks-in-Refused : goal.shape_of-marks-in-Refused
 shape_of-marks-in-Refused c =
@@ -203,8 +203,8 @@ shape_of-marks-in-Refused c =
     let plain : Bool = c.loop-lanes.plain in
     let parsed : Parsing width transfers octets marks table st at plain = let l = c.loop-lanes in
     parsing_skimmed width transfers l.octets l.marks l.table l.st l.at l.plain l.invariant octets table st at
-    (rw wide at) in
-    c.unusual.auto.1.1.1.1.0 ∙ marks-room width transfers octets marks table st at plain parsed ∙ sym c.requires.octets_len.1
+    (rw wide at c.skim-p.ensures) in
+    c.unusual.auto.marks ∙ marks-room width transfers octets marks table st at plain parsed ∙ sym c.requires.octets_len.1
 
 pub shape_of-table-in-Refused : goal.shape_of-table-in-Refused
 shape_of-table-in-Refused c =
@@ -219,8 +219,8 @@ shape_of-table-in-Refused c =
     let plain : Bool = c.loop-lanes.plain in
     let parsed : Parsing width transfers octets marks table st at plain = let l = c.loop-lanes in
     parsing_skimmed width transfers l.octets l.marks l.table l.st l.at l.plain l.invariant octets table st at
-    (rw wide at) in
-    c.unusual.auto.1.1.1.1.1.0 ∙ parsed.reading.same_table ∙ sym c.requires.octets_len.2
+    (rw wide at c.skim-p.ensures) in
+    c.unusual.auto.table ∙ parsed.reading.same_table ∙ sym c.requires.octets_len.2
 
 pub returns-in-Refused : goal.returns-in-Refused
 returns-in-Refused c =
@@ -237,10 +237,10 @@ returns-in-Refused c =
     let plain : Bool = c.loop-lanes.plain in
     let parsed : Parsing width transfers octets marks table st at plain = let l = c.loop-lanes in
     parsing_skimmed width transfers l.octets l.marks l.table l.st l.at l.plain l.invariant octets table st at
-    (rw wide at) in
+    (rw wide at c.skim-p.ensures) in
     let more : at < length transfers = c.if-transfers-from.false in
     let lane_count = c.lanes_of-lanes.ensures.0 in
-    parsing_refused width transfers octets marks table st at plain parsed more record-size sized c.in-Refused.r (rw (lane_count, c.in-Refused.is) at)
+    parsing_refused width transfers octets marks table st at plain parsed more record-size sized c.in-Refused.r (rw (lane_count, c.in-Refused.is) at c.unusual.ensures)
 
 pub loop-lanes-smaller-in-Read : goal.loop-lanes-smaller-in-Read
 loop-lanes-smaller-in-Read c =
@@ -257,7 +257,7 @@ loop-lanes-smaller-in-Read c =
     let plain : Bool = c.loop-lanes.plain in
     let parsed : Parsing width transfers octets marks table st at plain = let l = c.loop-lanes in
     parsing_skimmed width transfers l.octets l.marks l.table l.st l.at l.plain l.invariant octets table st at
-    (rw wide at) in
+    (rw wide at c.skim-p.ensures) in
     let more : at < length transfers = c.if-transfers-from.false in
     omega (arith, sized, size_pos (of_width width), c.skim-p.ensures.on, parsing_fits width transfers octets marks table st at plain parsed more record-size sized)
 
@@ -276,11 +276,11 @@ loop-lanes-preserved-in-Read c =
     let plain : Bool = c.loop-lanes.plain in
     let parsed : Parsing width transfers octets marks table st at plain = let l = c.loop-lanes in
     parsing_skimmed width transfers l.octets l.marks l.table l.st l.at l.plain l.invariant octets table st at
-    (rw wide at) in
+    (rw wide at c.skim-p.ensures) in
     let more : at < length transfers = c.if-transfers-from.false in
     let lane_count = c.lanes_of-lanes.ensures.0 in
-    let n = rw (lane_count, c.in-Read.is) at in
-    parsing_read width transfers octets marks table st at plain parsed more record-size sized c.unusual.new.octets c.unusual.new.marks c.unusual.new.table c.in-Read.o c.unusual.auto.1.1.1.0 c.unusual.auto.1.1.1.1.0 n.0 n.1
+    let n = rw (lane_count, c.in-Read.is) at c.unusual.ensures in
+    parsing_read width transfers octets marks table st at plain parsed more record-size sized c.unusual.new.octets c.unusual.new.marks c.unusual.new.table c.in-Read.o c.unusual.auto.octets c.unusual.auto.marks n.0 n.1
 
 pub loop-lanes-smaller : goal.loop-lanes-smaller
 loop-lanes-smaller c =
@@ -297,7 +297,7 @@ loop-lanes-smaller c =
     let plain : Bool = c.loop-lanes.plain in
     let parsed : Parsing width transfers octets marks table st at plain = let l = c.loop-lanes in
     parsing_skimmed width transfers l.octets l.marks l.table l.st l.at l.plain l.invariant octets table st at
-    (rw wide at) in
+    (rw wide at c.skim-p.ensures) in
     let more : at < length transfers = c.if-transfers-from.false in
     omega (arith, sized, size_pos (of_width width), c.skim-p.ensures.on, parsing_fits width transfers octets marks table st at plain parsed more record-size sized)
 
@@ -316,8 +316,8 @@ loop-lanes-preserved c =
     let plain : Bool = c.loop-lanes.plain in
     let parsed : Parsing width transfers octets marks table st at plain = let l = c.loop-lanes in
     parsing_skimmed width transfers l.octets l.marks l.table l.st l.at l.plain l.invariant octets table st at
-    (rw wide at) in
+    (rw wide at c.skim-p.ensures) in
     let more : at < length transfers = c.if-transfers-from.false in
     let lane_count = c.lanes_of-lanes.ensures.0 in
-    let n = rw (lane_count, c.in-Marked.is) at in
-    parsing_marked width transfers octets marks table st at plain parsed more record-size sized c.unusual.new.octets c.unusual.new.marks c.unusual.new.table c.in-Marked.o c.unusual.auto.1.1.1.0 c.unusual.auto.1.1.1.1.0 n
+    let n = rw (lane_count, c.in-Marked.is) at c.unusual.ensures in
+    parsing_marked width transfers octets marks table st at plain parsed more record-size sized c.unusual.new.octets c.unusual.new.marks c.unusual.new.table c.in-Marked.o c.unusual.auto.octets c.unusual.auto.marks n
