@@ -5,37 +5,41 @@ use Rattle.report_setup.proofs.Words.{mode-read, mode-refused, tlast-read, tlast
 use Rattle.std.proofs.Common.{rules}
 use Rattle.report_setup.proofs.parse.Goals as goal
 
-pub enum_told-1 : goal.enum_told-1
-enum_told-1 c =
-    parsed
-    (second-refused
-    (read c.width-in.given.1 c.number_line.ensures)
-    (refused c.enum-told2.given.1 c.number-line2.ensures))
-
-pub enum_known-width_out : goal.enum_known-width_out
-enum_known-width_out c =
-    (read c.width-out.given.1 c.number_line-2.ensures).within
+pub number_line-requires-2 : goal.number_line-requires-2
+number_line-requires-2 c = (read c.in-Read.is c.number_line.ensures).within
 
 pub word_line-requires : goal.word_line-requires
-word_line-requires c =
+word_line-requires c = (read c.in-Read-number_line.is c.number_line-2.ensures).within
+
+pub word_line-requires-2 : goal.word_line-requires-2
+word_line-requires-2 c = (read c.in-Read-word_line.is c.word_line.ensures).within
+
+pub returns-in_default : goal.returns-in_default
+returns-in_default c = parsed (first-refused c.args.sheet.now (refused c.in_default.is c.number_line.ensures))
+
+pub returns-in_default-number_line : goal.returns-in_default-number_line
+returns-in_default-number_line c =
+    parsed
+    (second-refused
+    (read c.in-Read.is c.number_line.ensures)
+    (refused c.in_default-number_line.is c.number_line-2.ensures))
+
+pub returns-in_default-word_line : goal.returns-in_default-word_line
+returns-in_default-word_line c =
     parsed
     (third_refused
     (read c.in-Read.is c.number_line.ensures)
     (read c.in-Read-number_line.is c.number_line-2.ensures)
-    (mode-refused c.args.sheet.now c.in-Read-number_line.third (refused c.enum-told3.given.1 c.word_line.ensures)))
+    (mode-refused c.args.sheet.now c.in-Read-number_line.third (refused c.in_default-word_line.is c.word_line.ensures)))
 
-pub mode_of-mode-requires : goal.mode_of-mode-requires
-mode_of-mode-requires c =
-    (read c.in-Read-word_line.is c.word_line.ensures).within
-
-pub enum_told-in_default-word_line-2 : goal.enum_told-in_default-word_line-2
-enum_told-in_default-word_line-2 c =
+pub returns-in_default-word_line-2 : goal.returns-in_default-word_line-2
+returns-in_default-word_line-2 c =
     parsed
     (fourth_refused
     (read c.in-Read.is c.number_line.ensures)
     (read c.in-Read-number_line.is c.number_line-2.ensures)
     (mode-read c.args.sheet.now c.in-Read-number_line.third c.in-Read-word_line.word c.in-Read-word_line.fourth c.mode_of-mode.result c.mode_of-mode.ensures (read c.in-Read-word_line.is c.word_line.ensures))
-    (tlast-refused c.args.sheet.now c.in-Read-word_line.fourth (refused c.enum-told4.given.1 c.word_line-2.ensures)))
+    (tlast-refused c.args.sheet.now c.in-Read-word_line.fourth (refused c.in_default-word_line-2.is c.word_line-2.ensures)))
 
 pub digit_line-requires : goal.digit_line-requires
 digit_line-requires c =

@@ -1,0 +1,23 @@
+-- `repack_tagged_emit::put_at` meets its contract: what the lent part comes back as. Assumes nothing.
+use mathlib.Core.Path.{refl}
+use Prim.Native.Nat.{◌-◌}
+use lib.ListN.{length, take, drop}
+use Rattle.stream_spec.specs.Layout.{size, odd}
+use Rattle.stream_spec.proofs.Memory.{lent-long, lent-writes}
+use Rattle.repack_scratch.specs.Codes.{pair_from}
+use Rattle.repack_plain.specs.Write.{record_at}
+use Rattle.repack_plain.proofs.Stretches.{record_long}
+use Rattle.std.proofs.Common.{rules}
+use Rattle.repack_tagged_emit.proofs.put_at.Goals as goal
+
+pub returns : goal.returns
+returns c =
+    let a = c.args in
+    let rec = record_at a.t.user a.t.width a.head.pair a.head.last a.items.now a.c.from a.c.left in
+    let long = record_long a.t.user a.t.width (pair_from a.head.pair) (take a.c.left (drop a.c.from a.items.now)) (odd a.head.last) in
+    rw (c.put_record.ensures, c.record_size.ensures)
+    (record {
+      next = refl;
+      same = lent-long a.out.now rec a.c.to (size a.t) long c.requires.1 (length a.out.now - a.c.to) refl;
+      writes = lent-writes a.out.now rec a.c.to (size a.t) long c.requires.1 (length a.out.now - a.c.to) refl;
+    })
