@@ -20,7 +20,7 @@ written ys before row after j n d h l e f =
     (is, ap length is ∙ laid-length ys before (j + 1) (omega (arith, h)) (omega (arith, h)), omega arith)
 
 pub loop-j-init : goal.loop-j-init
-loop-j-init c = (laid_none c.args.t1 c.args.row.now, refl, omega arith)
+loop-j-init c = (laid_none c.args.bursts c.args.row.now, refl, omega arith)
 
 pub overflow_mul-j : goal.overflow_mul-j
 overflow_mul-j c = record { fits = omega (arith, c.loop-j-test.true, c.requires) }
@@ -45,7 +45,7 @@ pub loop-j-preserved : goal.loop-j-preserved
 loop-j-preserved c =
     let turn = c.loop-j in
     let less = c.loop-j-test.true in
-    written c.args.t1 c.args.row.now turn.row _ turn.j c.args.n _ c.requires less turn.invariant.0 c.put_burst.ensures
+    written c.args.bursts c.args.row.now turn.row _ turn.j c.args.n _ c.requires less turn.invariant.0 c.put_burst.ensures
 
 pub shape_of-row : goal.shape_of-row
 shape_of-row c = c.loop-j.invariant.1
@@ -53,4 +53,4 @@ shape_of-row c = c.loop-j.invariant.1
 pub returns : goal.returns
 returns c =
     let turn = c.loop-j in
-    turn.invariant.0 ∙ ap (λ k. laid c.args.t1 k c.args.row.now) (le_antisymm turn.invariant.2 c.loop-j-test.false)
+    turn.invariant.0 ∙ ap (λ k. laid c.args.bursts k c.args.row.now) (le_antisymm turn.invariant.2 c.loop-j-test.false)
