@@ -120,7 +120,7 @@ module _ (level : Bool) (s : Shape) (xs : List ℕ) (r : Checked) (told : checke
   answered : (o : Option Refusal) (after : List ℕ) → fill_refusal s xs ≡ o → after ≡ lent_after o (filled_in level s xs) xs
       → FilledIn level s xs after (written o (record_count s xs))
   unfolding fill_answer fill_after
-  answered o after e f =
+  answered o xs_after e f =
       record {
         is = ap (λ (x : Option Refusal). written x (record_count s xs)) (sym e);
         shows = ap (λ (x : Option Refusal). written_values (written x (record_count s xs))) (sym e);
