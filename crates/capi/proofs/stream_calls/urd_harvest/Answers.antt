@@ -1,0 +1,11 @@
+-- `capi::urd_harvest` meets its contract: it shows what the call answers, and leaves what the call leaves. Assumes nothing.
+use mathlib.Core.Path.{sym}
+use Rattle.stream_spec.specs.Answers.{written_values}
+use Rattle.capi.proofs.Told.{shown}
+use Rattle.std.proofs.Common.{rules}
+use Rattle.capi.proofs.stream_calls.urd_harvest.Goals as goal
+
+pub returns : goal.returns
+returns c =
+    let h = rw c.shape_of.ensures at c.harvest.ensures in
+    record { shows_stream = shown written_values c.of_written.result (sym h.is) c.of_written.ensures; out_after = h.leaves }
