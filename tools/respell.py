@@ -133,11 +133,13 @@ def table():
         for word in words & turn.keys():
             new = turn[word]
             if path.endswith(".rt") and new in own or path.endswith(".antt") and new in words:
-                clash.add((word, new))
+                clash.add((word, new, path.split("/")[1]))
             for other in back[new]:
                 if other != word and other in words:
-                    clash.add((max(word, other, key=lambda n: "-" in n), new))
-    for old, new in sorted(clash):
+                    clash.add((max(word, other, key=lambda n: "-" in n), new, path.split("/")[1]))
+    for old, new, crate in sorted(clash):
+        if old not in turn or turn[old] != new:
+            continue
         mild = "-".join(turned(p) for p in old.replace("′", "'").split("-"))
         if "-" in old and mild not in back:
             turn[old] = mild
@@ -147,8 +149,8 @@ def table():
         else:
             # the definition takes the spelling, and the lemma of that name gets CONTRACT_STYLE's `_lem`
             for path in files():
-                if path.endswith(".antt") and "/proofs/" in path and new in bare(read(path)):
-                    lemmas.setdefault(path.split("/")[1], set()).add(new)
+                if path.startswith(f"crates/{crate}/proofs/") and path.endswith(".antt") and new in bare(read(path)):
+                    lemmas.setdefault(crate, set()).add(new)
     return turn, kept, lemmas
 
 
