@@ -23,7 +23,7 @@ use Rattle.merge_spec.specs.Merge.{tid_added, tid, high_tid}
 use Rattle.merge_spec.specs.Answers.{port_faults, port_checks}
 use Rattle.merge_spec.specs.Promises.{record_of, Sound, AllSound, Readable, HighAt}
 use Rattle.merge_spec.proofs.Tags.{AllLow}
-use Rattle.merge_spec.proofs.Refusals.{clash, second}
+use Rattle.merge_spec.proofs.Refusals.{clash}
 
 -- ---- one record
 

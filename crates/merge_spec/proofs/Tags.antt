@@ -8,7 +8,7 @@ use borrow.Author.Tests.{le-leb}
 use lib.ListN.{length, set, length-set}
 use Rattle.stream_spec.specs.declared.Shape.{Shape}
 use Rattle.stream_spec.specs.Items.{Transfer}
-use Rattle.stream_spec.specs.Layout.{tid_at, size, Kept, tlast, user_number, transfer_of, octets_of}
+use Rattle.stream_spec.specs.Layout.{tid_at, size, Kept, tlast, user_number, transfer_of}
 use Rattle.stream_spec.specs.Checks.{transfer_flags, field_fault, reserved_fault}
 use Rattle.stream_spec.specs.Legal.{Octets}
 use Rattle.stream_spec.proofs.Size.{size_holds}

@@ -231,10 +231,10 @@ Again xs ys room port r = merge_answer (lanes 1) xs ys room ≡ Refused port r
 again : (xs ys : List ℕ) (room port : ℕ) (r : Refusal) → Again xs ys room port r → Again xs ys room port r
 again xs ys room port r e = let t = refused_in_order (lanes 1) xs ys room port r in t.1 (t.0 e)
 
-pub in_order_lem : Again (1 ∷ []) (1 ∷ []) 3 0 Length × Again (flagged 128) (1 ∷ []) 3 1 Length × Again (flagged 128) (flagged 1) 3 0 (Field 0)
+pub in_order : Again (1 ∷ []) (1 ∷ []) 3 0 Length × Again (flagged 128) (1 ∷ []) 3 1 Length × Again (flagged 128) (flagged 1) 3 0 (Field 0)
     × Again (rec 0 1 10) (flagged 128) 3 1 (Field 0) × Again (rec 0 1 10) (rec 0 1 20) 15 0 Room
 unfolding size merge_answer
-in_order_lem = (
+in_order = (
   again (1 ∷ []) (1 ∷ []) 3 0 Length refl,
   again (flagged 128) (1 ∷ []) 3 1 Length refl,
   again (flagged 128) (flagged 1) 3 0 (Field 0) refl,

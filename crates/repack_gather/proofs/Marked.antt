@@ -12,7 +12,6 @@ use lib.Dec.{eqb}
 use lib.Pow.{pow-lt}
 use lib.ListN.{length, get_or, take, drop, set, length-set}
 use lib.Seq.{take-suc-set, take-set-le, get_or-drop, drop-drop, get_or-set_same, get_or-set_other}
-use Rattle.stream_spec.specs.Layout.{odd}
 use Rattle.repack_scratch.specs.Codes.{item_code, held_code, held_codes, sifted}
 use Rattle.repack_scratch.proofs.Held.{length-held, held-set}
 use Rattle.repack_gather.specs.Gather.{Clear, Marks}

@@ -1,6 +1,6 @@
 -- Harvesting as one pass over the cycles, against stream_spec's Handshake: what a cycle adds to the output, and what is known
 -- between two cycles.
-use Rattle.std.specs.Prelude.{◌≡◌, cond, List, [], ℕ, ◌+◌, ◌≤◌, length, drop}
+use Rattle.std.specs.Prelude.{◌≡◌, cond, List, [], ℕ, ◌≤◌, length, drop}
 use Rattle.stream_spec.specs.declared.Shape.{Shape}
 use Rattle.stream_spec.specs.Layout.{size_least, size_most}
 use Rattle.stream_spec.specs.Handshake.{transferred, as_transfer, harvested}

@@ -12,7 +12,7 @@ use lib.ListN.{length, get_or, take, drop, length-map}
 use Rattle.words.specs.Words.{octets_of_word}
 use Rattle.stream_spec.specs.declared.Shape.{Shape}
 use Rattle.stream_spec.specs.Items.{Pair, Transfer}
-use Rattle.stream_spec.specs.Layout.{width_most, tdest_most, head_octets, user_octets, user_number, octet_values, bit_of, mask_of, flags, tkeep, tstrb, data_octets, lane_types, size, at_width, types_of, LaneType, data_lane, position_lane, null_lane, reserved_lane, lane_type, lane_of, lanes_of, is_reserved, any_reserved, Kept, octet, position, keep_bit, strb_bit, lane_octet, users_of, lane_octets, mask_octets, transfer_of, octets_of, pieces, records, record_count, transfers, octets, stream_items, packed_transfers, packed, sliced_transfers, sliced}
+use Rattle.stream_spec.specs.Layout.{width_most, tdest_most, head_octets, user_octets, user_number, octet_values, bit_of, mask_of, tkeep, tstrb, data_octets, lane_types, size, at_width, types_of, LaneType, data_lane, position_lane, null_lane, reserved_lane, lane_type, lane_of, lanes_of, is_reserved, any_reserved, Kept, octet, position, keep_bit, strb_bit, lane_octet, users_of, lane_octets, mask_octets, transfer_of, octets_of, pieces, records, record_count, transfers, octets, stream_items, packed_transfers, packed, sliced_transfers, sliced}
 use Rattle.refusal.specs.declared.Refusal.TheVariants.{Field, Reserved}
 use Rattle.refusal.specs.Checks.{check, first}
 use Rattle.stream_spec.specs.Checks.{field_fault, reserved_fault, transfer_flags, transfer_faults, transfer_checks}

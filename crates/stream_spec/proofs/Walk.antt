@@ -95,15 +95,15 @@ module _ (s : Shape) (xs : List ℕ) (at : ℕ) (left : Left s xs at) (more : at
 -- ---- the end
 
 module _ (xs : List ℕ) (at : ℕ) (end : length xs ≤ at) where
-  pub nothing_left_lem : drop at xs ≡ []
-  nothing_left_lem = drop_of_length-le xs end
+  pub nothing_left : drop at xs ≡ []
+  nothing_left = drop_of_length-le xs end
 
   pub no_pieces : (z : ℕ) → pieces_of z (drop at xs) ≡ []
-  no_pieces z = ap (pieces_of z) nothing_left_lem ∙ rw (zero-div z) refl
+  no_pieces z = ap (pieces_of z) nothing_left ∙ rw (zero-div z) refl
 
 module _ (s : Shape) (xs : List ℕ) (at : ℕ) (end : length xs ≤ at) where
   pub none_left : drop at xs ≡ []
-  none_left = nothing_left_lem xs at end
+  none_left = nothing_left xs at end
 
   pub no-records : records s (drop at xs) ≡ []
   no-records = no_pieces xs at end (size s)

@@ -6,8 +6,8 @@ use Prim.Native.Nat.{ℕ, zero, suc, ◌+◌, ◌-◌, ◌*◌, ◌/◌, ◌%◌
 use native.Mathlib.Nat.{add-zero, one-mul, mul_assoc, mod-eq_of_lt}
 use native.Mathlib.Omega.{arith}
 use lib.Pow.{mod-pow-add, pow-add, pow_pos, pow-lt, shr-shr}
-use lib.ListN.{length, get_or, take, drop, set, length-append, length-drop}
-use lib.Seq.{take-append-le, drop-drop, get_or-drop, length-take-le, drop-append-add, take-append-add, sets-eq, set_split}
+use lib.ListN.{length, get_or, take, drop, set, length-drop}
+use lib.Seq.{drop-drop, get_or-drop, sets-eq, set_split}
 use Rattle.words.specs.Splice.{splice}
 use Rattle.words.specs.Words.{word_at, octets_of_word, padded}
 use Rattle.words.proofs.Splice.{splice-splice, splice_over}

@@ -1,6 +1,5 @@
 -- `axi3::beat_address` meets its contract: a beat that an accepted burst has is answered, so the other arm is never reached.
 -- Assumes nothing.
-use Rattle.std.proofs.Common.{rules}
 use mathlib.Core.Path.{sym, ap, ◌∙◌}
 use Rattle.burst_spec.specs.declared.Beat.{Beat}
 use Rattle.burst_spec.proofs.Answers.{present-is, present_never}

@@ -4,7 +4,7 @@ use mathlib.Core.List.{List}
 use Prim.Native.Nat.{◌+◌, ◌<◌}
 use native.Mathlib.Omega.{arith}
 use native.Mathlib.Nat.{le_antisymm}
-use lib.ListN.{length, set}
+use lib.ListN.{set}
 use Rattle.burst_spec.specs.declared.Burst.{Burst}
 use Rattle.axi3.specs.Rows.{used_of, filled}
 use Rattle.axi3.proofs.Rows.{filled_none, filled_next, filled-all, Written, written}

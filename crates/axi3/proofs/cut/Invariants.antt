@@ -1,6 +1,5 @@
 use Prim.Native.Nat.{◌-◌, ◌≤◌}
 use mathlib.Core.Path.{◌≡◌}
-use lib.ListN.{length}
 use Rattle.axi3.specs.Rows.{filled}
 use Rattle.axi3.proofs.cut.Given as goal
 

@@ -1,6 +1,5 @@
 -- `axi3::cut_numbers` meets its contract: what a cut with a row of its own used of it is laid into the lent row, five numbers a
 -- description. Assumes nothing.
-use Rattle.std.proofs.Common.{rules}
 use mathlib.Core.Path.{◌≡◌, refl, ap, ◌∙◌}
 use Prim.Native.Nat.{ℕ, ◌*◌, ◌/◌, ◌≤◌}
 use native.Mathlib.Omega.{arith}

@@ -1,5 +1,4 @@
 -- `axi3::cut_row` meets its contract: a row of 16 is room for every cut, so what was asked for decides. Assumes nothing.
-use Rattle.std.proofs.Common.{rules}
 use mathlib.Core.Path.{refl, subst}
 use Prim.Native.Nat.{◌≤◌, ◌<◌}
 use Rattle.axi3_spec.specs.Answers.{blank_row, Cut}

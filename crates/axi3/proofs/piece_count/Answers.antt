@@ -1,6 +1,5 @@
 -- `axi3::piece_count` meets its contract: for every kind that is accepted, it is the beats in sixteens, rounded up.
 -- Assumes nothing.
-use Rattle.std.proofs.Common.{rules}
 use native.Mathlib.Omega.{arith}
 use Rattle.axi3_spec.proofs.Pieces.{count-is}
 use Rattle.axi3.proofs.piece_count.Goals as goal

@@ -1,6 +1,5 @@
 -- `axi3::planned` meets its contract: what judging refuses keeps its refusal, and of an accepted burst the room decides.
 -- Assumes nothing.
-use Rattle.std.proofs.Common.{rules}
 use mathlib.Core.Path.{sym, subst, ◌∙◌}
 use Prim.Native.Nat.{◌<◌}
 use Rattle.burst_spec.proofs.Answers.{accepted_exactly}

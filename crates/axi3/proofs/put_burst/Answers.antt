@@ -1,5 +1,4 @@
 -- `axi3::put_burst` meets its contract: five stores, one after another. Assumes nothing.
-use Rattle.std.proofs.Common.{rules}
 use native.Mathlib.Omega.{arith}
 use lib.ListN.{length-set}
 use Rattle.axi3.proofs.Numbers.{stored}

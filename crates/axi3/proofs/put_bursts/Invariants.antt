@@ -1,13 +1,7 @@
-use mathlib.Core.Path.{◌≡◌, refl, ap, ◌∙◌}
-use mathlib.Core.List.{List}
-use Prim.Native.Nat.{ℕ, ◌+◌, ◌-◌, ◌*◌, ◌≤◌, ◌<◌}
-use native.Mathlib.Nat.{le_antisymm}
-use native.Mathlib.Omega.{arith}
-use lib.ListN.{length, get_or}
-use Rattle.burst_spec.specs.declared.Burst.{Burst}
-use Rattle.axi3_spec.specs.Answers.{row_length, numbers_each}
-use Rattle.axi3.specs.Rows.{with_burst, laid}
-use Rattle.axi3.proofs.Numbers.{laid_none, laid_next, laid-length}
+use mathlib.Core.Path.{◌≡◌}
+use Prim.Native.Nat.{◌-◌, ◌≤◌}
+use lib.ListN.{length}
+use Rattle.axi3.specs.Rows.{laid}
 use Rattle.axi3.proofs.put_bursts.Given as goal
 
 abbrev pub invariant-loop-j : goal.invariant-loop-j

@@ -1,5 +1,4 @@
 -- `burst::address_of` meets its contract: each kind has its address. Assumes nothing.
-use Rattle.std.proofs.Common.{rules}
 use Rattle.burst_spec.specs.Address.{address_by}
 use Rattle.burst_spec.specs.declared.Kind.TheVariants.{Fixed, Reserved}
 use Rattle.burst.proofs.Formulas.{at-kind}

@@ -1,6 +1,5 @@
 -- `burst::beat` meets its contract: what is refused keeps its refusal, and a beat that is there is worked out.
 -- Assumes nothing.
-use Rattle.std.proofs.Common.{rules}
 use mathlib.Core.Path.{◌≡◌, sym, ap, ◌∙◌}
 use Prim.Native.Nat.{ℕ}
 use Rattle.refusal.specs.Checks.{first}

@@ -1,5 +1,4 @@
 -- `burst::burst_of` meets its contract: the kind is the one of its number. Assumes nothing.
-use Rattle.std.proofs.Common.{rules}
 use Rattle.burst.proofs.burst_of.Goals as goal
 
 pub returns : goal.returns

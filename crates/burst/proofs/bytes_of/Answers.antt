@@ -1,5 +1,4 @@
 -- `burst::bytes_of` meets its contract: 1 shifted by at most 7 is a power that fits. Assumes nothing.
-use Rattle.std.proofs.Common.{rules}
 use native.Mathlib.Nat.{one-mul, mod-eq_of_lt}
 use native.Mathlib.Omega.{arith}
 use lib.Pow.{pow-lt}

@@ -1,5 +1,4 @@
 -- `burst::count_allowed` meets its contract: each arm is the line of its kind. Assumes nothing.
-use Rattle.std.proofs.Common.{rules}
 use mathlib.Core.Bool.{false}
 use mathlib.Core.List.{List, [], ◌∷◌}
 use mathlib.Core.Path.{refl, sym}

@@ -1,5 +1,4 @@
 -- `burst::count_refused` meets its contract, test by test. Assumes nothing.
-use Rattle.std.proofs.Common.{rules}
 use borrow.Author.Tests.{lt-ltb, le-ltb}
 use Rattle.burst_spec.specs.Checks.{axlen_most}
 use Rattle.burst.proofs.count_refused.Goals as goal

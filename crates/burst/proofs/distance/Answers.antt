@@ -1,5 +1,4 @@
 -- `burst::distance` meets its contract: two addresses of one block are less than 4,096 apart. Assumes nothing.
-use Rattle.std.proofs.Common.{rules}
 use mathlib.Core.Path.{sym, ◌∙◌}
 use Prim.Native.Nat.{suc, ◌-◌}
 use native.Mathlib.Omega.{arith}

@@ -1,6 +1,5 @@
 -- `burst::incr_address` meets its contract: the formula of A3.4.1, whose result lies in the block that the start lies in.
 -- Assumes nothing.
-use Rattle.std.proofs.Common.{rules}
 use mathlib.Core.Path.{◌≡◌}
 use Prim.Native.Nat.{◌+◌, ◌*◌}
 use native.Mathlib.Omega.{arith}

@@ -1,6 +1,5 @@
 -- `burst::judge_indexed` meets its contract: a refused burst keeps its refusal, and of an accepted one the index decides.
 -- Assumes nothing.
-use Rattle.std.proofs.Common.{rules}
 use mathlib.Core.Bool.{true, false}
 use mathlib.Core.Path.{◌≡◌, sym, ◌∙◌}
 use Rattle.burst_spec.specs.declared.Judgement.TheVariants.{Accepted}

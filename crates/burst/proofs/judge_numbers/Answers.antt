@@ -1,5 +1,4 @@
 -- `burst::judge_numbers` meets its contract: it judges the burst of these numbers. Assumes nothing.
-use Rattle.std.proofs.Common.{rules}
 use Rattle.burst.proofs.judge_numbers.Goals as goal
 
 pub returns : goal.returns

@@ -1,5 +1,4 @@
 -- `burst::kind_of` meets its contract: a number that is none of 0, 1, 2 is from 3 on. Assumes nothing.
-use Rattle.std.proofs.Common.{rules}
 use Rattle.burst.proofs.Tests.{reserved}
 use Rattle.burst.proofs.kind_of.Goals as goal
 

@@ -1,6 +1,5 @@
 -- `burst::leaves_block` meets its contract: the test of INCR is the 4KB rule, and no other kind can break it.
 -- Assumes nothing.
-use Rattle.std.proofs.Common.{rules}
 use Prim.Native.Nat.{◌+◌}
 use native.Mathlib.Omega.{arith}
 use Rattle.burst_spec.specs.declared.Kind.TheVariants.{Fixed, Wrap}

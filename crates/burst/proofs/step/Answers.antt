@@ -1,6 +1,5 @@
 -- `burst::step` meets its contract: what is refused keeps its refusal, and the step is the difference of two addresses of one
 -- block. Assumes nothing.
-use Rattle.std.proofs.Common.{rules}
 use mathlib.Core.Path.{◌≡◌, sym, ◌∙◌}
 use Prim.Native.Nat.{ℕ, ◌+◌, ◌/◌, ◌<◌}
 use native.Mathlib.Omega.{arith}

@@ -1,5 +1,4 @@
 -- `burst::too_wide` meets its contract, test by test. Assumes nothing.
-use Rattle.std.proofs.Common.{rules}
 use borrow.Author.Tests.{lt-ltb, le-ltb}
 use Rattle.burst_spec.specs.Checks.{axsize_most}
 use Rattle.burst.proofs.too_wide.Goals as goal

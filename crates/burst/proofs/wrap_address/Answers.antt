@@ -1,6 +1,5 @@
 -- `burst::wrap_address` meets its contract: the offset goes round in a container that is a power of two.
 -- Assumes nothing.
-use Rattle.std.proofs.Common.{rules}
 use mathlib.Core.Path.{◌≡◌}
 use Prim.Native.Nat.{◌+◌, ◌*◌}
 use native.Mathlib.Omega.{arith}

@@ -2,7 +2,6 @@
 -- own, since the automatic proof ends at fifteen constructors. A new one is two lines: what the match tells of `r` in the first
 -- list, and its arm in the second (`enum_told` where it has no number of its own, `r` under `before` where it has one).
 -- Assumes nothing.
-use Rattle.std.proofs.Common.{rules}
 use mathlib.Core.Path.{◌≡◌, refl}
 use Rattle.refusal.specs.declared.Refusal.{Refusal}
 use Rattle.refusal.specs.Code.{code_of}

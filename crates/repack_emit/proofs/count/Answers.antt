@@ -1,9 +1,9 @@
 -- `repack_emit::count` meets its contract: entry by entry, what is left to count gets less. Assumes nothing.
 use mathlib.Core.Path.{◌≡◌, refl}
-use Prim.Native.Nat.{◌+◌, ◌-◌, ◌*◌, ◌≤◌}
+use Prim.Native.Nat.{◌+◌}
 use native.Mathlib.Omega.{arith}
 use Rattle.std.proofs.Common.{rules}
-use lib.ListN.{length, drop, drop_of_length-le}
+use lib.ListN.{drop_of_length-le}
 use Rattle.repack_emit.specs.Emit.{count_of}
 use Rattle.repack_emit.proofs.Tables.{count-step}
 use Rattle.repack_emit.proofs.count.Goals as goal

@@ -1,10 +1,7 @@
-use mathlib.Core.Path.{◌≡◌, refl}
+use mathlib.Core.Path.{◌≡◌}
 use Prim.Native.Nat.{◌+◌, ◌-◌, ◌*◌, ◌≤◌}
-use native.Mathlib.Omega.{arith}
-use Rattle.std.proofs.Common.{rules}
-use lib.ListN.{length, drop, drop_of_length-le}
+use lib.ListN.{length, drop}
 use Rattle.repack_emit.specs.Emit.{count_of}
-use Rattle.repack_emit.proofs.Tables.{count-step}
 use Rattle.repack_emit.proofs.count.Given as goal
 
 abbrev pub invariant-loop-k : goal.invariant-loop-k

@@ -1,7 +1,6 @@
 -- `repack_emit::counted` meets its contract: by the list, or by the division. Assumes nothing.
 use native.Mathlib.Omega.{arith}
 use Rattle.repack_emit.proofs.Tables.{records-few}
-use Rattle.std.proofs.Common.{rules}
 use Rattle.repack_emit.proofs.counted.Goals as goal
 
 pub returns-then-n-le16 : goal.returns-then-n-le16

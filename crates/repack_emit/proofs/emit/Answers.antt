@@ -3,7 +3,6 @@ use native.Mathlib.Omega.{arith}
 use Rattle.repack_scratch.specs.Codes.{codes_in, mark_bits}
 use Rattle.repack_scratch.proofs.Held.{length-held}
 use Rattle.repack_emit.proofs.Answer.{product_fits, packed-long, emit_refused, emit_written}
-use Rattle.std.proofs.Common.{rules}
 use Rattle.repack_emit.proofs.emit.Goals as goal
 
 pub overflow_mul-n : goal.overflow_mul-n

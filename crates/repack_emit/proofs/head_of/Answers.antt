@@ -1,6 +1,5 @@
 -- `repack_emit::head_of` meets its contract: its two parts. Assumes nothing.
 use mathlib.Core.Path.{refl}
-use Rattle.std.proofs.Common.{rules}
 use Rattle.repack_emit.proofs.head_of.Goals as goal
 
 pub returns : goal.returns

@@ -1,11 +1,8 @@
 -- `repack_emit::list_counts` meets its contract: entry by entry. Assumes nothing.
-use Prim.Native.Nat.{◌-◌, ◌≤◌}
-use mathlib.Core.Path.{◌≡◌, ◌∙◌}
+use mathlib.Core.Path.{◌∙◌}
 use native.Mathlib.Omega.{arith}
-use lib.ListN.{length, length-set}
-use Rattle.repack_emit.specs.Emit.{Counts}
+use lib.ListN.{length-set}
 use Rattle.repack_emit.proofs.Tables.{counts_more}
-use Rattle.std.proofs.Common.{rules}
 use Rattle.repack_emit.proofs.list_counts.Goals as goal
 
 pub loop-i-init : goal.loop-i-init

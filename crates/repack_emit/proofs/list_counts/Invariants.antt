@@ -1,10 +1,7 @@
 use Prim.Native.Nat.{◌-◌, ◌≤◌}
-use mathlib.Core.Path.{◌≡◌, ◌∙◌}
-use native.Mathlib.Omega.{arith}
-use lib.ListN.{length, length-set}
+use mathlib.Core.Path.{◌≡◌}
+use lib.ListN.{length}
 use Rattle.repack_emit.specs.Emit.{Counts}
-use Rattle.repack_emit.proofs.Tables.{counts_more}
-use Rattle.std.proofs.Common.{rules}
 use Rattle.repack_emit.proofs.list_counts.Given as goal
 
 abbrev pub invariant-loop-i : goal.invariant-loop-i

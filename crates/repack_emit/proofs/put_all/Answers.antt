@@ -1,10 +1,7 @@
 -- `repack_emit::put_all` meets its contract: stretch by stretch, what is left to write gets less. Assumes nothing.
-use Prim.Native.Nat.{◌-◌}
 use native.Mathlib.Omega.{arith}
-use Rattle.std.proofs.Common.{rules}
-use lib.ListN.{length}
 use Rattle.repack_scratch.specs.Codes.{codes_in}
-use Rattle.repack_emit.proofs.Tables.{Packing, packing_starts, total-step, packing_fits, packing_next, packing_done}
+use Rattle.repack_emit.proofs.Tables.{packing_starts, total-step, packing_fits, packing_next, packing_done}
 use Rattle.repack_emit.proofs.put_all.Goals as goal
 
 pub loop-entry-init : goal.loop-entry-init

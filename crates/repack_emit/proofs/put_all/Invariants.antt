@@ -1,9 +1,7 @@
 use Prim.Native.Nat.{◌-◌}
-use native.Mathlib.Omega.{arith}
-use Rattle.std.proofs.Common.{rules}
 use lib.ListN.{length}
 use Rattle.repack_scratch.specs.Codes.{codes_in}
-use Rattle.repack_emit.proofs.Tables.{Packing, packing_starts, total-step, packing_fits, packing_next, packing_done}
+use Rattle.repack_emit.proofs.Tables.{Packing}
 use Rattle.repack_emit.proofs.put_all.Given as goal
 
 abbrev pub invariant-loop-entry : goal.invariant-loop-entry

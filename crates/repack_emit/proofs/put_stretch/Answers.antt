@@ -5,7 +5,6 @@ use Rattle.repack_scratch.specs.Codes.{mark_bits}
 use Rattle.repack_scratch.proofs.Held.{unmarked-held}
 use Rattle.repack_scratch.proofs.Marks.{length-marks}
 use Rattle.repack_emit.proofs.Tables.{head-fits}
-use Rattle.std.proofs.Common.{rules}
 use Rattle.repack_emit.proofs.put_stretch.Goals as goal
 
 pub put_stretch-requires : goal.put_stretch-requires

@@ -4,7 +4,6 @@ use Prim.Native.Nat.{◌-◌, ◌/◌}
 use native.Mathlib.Nat.{div-eq_of_lt}
 use native.Mathlib.Omega.{arith}
 use Rattle.repack_emit.proofs.Tables.{records-few}
-use Rattle.std.proofs.Common.{rules}
 use Rattle.repack_emit.proofs.records_of.Goals as goal
 
 pub returns-then-n-v : goal.returns-then-n-v

@@ -2,7 +2,6 @@
 use mathlib.Core.Path.{◌∙◌}
 use native.Mathlib.Omega.{arith}
 use Rattle.repack_gather.proofs.Lanes.{one_kept}
-use Rattle.std.proofs.Common.{rules}
 use Rattle.repack_gather.proofs.gather.Goals as goal
 
 pub returns-then-lanes-eq1 : goal.returns-then-lanes-eq1

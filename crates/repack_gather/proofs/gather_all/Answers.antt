@@ -3,7 +3,6 @@ use native.Mathlib.Omega.{arith}
 use lib.ListN.{drop}
 use Rattle.stream_spec.proofs.Memory.{lent-rest}
 use Rattle.repack_gather.proofs.Lanes.{all-kept}
-use Rattle.std.proofs.Common.{rules}
 use Rattle.repack_gather.proofs.gather_all.Goals as goal
 
 pub returns-then-from-transfers : goal.returns-then-from-transfers

@@ -3,7 +3,6 @@ use mathlib.Core.Path.{◌∙◌}
 use native.Mathlib.Omega.{arith}
 use lib.ListN.{length}
 use Rattle.repack_gather.proofs.Lanes.{all-kept}
-use Rattle.std.proofs.Common.{rules}
 use Rattle.repack_gather.proofs.gather_lanes.Goals as goal
 
 pub returns-then-keep-full : goal.returns-then-keep-full

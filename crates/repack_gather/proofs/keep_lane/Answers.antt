@@ -1,6 +1,5 @@
 -- `repack_gather::keep_lane` meets its contract, by the law of one lane. Assumes nothing.
 use Rattle.repack_gather.proofs.Lanes.{lane-kept}
-use Rattle.std.proofs.Common.{rules}
 use Rattle.repack_gather.proofs.keep_lane.Goals as goal
 
 pub returns : goal.returns

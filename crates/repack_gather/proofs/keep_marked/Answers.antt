@@ -3,7 +3,6 @@ use mathlib.Core.Path.{refl, sym, ◌∙◌}
 use native.Mathlib.Omega.{arith}
 use Rattle.repack_scratch.proofs.Marks.{mark_at, mark_set}
 use Rattle.repack_gather.proofs.Marked.{mark_of, mark_small}
-use Rattle.std.proofs.Common.{rules}
 use Rattle.repack_gather.proofs.keep_marked.Goals as goal
 
 pub overflow_mul-strb : goal.overflow_mul-strb

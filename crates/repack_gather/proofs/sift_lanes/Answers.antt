@@ -1,8 +1,5 @@
 -- `repack_gather::sift_lanes` meets its contract: lane by lane, what is left to keep gets shorter. Assumes nothing.
-use Prim.Native.Nat.{◌-◌}
-use lib.ListN.{length}
-use Rattle.repack_gather.proofs.Lanes.{Sifting, sifting_starts, sifting_lane, sifting_done}
-use Rattle.std.proofs.Common.{rules}
+use Rattle.repack_gather.proofs.Lanes.{sifting_starts, sifting_lane, sifting_done}
 use Rattle.repack_gather.proofs.sift_lanes.Goals as goal
 
 pub loop-j-init : goal.loop-j-init

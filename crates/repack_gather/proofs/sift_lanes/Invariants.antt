@@ -1,7 +1,6 @@
 use Prim.Native.Nat.{◌-◌}
 use lib.ListN.{length}
-use Rattle.repack_gather.proofs.Lanes.{Sifting, sifting_starts, sifting_lane, sifting_done}
-use Rattle.std.proofs.Common.{rules}
+use Rattle.repack_gather.proofs.Lanes.{Sifting}
 use Rattle.repack_gather.proofs.sift_lanes.Given as goal
 
 abbrev pub invariant-loop-j : goal.invariant-loop-j

@@ -1,12 +1,9 @@
 -- `repack_gather::sift_marked` meets its contract: lane by lane, what is left to keep gets shorter. Assumes nothing.
 use native.Mathlib.Omega.{arith}
 use mathlib.Core.Path.{◌∙◌}
-use Prim.Native.Nat.{◌-◌}
-use lib.ListN.{length}
 use Rattle.repack_scratch.specs.Codes.{mark_bits}
 use Rattle.repack_scratch.proofs.Marks.{length-marks}
-use Rattle.repack_gather.proofs.Marked.{Marking, marking_starts, marking_lane, marking_done}
-use Rattle.std.proofs.Common.{rules}
+use Rattle.repack_gather.proofs.Marked.{marking_starts, marking_lane, marking_done}
 use Rattle.repack_gather.proofs.sift_marked.Goals as goal
 
 pub loop-j-init : goal.loop-j-init

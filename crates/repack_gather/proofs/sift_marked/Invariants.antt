@@ -1,11 +1,7 @@
-use native.Mathlib.Omega.{arith}
-use mathlib.Core.Path.{◌∙◌}
 use Prim.Native.Nat.{◌-◌}
 use lib.ListN.{length}
 use Rattle.repack_scratch.specs.Codes.{mark_bits}
-use Rattle.repack_scratch.proofs.Marks.{length-marks}
-use Rattle.repack_gather.proofs.Marked.{Marking, marking_starts, marking_lane, marking_done}
-use Rattle.std.proofs.Common.{rules}
+use Rattle.repack_gather.proofs.Marked.{Marking}
 use Rattle.repack_gather.proofs.sift_marked.Given as goal
 
 abbrev pub invariant-loop-j : goal.invariant-loop-j

@@ -5,7 +5,6 @@ use native.Mathlib.Omega.{arith}
 use lib.Pow.{pow_pos}
 use Rattle.repack_scratch.proofs.Marks.{mark_at}
 use Rattle.stream_record.proofs.Padding.{shifted_octet}
-use Rattle.std.proofs.Common.{rules}
 use Rattle.repack_marked.proofs.mark.Goals as goal
 
 pub nonzero_div-result-2 : goal.nonzero_div-result-2

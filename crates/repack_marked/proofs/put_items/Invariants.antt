@@ -1,17 +1,11 @@
-use mathlib.Core.Path.{◌≡◌, refl, sym, ap, ◌∙◌}
-use mathlib.Core.List.{List, ◌∷◌, ◌++◌, map}
-use Prim.Native.Nat.{ℕ, ◌+◌, ◌-◌, ◌*◌, ◌≤◌, ◌<◌}
-use native.Mathlib.Omega.{arith}
-use Rattle.std.proofs.Common.{rules}
-use lib.ListN.{length, get_or, take, drop, length-set, length-drop, take-append-drop}
-use lib.Seq.{slice, slice_empty, get_or-drop}
+use mathlib.Core.Path.{◌≡◌}
+use mathlib.Core.List.{List, ◌++◌, map}
+use Prim.Native.Nat.{ℕ, ◌+◌, ◌≤◌}
+use lib.ListN.{length, take, drop}
+use lib.Seq.{slice}
 use Rattle.stream_spec.specs.Layout.{mask_of}
-use Rattle.stream_write.proofs.Fill.{fill_down}
 use Rattle.repack_scratch.specs.Codes.{held_codes, mark_bits}
-use Rattle.repack_scratch.proofs.Held.{length-held, drop-held}
 use Rattle.repack_plain.specs.Write.{item_octet, item_strobe}
-use Rattle.repack_plain.proofs.Lanes.{octets_down, strb_down, slice_small, octet-small}
-use Rattle.repack_marked.proofs.Near.{marks-same}
 use Rattle.repack_marked.proofs.put_items.Given as goal
 
 -- the items from one on

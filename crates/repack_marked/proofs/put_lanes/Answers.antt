@@ -12,7 +12,6 @@ use Rattle.repack_plain.proofs.Lanes.{strb-fits}
 use Rattle.repack_plain.proofs.Memory.{record_written}
 use Rattle.repack_marked.specs.Marked.{items_from}
 use Rattle.repack_marked.proofs.Near.{length_from}
-use Rattle.std.proofs.Common.{rules}
 use Rattle.repack_marked.proofs.put_lanes.Goals as goal
 
 pub put_items-strb-requires : goal.put_items-strb-requires

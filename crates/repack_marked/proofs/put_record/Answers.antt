@@ -9,7 +9,6 @@ use Rattle.repack_scratch.specs.Codes.{mark_bits}
 use Rattle.repack_plain.proofs.Memory.{plain-written}
 use Rattle.stream_spec.proofs.Memory.{lent-rest}
 use Rattle.repack_marked.proofs.Near.{marks-same, near_data}
-use Rattle.std.proofs.Common.{rules}
 use Rattle.repack_marked.proofs.put_record.Goals as goal
 
 pub write_data_header-requires : goal.write_data_header-requires

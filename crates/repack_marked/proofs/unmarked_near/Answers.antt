@@ -1,6 +1,5 @@
 -- `repack_marked::unmarked_near` meets its contract: where four octets are zero no mark of theirs stands. Assumes nothing.
 use mathlib.Core.Path.{sym, ◌∙◌}
-use Rattle.std.proofs.Common.{rules}
 use borrow.Author.Tests.{eqb-true}
 use Rattle.repack_marked.proofs.Near.{unmarked-word}
 use Rattle.repack_marked.proofs.unmarked_near.Goals as goal

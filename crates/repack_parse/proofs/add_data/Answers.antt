@@ -7,7 +7,6 @@ use Rattle.stream_spec.specs.Layout.{of_width}
 use Rattle.stream_spec.proofs.Size.{size_holds}
 use Rattle.repack_parse.proofs.Records.{lanes_ready, end_ready}
 use Rattle.repack_parse.proofs.Lanes.{added_data}
-use Rattle.std.proofs.Common.{rules}
 use Rattle.repack_parse.proofs.add_data.Goals as goal
 
 pub slice_bounds-gather_lanes-end : goal.slice_bounds-gather_lanes-end

@@ -9,7 +9,6 @@ use Rattle.repack_scratch.specs.Codes.{mark_bits}
 use Rattle.repack_scratch.proofs.Marks.{length-marks}
 use Rattle.repack_parse.proofs.Records.{lanes_ready, end_ready}
 use Rattle.repack_parse.proofs.Lanes.{added-marked}
-use Rattle.std.proofs.Common.{rules}
 use Rattle.repack_parse.proofs.add_marked.Goals as goal
 
 pub slice_bounds-sift_marked-end : goal.slice_bounds-sift_marked-end

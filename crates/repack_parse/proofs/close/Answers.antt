@@ -1,6 +1,5 @@
 -- `repack_parse::close` meets its contract: the entry at its place.  Assumes nothing.
 use mathlib.Core.Path.{refl}
-use Rattle.std.proofs.Common.{rules}
 use Rattle.repack_parse.proofs.close.Goals as goal
 
 pub returns : goal.returns

@@ -2,7 +2,6 @@
 use Rattle.repack_parse.proofs.Steps.{end_none, end_close}
 use mathlib.Core.Path.{◌≡◌}
 use native.Mathlib.Omega.{arith}
-use Rattle.std.proofs.Common.{rules}
 use Rattle.repack_parse.proofs.end.Goals as goal
 
 pub returns-then-flags-eq0 : goal.returns-then-flags-eq0

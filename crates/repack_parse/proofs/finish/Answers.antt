@@ -1,6 +1,5 @@
 -- `repack_parse::finish` meets its contract, by a law for each way it returns. Assumes nothing.
 use Rattle.repack_parse.proofs.Steps.{finished, finish_close}
-use Rattle.std.proofs.Common.{rules}
 use Rattle.repack_parse.proofs.finish.Goals as goal
 
 pub returns-then-st : goal.returns-then-st

@@ -1,6 +1,5 @@
 -- `repack_parse::turn` meets its contract, by a law for each way it returns. Assumes nothing.
 use Rattle.repack_parse.proofs.Steps.{turn_empty, turn_close}
-use Rattle.std.proofs.Common.{rules}
 use Rattle.repack_parse.proofs.turn.Goals as goal
 
 pub returns-then-st : goal.returns-then-st

@@ -11,7 +11,6 @@ use Rattle.repack_scratch.proofs.Marks.{length-marks}
 use Rattle.repack_parse.proofs.Faults.{bare_told, told-fits}
 use Rattle.repack_parse.proofs.Records.{added_none}
 use Rattle.repack_parse.proofs.Lanes.{data_marked}
-use Rattle.std.proofs.Common.{rules}
 use Rattle.repack_parse.proofs.unusual.Goals as goal
 
 pub read_header-h-requires : goal.read_header-h-requires

@@ -2,11 +2,6 @@
 use Prim.Native.Nat.{ℕ}
 use mathlib.Core.Path.{subst}
 use Rattle.repack_plain.specs.Write.{Fitting}
-use Rattle.std.proofs.Common.{rules}
-use Rattle.repack_plain.proofs.put_all_but_last.Reads as reads
-use Rattle.repack_plain.proofs.put_all_but_last.Lts as lts
-use Rattle.repack_plain.proofs.put_fulls.Reads as put-fulls-reads
-use Rattle.repack_plain.proofs.put_ones.Reads as put-ones-reads
 use Rattle.repack_plain.proofs.put_all_but_last.Goals as goal
 
 pub put_ones-requires : goal.put_ones-requires

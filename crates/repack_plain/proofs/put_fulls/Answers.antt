@@ -2,9 +2,7 @@
 use mathlib.Core.Path.{refl}
 use mathlib.Core.Bool.{false}
 use native.Mathlib.Omega.{arith}
-use Rattle.std.proofs.Common.{rules}
 use Rattle.stream_spec.specs.Layout.{size, of_width}
-use Rattle.repack_plain.specs.Write.{Advanced}
 use Rattle.repack_plain.proofs.Fulls.{advanced_none, full-room, full-written, lent_codes, lent-room}
 use Rattle.repack_plain.proofs.put_fulls.Goals as goal
 

@@ -3,9 +3,7 @@ use mathlib.Core.Path.{refl, sym, ◌∙◌}
 use mathlib.Core.Bool.{false}
 use Prim.Native.Nat.{◌-◌}
 use native.Mathlib.Omega.{arith}
-use Rattle.std.proofs.Common.{rules}
 use lib.ListN.{length, get_or, take, drop}
-use Rattle.repack_plain.specs.Write.{Advanced}
 use Rattle.repack_plain.proofs.Fulls.{advanced_none, full-room, full-written, one_written, lent-room}
 use Rattle.stream_spec.proofs.Size.{size_bare}
 use Rattle.repack_plain.proofs.put_ones.Goals as goal

@@ -2,7 +2,6 @@
 use native.Mathlib.Omega.{arith}
 use Rattle.stream_spec.proofs.Size.{size_bare}
 use Rattle.repack_plain.proofs.Memory.{plain-written}
-use Rattle.std.proofs.Common.{rules}
 use Rattle.repack_plain.proofs.put_plain.Goals as goal
 
 pub write_data_header-requires : goal.write_data_header-requires

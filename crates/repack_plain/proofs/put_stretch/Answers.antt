@@ -4,12 +4,6 @@ use mathlib.Core.Bool.{false}
 use native.Mathlib.Omega.{arith}
 use Rattle.stream_spec.specs.Layout.{size, odd, of_width}
 use Rattle.repack_plain.proofs.Fulls.{fitting, last-room, last_written, lent_codes, lent-room}
-use Rattle.std.proofs.Common.{rules}
-use Rattle.repack_plain.proofs.put_stretch.Reads as reads
-use Rattle.repack_plain.proofs.put_stretch.Lts as lts
-use Rattle.repack_scratch.proofs.record_size.Reads as record-size-reads
-use Rattle.repack_plain.proofs.put_all_but_last.Reads as put-all-but-last-reads
-use Rattle.repack_plain.proofs.put_plain.Reads as put-plain-reads
 use Rattle.repack_plain.proofs.put_stretch.Goals as goal
 
 pub put_all_but_last-d-requires : goal.put_all_but_last-d-requires

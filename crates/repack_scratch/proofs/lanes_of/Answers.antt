@@ -3,7 +3,6 @@ use native.Mathlib.Omega.{arith}
 use mathlib.Core.Path.{refl}
 use lib.Pow.{pow_pos}
 use Rattle.stream_record.proofs.Field.{shifted}
-use Rattle.std.proofs.Common.{rules}
 use Rattle.repack_scratch.proofs.lanes_of.Goals as goal
 
 pub overflow_sub-result : goal.overflow_sub-result

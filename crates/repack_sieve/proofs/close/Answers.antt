@@ -3,7 +3,6 @@ use native.Mathlib.Omega.{arith}
 use lib.Bits.{bit_and, and_le_l}
 use Rattle.repack_sieve.specs.Sieve.{moved}
 use Rattle.repack_sieve.proofs.Masks.{once_less, closing_less}
-use Rattle.std.proofs.Common.{rules}
 use Rattle.repack_sieve.proofs.close.Goals as goal
 
 pub overflow_sub-c : goal.overflow_sub-c

@@ -4,7 +4,6 @@ use native.Mathlib.Nat.{div-le_self}
 use native.Mathlib.Omega.{arith}
 use Rattle.words.proofs.Words.{shifted_some}
 use Rattle.repack_sieve.proofs.Loaded.{last-octets}
-use Rattle.std.proofs.Common.{rules}
 use Rattle.repack_sieve.proofs.last4.Goals as goal
 
 pub nonzero_div-result : goal.nonzero_div-result

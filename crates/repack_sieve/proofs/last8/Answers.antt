@@ -3,7 +3,6 @@ use Prim.Native.Nat.{◌-◌}
 use native.Mathlib.Omega.{arith}
 use Rattle.words.proofs.Words.{shifted_some}
 use Rattle.repack_sieve.proofs.Loaded.{last-octets}
-use Rattle.std.proofs.Common.{rules}
 use Rattle.repack_sieve.proofs.last8.Goals as goal
 
 pub nonzero_div-result : goal.nonzero_div-result

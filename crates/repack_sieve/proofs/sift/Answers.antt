@@ -1,7 +1,6 @@
 -- `repack_sieve::sift` meets its contract: one word of lanes, or two. Assumes nothing.
 use native.Mathlib.Omega.{arith}
 use Rattle.repack_sieve.proofs.Sifted.{few-lanes, many-lanes}
-use Rattle.std.proofs.Common.{rules}
 use Rattle.repack_sieve.proofs.sift.Goals as goal
 
 pub returns-then-w-le4 : goal.returns-then-w-le4

@@ -3,7 +3,6 @@ use native.Mathlib.Omega.{arith}
 use Prim.Native.Nat.{◌+◌, ◌*◌, ◌%◌}
 use lib.ListN.{get_or}
 use Rattle.repack_sieve.proofs.Sifted.{row_read, rows_long, sifted4}
-use Rattle.std.proofs.Common.{rules}
 use Rattle.repack_sieve.proofs.sift4.Goals as goal
 
 pub bounds-sieve-l : goal.bounds-sieve-l

@@ -4,7 +4,6 @@ use native.Mathlib.Omega.{arith}
 use Prim.Native.Nat.{◌+◌, ◌*◌, ◌/◌, ◌%◌}
 use lib.ListN.{get_or}
 use Rattle.repack_sieve.proofs.Sifted.{row_read, rows_long, sifted8}
-use Rattle.std.proofs.Common.{rules}
 use Rattle.repack_sieve.proofs.sift8.Goals as goal
 
 pub bounds-sieve-l : goal.bounds-sieve-l

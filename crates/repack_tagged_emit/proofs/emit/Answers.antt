@@ -1,7 +1,6 @@
 -- `repack_tagged_emit::emit` meets its contract: ROOM where the records do not fit, else all of them. Assumes nothing.
 use native.Mathlib.Omega.{arith}
 use Rattle.repack_emit.proofs.Answer.{product_fits, packed-long, emit_refused, emit_written}
-use Rattle.std.proofs.Common.{rules}
 use Rattle.repack_tagged_emit.proofs.emit.Goals as goal
 
 pub overflow_mul-n : goal.overflow_mul-n

@@ -1,9 +1,8 @@
 -- `repack_tagged_emit::put_all` meets its contract: stretch by stretch, what is left to write gets less. Assumes nothing.
 use mathlib.Core.Path.{◌≡◌}
 use mathlib.Core.List.{List}
-use Prim.Native.Nat.{ℕ, ◌+◌, ◌-◌, ◌≤◌, ◌<◌}
+use Prim.Native.Nat.{ℕ, ◌+◌, ◌≤◌, ◌<◌}
 use native.Mathlib.Omega.{arith}
-use Rattle.std.proofs.Common.{rules}
 use lib.ListN.{length, get_or, take}
 use Rattle.stream_spec.specs.declared.Shape.{Shape}
 use Rattle.repack_scratch.specs.Codes.{entry_count, total}

@@ -7,7 +7,6 @@ use Rattle.stream_spec.proofs.Memory.{lent-long, lent-writes}
 use Rattle.repack_scratch.specs.Codes.{pair_from}
 use Rattle.repack_plain.specs.Write.{record_at}
 use Rattle.repack_plain.proofs.Stretches.{record_long}
-use Rattle.std.proofs.Common.{rules}
 use Rattle.repack_tagged_emit.proofs.put_at.Goals as goal
 
 pub returns : goal.returns

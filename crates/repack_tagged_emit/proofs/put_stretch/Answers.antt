@@ -3,7 +3,6 @@ use mathlib.Core.Path.{◌≡◌, refl, ◌∙◌}
 use mathlib.Core.List.{List}
 use Prim.Native.Nat.{ℕ, ◌+◌, ◌≤◌}
 use native.Mathlib.Omega.{arith}
-use Rattle.std.proofs.Common.{rules}
 use lib.ListN.{take}
 use Rattle.stream_spec.specs.declared.Shape.{Shape}
 use Rattle.repack_tags.specs.Tags.{TagsFit, RecordFits}
@@ -11,7 +10,7 @@ use Rattle.repack_tags.proofs.Lanes.{fit_part}
 use Rattle.repack_plain.specs.declared.Cursor.{Cursor}
 use Rattle.repack_plain.specs.declared.Head.{Head}
 use Rattle.repack_plain.specs.Write.{HeadFits, StretchFits}
-use Rattle.repack_plain.proofs.Going.{Going, inside, inside-fits, going_starts, going_held, full-room, full-next, last-room, last_done}
+use Rattle.repack_plain.proofs.Going.{inside, inside-fits, going_starts, going_held, full-room, full-next, last-room, last_done}
 use Rattle.repack_tagged_emit.proofs.put_stretch.Goals as goal
 
 -- a record of n of the items that are left of a stretch

@@ -1,16 +1,4 @@
-use mathlib.Core.Path.{◌≡◌, refl, ◌∙◌}
-use mathlib.Core.List.{List}
-use Prim.Native.Nat.{ℕ, ◌+◌, ◌≤◌}
-use native.Mathlib.Omega.{arith}
-use Rattle.std.proofs.Common.{rules}
-use lib.ListN.{take}
-use Rattle.stream_spec.specs.declared.Shape.{Shape}
-use Rattle.repack_tags.specs.Tags.{TagsFit, RecordFits}
-use Rattle.repack_tags.proofs.Lanes.{fit_part}
-use Rattle.repack_plain.specs.declared.Cursor.{Cursor}
-use Rattle.repack_plain.specs.declared.Head.{Head}
-use Rattle.repack_plain.specs.Write.{HeadFits, StretchFits}
-use Rattle.repack_plain.proofs.Going.{Going, inside, inside-fits, going_starts, going_held, full-room, full-next, last-room, last_done}
+use Rattle.repack_plain.proofs.Going.{Going}
 use Rattle.repack_tagged_emit.proofs.put_stretch.Given as goal
 
 abbrev pub invariant-loop-left : goal.invariant-loop-left

@@ -6,7 +6,6 @@ use lib.ListN.{take, drop}
 use Rattle.stream_spec.proofs.Size.{size_holds}
 use Rattle.repack_parse.proofs.Records.{end_ready}
 use Rattle.repack_tagged_parse.proofs.Parsing.{added-tagged}
-use Rattle.std.proofs.Common.{rules}
 use Rattle.repack_tagged_parse.proofs.add_record.Goals as goal
 
 pub slice_bounds-sift_tagged-end : goal.slice_bounds-sift_tagged-end

@@ -1,16 +1,6 @@
-use mathlib.Core.Path.{◌≡◌, sym, ◌∙◌}
-use mathlib.Core.List.{List}
-use Prim.Native.Nat.{ℕ, ◌-◌, ◌<◌}
-use native.Mathlib.Omega.{arith}
-use Rattle.std.proofs.Common.{rules}
+use Prim.Native.Nat.{◌-◌}
 use lib.ListN.{length}
-use Rattle.stream_spec.specs.declared.Shape.{Shape}
-use Rattle.stream_spec.specs.Layout.{size}
-use Rattle.stream_spec.proofs.Size.{size_pos}
-use Rattle.stream_spec.proofs.Passed.{passed_narrow}
-use Rattle.repack_scratch.specs.declared.Open.{Open}
-use Rattle.repack_parse.proofs.Take.{reading-closes}
-use Rattle.repack_tagged_parse.proofs.Parsing.{Parsing, parsing_starts, parsing_done, parsing_fits, parsing_needs, parsing_refused, parsing_next}
+use Rattle.repack_tagged_parse.proofs.Parsing.{Parsing}
 use Rattle.repack_tagged_parse.proofs.parse.Given as goal
 
 abbrev pub invariant-loop-at : goal.invariant-loop-at

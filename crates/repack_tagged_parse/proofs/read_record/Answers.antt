@@ -10,7 +10,6 @@ use Rattle.stream_record.proofs.RecordFaults.{told-field, told-reserved, told-so
 use Rattle.repack_parse.specs.Read.{Carries}
 use Rattle.repack_parse.proofs.Faults.{told-fits}
 use Rattle.repack_parse.proofs.Records.{added_none}
-use Rattle.std.proofs.Common.{rules}
 use Rattle.repack_tagged_parse.proofs.read_record.Goals as goal
 
 pub nonzero_div-result : goal.nonzero_div-result

@@ -1,9 +1,8 @@
 -- `repack_tags::put_items` meets its contract: item by item, from the last one down. Assumes nothing.
 use Prim.Native.Nat.{◌+◌, ◌-◌}
 use native.Mathlib.Omega.{arith}
-use lib.ListN.{get_or, take, drop}
-use Rattle.repack_tags.proofs.Putting.{octet-small, Putting, putting_starts, strb-small, user-small, user-moved, putting_item, putting_done}
-use Rattle.std.proofs.Common.{rules}
+use lib.ListN.{get_or}
+use Rattle.repack_tags.proofs.Putting.{octet-small, putting_starts, strb-small, user-small, user-moved, putting_item, putting_done}
 use Rattle.repack_tags.proofs.put_items.Goals as goal
 
 pub loop-j-init : goal.loop-j-init

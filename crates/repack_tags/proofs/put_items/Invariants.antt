@@ -1,8 +1,5 @@
-use Prim.Native.Nat.{◌+◌, ◌-◌}
-use native.Mathlib.Omega.{arith}
-use lib.ListN.{get_or, take, drop}
-use Rattle.repack_tags.proofs.Putting.{octet-small, Putting, putting_starts, strb-small, user-small, user-moved, putting_item, putting_done}
-use Rattle.std.proofs.Common.{rules}
+use lib.ListN.{take, drop}
+use Rattle.repack_tags.proofs.Putting.{Putting}
 use Rattle.repack_tags.proofs.put_items.Given as goal
 
 abbrev pub invariant-loop-j : goal.invariant-loop-j

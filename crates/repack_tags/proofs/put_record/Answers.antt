@@ -13,7 +13,6 @@ use Rattle.stream_spec.proofs.Size.{size_is}
 use Rattle.stream_record.proofs.Field.{shifted}
 use Rattle.repack_tags.specs.declared.Tags.{Tags}
 use Rattle.repack_tags.proofs.Putting.{strobes-small, record_written}
-use Rattle.std.proofs.Common.{rules}
 use Rattle.repack_tags.proofs.put_record.Goals as goal
 
 few : (items : List ℕ) (from n : ℕ) → from + n ≤ length items → length (take n (drop from items)) ≡ n

@@ -1,11 +1,9 @@
 -- `repack_tags::sift_tagged` meets its contract: lane by lane, what is left to keep gets shorter. Assumes nothing.
 use mathlib.Core.Path.{ap}
 use native.Mathlib.Omega.{arith}
-use Prim.Native.Nat.{ℕ, ◌-◌, ◌%◌}
-use lib.ListN.{length}
+use Prim.Native.Nat.{ℕ, ◌%◌}
 use lib.Pow.{pow_pos}
-use Rattle.repack_tags.proofs.Sifting.{shifted, lane-bits, Sifting, sifting_starts, sifting_lane, sifting_done}
-use Rattle.std.proofs.Common.{rules}
+use Rattle.repack_tags.proofs.Sifting.{shifted, lane-bits, sifting_starts, sifting_lane, sifting_done}
 use Rattle.repack_tags.proofs.sift_tagged.Goals as goal
 
 pub loop-j-init : goal.loop-j-init

@@ -1,10 +1,6 @@
-use mathlib.Core.Path.{ap}
-use native.Mathlib.Omega.{arith}
-use Prim.Native.Nat.{ℕ, ◌-◌, ◌%◌}
+use Prim.Native.Nat.{◌-◌}
 use lib.ListN.{length}
-use lib.Pow.{pow_pos}
-use Rattle.repack_tags.proofs.Sifting.{shifted, lane-bits, Sifting, sifting_starts, sifting_lane, sifting_done}
-use Rattle.std.proofs.Common.{rules}
+use Rattle.repack_tags.proofs.Sifting.{Sifting}
 use Rattle.repack_tags.proofs.sift_tagged.Given as goal
 
 abbrev pub invariant-loop-j : goal.invariant-loop-j

@@ -2,7 +2,6 @@
 -- nothing.
 use native.Mathlib.Omega.{arith}
 use Rattle.stream_data.proofs.DataPart.{part-refused, part-inside, part-present}
-use Rattle.std.proofs.Common.{rules}
 use Rattle.stream_data.proofs.data_octets.Goals as goal
 
 pub returns-then-start-eq0 : goal.returns-then-start-eq0

@@ -3,7 +3,6 @@ use native.Mathlib.Omega.{arith}
 use Rattle.stream_spec.proofs.Passed.{passed_narrow}
 use Rattle.stream_spec.proofs.Promises.{data_there}
 use Rattle.stream_data.proofs.DataPart.{found_there, no_start, part-within, start-present}
-use Rattle.std.proofs.Common.{rules}
 use Rattle.stream_data.proofs.data_start.Goals as goal
 
 pub returns-in_default : goal.returns-in_default

@@ -3,7 +3,6 @@ use Rattle.stream_spec.proofs.Passed.{passed_narrow}
 use Rattle.stream_spec.proofs.Size.{size_pos}
 use Rattle.stream_record.proofs.Tests.{take-passed}
 use Rattle.stream_data.proofs.DataPart.{looked_refused, looked_index, looked_present}
-use Rattle.std.proofs.Common.{rules}
 use Rattle.stream_data.proofs.find_data.Goals as goal
 
 pub record_size-requires : goal.record_size-requires

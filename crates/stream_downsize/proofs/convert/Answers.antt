@@ -1,5 +1,4 @@
 -- `stream_downsize::convert` meets its contract: the first fault, or the slices of all records. Assumes nothing.
-use Rattle.std.proofs.Common.{rules}
 use Rattle.stream_spec.specs.Layout.{records}
 use Rattle.stream_spec.specs.Checks.{transfer_checks}
 use Rattle.stream_record.proofs.Tests.{refused-is, passed_is}

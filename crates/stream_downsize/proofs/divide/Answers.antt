@@ -1,5 +1,4 @@
 -- `stream_downsize::divide` meets its contract: the ratio, then the length, in the order of the checks. Assumes nothing.
-use Rattle.std.proofs.Common.{rules}
 use borrow.Author.Tests.{eq-eqb, ne_eqb}
 use mathlib.Core.Path.{◌≡◌, refl}
 use mathlib.Core.Bool.{false}

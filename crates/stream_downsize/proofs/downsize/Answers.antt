@@ -1,5 +1,4 @@
 -- `stream_downsize::downsize` meets its contract: the widths first, in the order of the checks. Assumes nothing.
-use Rattle.std.proofs.Common.{rules}
 use mathlib.Core.List.{[], ◌∷◌}
 use Rattle.stream_spec.specs.Checks.{shape_checks}
 use Rattle.stream_record.proofs.Tests.{refused-is, passed_is}

@@ -3,13 +3,13 @@
 -- ---- what is known in a turn, and what is known behind the loop's end
 -- ---- the needs
 use mathlib.Core.List.{List}
-use Prim.Native.Nat.{ℕ, ◌+◌, ◌-◌, ◌≤◌}
+use Prim.Native.Nat.{ℕ, ◌+◌, ◌≤◌}
 use native.Mathlib.Omega.{arith}
 use lib.ListN.{length}
 use Rattle.stream_spec.proofs.Size.{size_pos}
 use Rattle.stream_spec.proofs.Walk.{record_fits}
 use Rattle.stream_downsize.proofs.Slices.{input_narrow}
-use Rattle.stream_downsize.proofs.Take.{Sliding, sliding_starts, sliding_asks, sliding_next, sliding_done}
+use Rattle.stream_downsize.proofs.Take.{sliding_starts, sliding_asks, sliding_next, sliding_done}
 use Rattle.stream_downsize.proofs.put_all.Goals as goal
 
 pub record_size-z-requires : goal.record_size-z-requires

@@ -1,5 +1,4 @@
 -- `stream_downsize::put_at` meets its contract: what the lent part comes back as. Assumes nothing.
-use Rattle.std.proofs.Common.{rules}
 use mathlib.Core.Path.{refl}
 use Prim.Native.Nat.{◌-◌}
 use lib.ListN.{length}

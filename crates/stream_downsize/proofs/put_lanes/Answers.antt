@@ -2,9 +2,9 @@
 use Rattle.std.proofs.Common.{rules}
 use mathlib.Core.Path.{◌≡◌, refl, sym, ap, ◌∙◌}
 use mathlib.Core.List.{List, ◌++◌}
-use Prim.Native.Nat.{ℕ, ◌+◌, ◌-◌, ◌≤◌}
+use Prim.Native.Nat.{ℕ, ◌+◌, ◌-◌}
 use native.Mathlib.Omega.{arith}
-use lib.ListN.{length, take, drop, length-set, take-append-drop}
+use lib.ListN.{take, drop, length-set, take-append-drop}
 use Rattle.stream_write.proofs.Fill.{fill_down}
 use Rattle.stream_downsize.specs.Slices.{data_in}
 use Rattle.stream_downsize.proofs.Lanes.{data_none, data_down}

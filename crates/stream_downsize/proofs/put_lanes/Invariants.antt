@@ -1,12 +1,8 @@
-use Rattle.std.proofs.Common.{rules}
-use mathlib.Core.Path.{◌≡◌, refl, sym, ap, ◌∙◌}
-use mathlib.Core.List.{List, ◌++◌}
-use Prim.Native.Nat.{ℕ, ◌+◌, ◌-◌, ◌≤◌}
-use native.Mathlib.Omega.{arith}
-use lib.ListN.{length, take, drop, length-set, take-append-drop}
-use Rattle.stream_write.proofs.Fill.{fill_down}
+use mathlib.Core.Path.{◌≡◌}
+use mathlib.Core.List.{◌++◌}
+use Prim.Native.Nat.{◌+◌, ◌≤◌}
+use lib.ListN.{length, take, drop}
 use Rattle.stream_downsize.specs.Slices.{data_in}
-use Rattle.stream_downsize.proofs.Lanes.{data_none, data_down}
 use Rattle.stream_downsize.proofs.put_lanes.Given as goal
 
 abbrev pub invariant-loop-j : goal.invariant-loop-j

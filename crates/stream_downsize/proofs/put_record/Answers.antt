@@ -1,5 +1,4 @@
 -- `stream_downsize::put_record` meets its contract: data octets, user bits and header make the slice. Assumes nothing.
-use Rattle.std.proofs.Common.{rules}
 use mathlib.Core.Path.{◌≡◌, refl}
 use Prim.Native.Nat.{◌*◌, ◌%◌, ◌^◌}
 use native.Mathlib.Nat.{mod-lt}

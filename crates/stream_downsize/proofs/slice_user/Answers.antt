@@ -1,9 +1,8 @@
 -- `stream_downsize::slice_user` meets its contract: lane by lane, from the last one down. Assumes nothing.
-use Rattle.std.proofs.Common.{rules}
 use Prim.Native.Nat.{◌-◌, ◌*◌, ◌≤◌, ◌<◌}
 use native.Mathlib.Nat.{mul-le-mul}
 use native.Mathlib.Omega.{arith}
-use Rattle.stream_downsize.proofs.Lanes.{Tagging, tagging_starts, tagging_fits, tagging_lane, tagging_done}
+use Rattle.stream_downsize.proofs.Lanes.{tagging_starts, tagging_fits, tagging_lane, tagging_done}
 use Rattle.stream_downsize.proofs.slice_user.Goals as goal
 
 pub loop-j-init : goal.loop-j-init

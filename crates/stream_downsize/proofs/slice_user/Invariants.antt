@@ -1,8 +1,4 @@
-use Rattle.std.proofs.Common.{rules}
-use Prim.Native.Nat.{◌-◌, ◌*◌, ◌≤◌, ◌<◌}
-use native.Mathlib.Nat.{mul-le-mul}
-use native.Mathlib.Omega.{arith}
-use Rattle.stream_downsize.proofs.Lanes.{Tagging, tagging_starts, tagging_fits, tagging_lane, tagging_done}
+use Rattle.stream_downsize.proofs.Lanes.{Tagging}
 use Rattle.stream_downsize.proofs.slice_user.Given as goal
 
 abbrev pub invariant-loop-j : goal.invariant-loop-j

@@ -1,5 +1,4 @@
 -- `stream_downsize::user_if` meets its contract: the lane's bits or 0. Assumes nothing.
-use Rattle.std.proofs.Common.{rules}
 use borrow.Author.Tests.{eq-eqb, ne_eqb}
 use mathlib.Core.Path.{refl}
 use Prim.Native.Nat.{◌%◌}

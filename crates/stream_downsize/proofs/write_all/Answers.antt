@@ -1,5 +1,4 @@
 -- `stream_downsize::write_all` meets its contract: ROOM where the slices do not fit, else all of them. Assumes nothing.
-use Rattle.std.proofs.Common.{rules}
 use mathlib.Core.Path.{◌≡◌, sym, ap, ◌∙◌, subst}
 use mathlib.Core.List.{List}
 use Prim.Native.Nat.{ℕ}

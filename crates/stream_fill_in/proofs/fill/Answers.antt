@@ -10,7 +10,6 @@ use lib.Seq.{length-take-le}
 use Rattle.stream_spec.specs.Checks.{capture_most}
 use Rattle.stream_spec.proofs.Passed.{passed_narrow}
 use Rattle.stream_spec.proofs.Size.{size_pos}
-use Rattle.stream_fill_in.specs.Filling.{Filling}
 use Rattle.stream_fill_in.proofs.Laws.{filling_start, fits, filling_more, filling_end}
 use Rattle.stream_fill_in.proofs.fill.Goals as goal
 

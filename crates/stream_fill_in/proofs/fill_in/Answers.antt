@@ -1,7 +1,6 @@
 -- `stream_fill_in::fill_in` meets its contract: the tests in paper 01's order, then the records. Assumes nothing.
 use Rattle.stream_record.proofs.Tests.{take-passed}
 use Rattle.stream_fill_in.proofs.Laws.{refused, filled}
-use Rattle.std.proofs.Common.{rules}
 use Rattle.stream_fill_in.proofs.fill_in.Goals as goal
 
 pub fill-requires : goal.fill-requires

@@ -1,6 +1,5 @@
 -- `stream_fill_in::put_last` meets its contract: one octet is stored. Assumes nothing.
 use native.Mathlib.Omega.{arith}
-use Rattle.std.proofs.Common.{rules}
 use Rattle.stream_fill_in.proofs.Laws.{last_set}
 use Rattle.stream_fill_in.proofs.put_last.Goals as goal
 

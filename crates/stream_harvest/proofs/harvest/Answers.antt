@@ -3,7 +3,6 @@ use mathlib.Core.Path.{◌≡◌}
 use mathlib.Core.List.{List}
 use Prim.Native.Nat.{ℕ}
 use native.Mathlib.Omega.{arith}
-use Rattle.std.proofs.Common.{rules}
 use Rattle.stream_spec.specs.declared.Shape.{Shape}
 use Rattle.stream_spec.specs.declared.Verdict.TheVariants.{Clean}
 use Rattle.stream_harvest.proofs.Answer.{harvest-refused, harvest-broken, clean_narrow, clean-short, harvest-room, harvest-fits, harvest-written}

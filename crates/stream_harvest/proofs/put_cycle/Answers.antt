@@ -1,6 +1,5 @@
 -- `stream_harvest::put_cycle` meets its contract: a cycle with no transfer adds nothing, another one its record. Assumes nothing.
 use native.Mathlib.Omega.{arith}
-use Rattle.std.proofs.Common.{rules}
 use Rattle.stream_harvest.proofs.Cycle.{put_none, put_room, put_one}
 use Rattle.stream_harvest.proofs.put_cycle.Goals as goal
 

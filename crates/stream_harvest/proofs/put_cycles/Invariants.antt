@@ -1,15 +1,9 @@
-use mathlib.Core.Path.{◌≡◌, sym, ◌∙◌}
-use mathlib.Core.List.{List}
-use Prim.Native.Nat.{ℕ, ◌+◌, ◌-◌, ◌≤◌}
-use native.Mathlib.Omega.{arith}
+use mathlib.Core.Path.{◌≡◌}
+use Prim.Native.Nat.{◌-◌}
 use lib.ListN.{length}
 use Rattle.stream_spec.specs.declared.Shape.{Shape}
 use Rattle.stream_spec.specs.Layout.{size as size_of}
-use Rattle.stream_spec.proofs.Passed.{passed_narrow}
-use Rattle.stream_spec.proofs.Size.{size_pos}
-use Rattle.stream_spec.proofs.Walk.{record_fits}
 use Rattle.stream_harvest.specs.Filling.{Filling}
-use Rattle.stream_harvest.proofs.Fill.{filling_start, asks, adds, goes_on, filled}
 use Rattle.stream_harvest.proofs.put_cycles.Given as goal
 
 abbrev pub invariant-loop-at : goal.invariant-loop-at

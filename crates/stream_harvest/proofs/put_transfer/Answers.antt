@@ -10,7 +10,6 @@ use Rattle.words.specs.Splice.{splice}
 use Rattle.words.specs.Words.{octets_of_word}
 use Rattle.words.proofs.Words.{word-take}
 use Rattle.stream_harvest.proofs.Copied.{part-long, group_is, copied, copied_long, copied_over, copied_all}
-use Rattle.std.proofs.Common.{rules}
 use Rattle.stream_harvest.proofs.put_transfer.Goals as goal
 
 pub place-requires : goal.place-requires

@@ -1,19 +1,10 @@
 use mathlib.Core.Path.{◌≡◌}
-use mathlib.Core.Bool.{Bool, true, false}
-use mathlib.Core.List.{List}
-use Prim.Native.Nat.{ℕ, ◌+◌, ◌-◌, ◌≤◌}
-use native.Mathlib.Omega.{arith}
+use Prim.Native.Nat.{◌-◌}
 use lib.ListN.{length}
 use Rattle.stream_spec.specs.declared.Shape.{Shape}
 use Rattle.stream_spec.specs.Layout as layout
-use Rattle.stream_spec.specs.Checks.{field_fault, cycle_flags}
-use Rattle.stream_spec.specs.Handshake.{Finding, finding}
-use Rattle.stream_spec.specs.Walk.{record_at}
-use Rattle.stream_spec.proofs.Passed.{passed_narrow}
-use Rattle.stream_spec.proofs.Size.{size_pos, size_holds}
-use Rattle.stream_spec.proofs.Walk.{record_fits, record_long}
+use Rattle.stream_spec.specs.Handshake.{finding}
 use Rattle.stream_judge.specs.Scan.{Looking, Behind}
-use Rattle.stream_judge.proofs.Turns.{fault_is, looks_clear, looking_start, looks_bad, looks_on, looks_end}
 use Rattle.stream_judge.proofs.broken.Given as goal
 
 -- the loop does not read the shape: it is any that fits

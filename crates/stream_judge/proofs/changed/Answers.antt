@@ -4,7 +4,6 @@ use Prim.Native.Nat.{ℕ, ◌-◌}
 use native.Mathlib.Omega.{arith}
 use lib.ListN.{length}
 use Rattle.stream_judge.proofs.Differ.{Same, joined, group_same, differs-last, differs_group, ends_8, ends_same, ends_more}
-use Rattle.std.proofs.Common.{rules}
 use Rattle.stream_judge.proofs.changed.Goals as goal
 
 pub returns-then-prev-rec : goal.returns-then-prev-rec

@@ -1,7 +1,5 @@
 -- `stream_judge::clear_of_reset` meets its contract: one flag after the other. Assumes nothing.
 use mathlib.Core.Path.{refl, sym, ◌∙◌}
-use Rattle.std.proofs.Common.{rules}
-use borrow.Author.Tests.{not-true, not-false}
 use Rattle.stream_judge.proofs.clear_of_reset.Goals as goal
 
 pub returns-then-not-aresetn : goal.returns-then-not-aresetn

@@ -5,7 +5,6 @@ use Rattle.stream_spec.specs.Checks.{cycle_flags}
 use Rattle.stream_spec.proofs.Size.{size_holds}
 use Rattle.stream_record.specs.Header.{header_of, header_fault}
 use Rattle.stream_judge.proofs.Turns.{cycle-head, cycle_padding, cycle-sound}
-use Rattle.std.proofs.Common.{rules}
 use Rattle.stream_judge.proofs.cycle_fault.Goals as goal
 
 pub breaks-requires : goal.breaks-requires

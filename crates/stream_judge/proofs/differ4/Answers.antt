@@ -1,7 +1,6 @@
 -- `stream_judge::differ4` meets its contract: words are equal where their octets are. Assumes nothing.
 use native.Mathlib.Omega.{arith}
 use Rattle.stream_judge.proofs.Differ.{words_differ}
-use Rattle.std.proofs.Common.{rules}
 use Rattle.stream_judge.proofs.differ4.Goals as goal
 
 pub returns : goal.returns

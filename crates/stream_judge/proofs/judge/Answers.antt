@@ -1,7 +1,6 @@
 -- `stream_judge::judge` meets its contract: the tests in paper 01's order, then padding and the cycles. Assumes nothing.
 use Rattle.stream_record.proofs.Tests.{take-passed}
 use Rattle.stream_judge.proofs.Turns.{judged_refused, judged_cycles}
-use Rattle.std.proofs.Common.{rules}
 use Rattle.stream_judge.proofs.judge.Goals as goal
 
 pub judge_passed-requires : goal.judge_passed-requires

@@ -7,7 +7,6 @@ use Rattle.stream_spec.proofs.Passed.{passed_narrow}
 use Rattle.stream_spec.proofs.Legal.{octets-of, pieces-octets}
 use Rattle.stream_record.proofs.Tests.{refused-is, passed_is}
 use Rattle.stream_judge.proofs.Turns.{full_unpadded, found_unpadded, field-refused}
-use Rattle.std.proofs.Common.{rules}
 use Rattle.stream_judge.proofs.judge_passed.Goals as goal
 
 pub user_rest-requires : goal.user_rest-requires

@@ -1,5 +1,4 @@
 -- `stream_judge::moved` meets its contract: nothing is compared unless the record before waited. Assumes nothing.
-use Rattle.std.proofs.Common.{rules}
 use Rattle.stream_judge.proofs.moved.Goals as goal
 
 pub changed-requires : goal.changed-requires

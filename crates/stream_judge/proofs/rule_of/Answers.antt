@@ -2,12 +2,10 @@
 use mathlib.Core.Path.{◌≡◌, sym, ◌∙◌}
 use mathlib.Core.Bool.{Bool, true, false, ◌&&◌, cond}
 use mathlib.Core.Option.{some}
-use borrow.Author.Tests.{not-true, not-false}
 use Rattle.stream_spec.specs.Layout.{bit, tvalid_bit, aresetn_bit, lane_types, any_reserved}
 use Rattle.stream_spec.specs.Handshake.{differs}
 use Rattle.stream_judge.specs.Scan.{before_of, lowest_rule}
 use Rattle.stream_judge.proofs.Rules.{rule_1, rule_0_reset, rule_2, rule_0_idle, rule_3, rule_4, reserved-is, moved_needs}
-use Rattle.std.proofs.Common.{rules}
 use Rattle.stream_judge.proofs.rule_of.Goals as goal
 
 pub returns-then-valid : goal.returns-then-valid

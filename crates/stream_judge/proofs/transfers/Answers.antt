@@ -1,8 +1,6 @@
 -- `stream_judge::transfers` meets its contract: one flag after the other. Assumes nothing.
 use mathlib.Core.Path.{◌≡◌, refl, sym, ◌∙◌}
-use mathlib.Core.Bool.{true, false}
-use Rattle.std.proofs.Common.{rules}
-use borrow.Author.Tests.{not-true, not-false}
+use mathlib.Core.Bool.{true}
 use Rattle.stream_spec.specs.Layout.{bit, tvalid_bit, aresetn_bit}
 use Rattle.stream_judge.proofs.transfers.Goals as goal
 

@@ -3,7 +3,6 @@ use mathlib.Core.Path.{refl}
 use borrow.Author.Tests.{lt-ltb, le-ltb}
 use lib.ListN.{length}
 use Rattle.stream_spec.proofs.Size.{size_pos}
-use Rattle.std.proofs.Common.{rules}
 use Rattle.stream_record.proofs.bad_length.Goals as goal
 
 pub returns-then-n-gt-CAPTURE_MOST : goal.returns-then-n-gt-CAPTURE_MOST

@@ -2,7 +2,6 @@
 use native.Mathlib.Omega.{arith}
 use Rattle.stream_spec.proofs.Size.{size_pos}
 use Rattle.stream_record.proofs.Padding.{padding_clear, padding_set}
-use Rattle.std.proofs.Common.{rules}
 use Rattle.stream_record.proofs.bad_padding.Goals as goal
 
 pub returns-then-n-eq0 : goal.returns-then-n-eq0

@@ -1,6 +1,5 @@
 -- `stream_record::field_fault` meets its contract: one test after the other, as the definition has them. Assumes nothing.
 use Rattle.stream_record.proofs.Field.{flags_fault, tdest_fault, keep_fault, strb_fault}
-use Rattle.std.proofs.Common.{rules}
 use Rattle.stream_record.proofs.field_fault.Goals as goal
 
 pub returns-then-used-h : goal.returns-then-used-h

@@ -1,5 +1,4 @@
 -- `stream_record::load_user` meets its contract: a word is loaded, and the octets before the user bits are shifted out. Assumes nothing.
-use Rattle.std.proofs.Common.{rules}
 use native.Mathlib.Omega.{arith}
 use Rattle.stream_record.proofs.Users.{none_loaded, eight-before, user_loaded}
 use Rattle.stream_record.proofs.load_user.Goals as goal

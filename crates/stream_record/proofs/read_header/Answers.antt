@@ -1,5 +1,4 @@
 -- `stream_record::read_header` meets its contract: it reads the fields where the layout has them. Assumes nothing.
-use Rattle.std.proofs.Common.{rules}
 use Rattle.stream_record.proofs.read_header.Goals as goal
 
 pub returns : goal.returns

@@ -6,7 +6,6 @@ use Rattle.stream_spec.specs.declared.Shape.{Shape}
 use Rattle.stream_spec.specs.Answers.{Repacked}
 use Rattle.stream_repack.specs.Tests.{input_checks}
 use Rattle.stream_repack.proofs.Answer.{bare_shape}
-use Rattle.std.proofs.Common.{rules}
 use Rattle.stream_repack.proofs.convert.Goals as goal
 
 pub convert_bare-requires : goal.convert_bare-requires

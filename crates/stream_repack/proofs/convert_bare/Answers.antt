@@ -7,7 +7,6 @@ use Rattle.repack_scratch.specs.Codes.{item_room, mark_room, stretch_room, codes
 use Rattle.repack_scratch.proofs.Marks.{zeros-unmarked}
 use Rattle.repack_parse.specs.Read.{Taken}
 use Rattle.stream_repack.proofs.Answer.{tests_passed, bad_record, table_fits, prefix_long, prefix_short, marks_ready, no_fault}
-use Rattle.std.proofs.Common.{rules}
 use Rattle.stream_repack.proofs.convert_bare.Goals as goal
 
 pub parse-p-requires : goal.parse-p-requires

@@ -2,14 +2,13 @@
 -- Assumes nothing.
 -- ---- a take without fault, from where its table is known
 -- ---- the needs
-use mathlib.Core.Path.{◌≡◌, ◌∙◌}
+use mathlib.Core.Path.{◌∙◌}
 use mathlib.Core.List.{List}
 use Prim.Native.Nat.{ℕ}
 use lib.ListN.{length-replicate}
 use Rattle.repack_scratch.specs.Codes.{item_room, stretch_room}
 use Rattle.repack_tagged_parse.specs.Read.{Taken}
 use Rattle.stream_repack.proofs.Answer.{tests_passed, bad_record, table_fits, prefix_long, prefix_short, codes_ready, no_fault}
-use Rattle.std.proofs.Common.{rules}
 use Rattle.stream_repack.proofs.convert_tagged.Goals as goal
 
 pub parse-p-requires : goal.parse-p-requires

@@ -2,7 +2,6 @@
 use Rattle.stream_repack.specs.Tests.{input_checks}
 use Rattle.stream_record.proofs.Tests.{refused-is, passed_is}
 use Rattle.stream_repack.proofs.Answer.{not_passed}
-use Rattle.std.proofs.Common.{rules}
 use Rattle.stream_repack.proofs.repack.Goals as goal
 
 pub convert-requires : goal.convert-requires

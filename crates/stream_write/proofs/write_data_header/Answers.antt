@@ -4,10 +4,6 @@ use Prim.Native.Nat.{◌-◌, ◌*◌, ◌%◌, ◌^◌}
 use native.Mathlib.Omega.{arith}
 use lib.Pow.{pow_pos}
 use Rattle.stream_write.proofs.Word.{shifted_wide, lanes-few, header_placed}
-use Rattle.std.proofs.Common.{rules}
-use Rattle.stream_write.proofs.write_data_header.Reads as reads
-use Rattle.stream_write.proofs.write_data_header.Lts as lts
-use Rattle.words.proofs.store8.Reads as store8-reads
 use Rattle.stream_write.proofs.write_data_header.Goals as goal
 
 pub overflow_sub-lanes : goal.overflow_sub-lanes

@@ -5,7 +5,6 @@ use Prim.Native.Nat.{◌/◌, ◌%◌}
 use native.Mathlib.Omega.{arith}
 use lib.ListN.{length-set}
 use lib.Seq.{sets-eq}
-use Rattle.std.proofs.Common.{rules}
 use Rattle.stream_write.proofs.write_header.Goals as goal
 
 pub bounds-out-1 : goal.bounds-out-1

@@ -1,12 +1,11 @@
 -- `stream_write::write_nulls` meets its contract: lane by lane, from the last one down. Assumes nothing.
 use mathlib.Core.Path.{◌≡◌, refl, sym, ap, ◌∙◌}
 use mathlib.Core.List.{List, ◌++◌}
-use Prim.Native.Nat.{ℕ, ◌+◌, ◌-◌, ◌≤◌}
+use Prim.Native.Nat.{ℕ, ◌+◌, ◌-◌}
 use native.Mathlib.Omega.{arith}
 use Rattle.std.proofs.Common.{rules}
-use lib.ListN.{length, take, drop, replicate, length-set, take-append-drop}
+use lib.ListN.{take, drop, replicate, length-set, take-append-drop}
 use Rattle.stream_spec.specs.Layout.{head_octets}
-use Rattle.stream_write.specs.Write.{null_lanes}
 use Rattle.stream_write.proofs.Fill.{fill_down, zeros_down}
 use Rattle.stream_write.proofs.write_nulls.Goals as goal
 

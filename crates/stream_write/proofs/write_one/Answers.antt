@@ -1,9 +1,6 @@
 -- `stream_write::write_one` meets its contract: one word is stored. Assumes nothing.
 use Rattle.stream_write.proofs.Word.{one_placed}
 use Rattle.std.proofs.Common.{rules}
-use Rattle.stream_write.proofs.write_one.Reads as reads
-use Rattle.stream_write.proofs.write_one.Lts as lts
-use Rattle.words.proofs.store8.Reads as store8-reads
 use Rattle.stream_write.proofs.write_one.Goals as goal
 
 pub returns : goal.returns

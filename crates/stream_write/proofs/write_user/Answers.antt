@@ -1,7 +1,5 @@
 -- `stream_write::write_user` meets its contract: octet by octet, what is left to write gets shorter. Assumes nothing.
-use Rattle.std.proofs.Common.{rules}
-use Prim.Native.Nat.{◌-◌}
-use Rattle.stream_write.proofs.Users.{Storing, storing_starts, storing_octet, storing_done}
+use Rattle.stream_write.proofs.Users.{storing_starts, storing_octet, storing_done}
 use Rattle.stream_write.proofs.write_user.Goals as goal
 
 pub loop-j-init : goal.loop-j-init

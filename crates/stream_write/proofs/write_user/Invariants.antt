@@ -1,6 +1,5 @@
-use Rattle.std.proofs.Common.{rules}
 use Prim.Native.Nat.{◌-◌}
-use Rattle.stream_write.proofs.Users.{Storing, storing_starts, storing_octet, storing_done}
+use Rattle.stream_write.proofs.Users.{Storing}
 use Rattle.stream_write.proofs.write_user.Given as goal
 
 abbrev pub invariant-loop-j : goal.invariant-loop-j

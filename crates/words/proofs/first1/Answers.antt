@@ -1,6 +1,5 @@
 -- `words::first1` meets its contract, by whether an octet is wanted. Assumes nothing.
 use Rattle.words.proofs.Words.{first_one}
-use Rattle.std.proofs.Common.{rules}
 use Rattle.words.proofs.first1.Goals as goal
 
 pub returns : goal.returns

@@ -1,7 +1,6 @@
 -- `words::first4` meets its contract: the word is cut off by a remainder. Assumes nothing.
 use native.Mathlib.Omega.{arith}
 use Rattle.words.proofs.Words.{padded-all, low-octets, shifted, shifted_some}
-use Rattle.std.proofs.Common.{rules}
 use Rattle.words.proofs.first4.Goals as goal
 
 pub returns-then-n-ge4 : goal.returns-then-n-ge4

@@ -1,6 +1,5 @@
 -- `words::load4` meets its contract: the sum is the word. Assumes nothing.
 use Rattle.words.proofs.Words.{word4}
-use Rattle.std.proofs.Common.{rules}
 use Rattle.words.proofs.load4.Goals as goal
 
 pub returns : goal.returns

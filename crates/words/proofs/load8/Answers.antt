@@ -1,6 +1,5 @@
 -- `words::load8` meets its contract: two halves are the word. Assumes nothing.
 use Rattle.words.proofs.Words.{word8}
-use Rattle.std.proofs.Common.{rules}
 use Rattle.words.proofs.load8.Goals as goal
 
 pub returns : goal.returns

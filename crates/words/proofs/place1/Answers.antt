@@ -1,6 +1,5 @@
 -- `words::place1` meets its contract: one octet is stored. Assumes nothing.
 use Rattle.words.proofs.Words.{stored1}
-use Rattle.std.proofs.Common.{rules}
 use Rattle.words.proofs.place1.Goals as goal
 
 pub returns : goal.returns

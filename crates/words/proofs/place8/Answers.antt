@@ -1,7 +1,6 @@
 -- `words::place8` meets its contract: a word is loaded, cut off and stored. Assumes nothing.
 use native.Mathlib.Omega.{arith}
 use Rattle.words.proofs.Words.{first_stored}
-use Rattle.std.proofs.Common.{rules}
 use Rattle.words.proofs.place8.Goals as goal
 
 pub returns : goal.returns

@@ -2,7 +2,6 @@
 use mathlib.Core.Path.{◌≡◌}
 use native.Mathlib.Omega.{arith}
 use Rattle.words.proofs.Words.{few}
-use Rattle.std.proofs.Common.{rules}
 use Rattle.words.proofs.place_few.Goals as goal
 
 pub returns-then-v-gt1 : goal.returns-then-v-gt1

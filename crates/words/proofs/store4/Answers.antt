@@ -2,7 +2,6 @@
 use native.Mathlib.Omega.{arith}
 use lib.ListN.{length-set}
 use Rattle.words.proofs.Words.{stored4}
-use Rattle.std.proofs.Common.{rules}
 use Rattle.words.proofs.store4.Goals as goal
 
 pub bounds-s-i-2 : goal.bounds-s-i-2

@@ -1,6 +1,5 @@
 -- `words::store8` meets its contract: one half behind the other. Assumes nothing.
 use Rattle.words.proofs.Words.{stored8}
-use Rattle.std.proofs.Common.{rules}
 use Rattle.words.proofs.store8.Goals as goal
 
 pub returns : goal.returns

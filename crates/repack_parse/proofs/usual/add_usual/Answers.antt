@@ -3,7 +3,6 @@ use native.Mathlib.Omega.{arith}
 use Rattle.stream_spec.specs.Layout.{of_width}
 use Rattle.stream_spec.proofs.Size.{size_holds}
 use Rattle.repack_parse.proofs.Skimming.{usual_added}
-use Rattle.std.proofs.Common.{rules}
 use Rattle.repack_parse.proofs.usual.add_usual.Goals as goal
 
 pub load4-lo-requires : goal.load4-lo-requires

@@ -1,13 +1,6 @@
-use mathlib.Core.Path.{sym, ◌∙◌}
 use Prim.Native.Nat.{◌-◌}
-use native.Mathlib.Omega.{arith}
-use borrow.Author.Tests.{not-false}
 use lib.ListN.{length}
-use Rattle.stream_spec.specs.Layout.{of_width}
-use Rattle.stream_spec.proofs.Size.{size_pos, size_holds}
 use Rattle.repack_parse.specs.Reading.{Skimmed}
-use Rattle.repack_parse.proofs.Take.{reading-fits, reading_ready}
-use Rattle.repack_parse.proofs.Skimming.{usual_faultless, skimmed_none, skimmed_next}
 use Rattle.repack_parse.proofs.usual.skim.Given as goal
 
 abbrev pub invariant-loop-at : goal.invariant-loop-at

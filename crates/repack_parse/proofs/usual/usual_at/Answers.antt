@@ -1,7 +1,6 @@
 -- `repack_parse::usual::usual_at` meets its contract: its words are those of the record. Assumes nothing.
 use native.Mathlib.Omega.{arith}
 use Rattle.repack_parse.proofs.Skimming.{usual_told}
-use Rattle.std.proofs.Common.{rules}
 use Rattle.repack_parse.proofs.usual.usual_at.Goals as goal
 
 pub returns : goal.returns

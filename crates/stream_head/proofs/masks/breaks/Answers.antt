@@ -1,7 +1,6 @@
 -- `stream_head::breaks` meets its contract: each word's test is the tests of its octets. Assumes nothing.
 use native.Mathlib.Omega.{arith}
 use Rattle.stream_head.proofs.ZeroBits.{breaks-low, breaks-high}
-use Rattle.std.proofs.Common.{rules}
 use Rattle.stream_head.proofs.masks.breaks.Goals as goal
 
 pub returns-then-load4-z-ne0 : goal.returns-then-load4-z-ne0

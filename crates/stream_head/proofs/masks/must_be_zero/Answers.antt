@@ -3,7 +3,6 @@ use mathlib.Core.Path.{refl}
 use native.Mathlib.Omega.{arith}
 use lib.Pow.{pow_mono, pow_pos}
 use Rattle.stream_record.proofs.Field.{shifted}
-use Rattle.std.proofs.Common.{rules}
 use Rattle.stream_head.proofs.masks.must_be_zero.Goals as goal
 
 pub overflow_sub-result : goal.overflow_sub-result

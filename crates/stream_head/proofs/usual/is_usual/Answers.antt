@@ -3,7 +3,6 @@ use mathlib.Core.Path.{refl}
 use Prim.Native.Nat.{◌+◌, ◌-◌, ◌*◌, ◌%◌}
 use borrow.Author.Tests.{eq-eqb, ne_eqb}
 use Rattle.stream_head.proofs.TwoWords.{usual_words, usual_never}
-use Rattle.std.proofs.Common.{rules}
 use Rattle.stream_head.proofs.usual.is_usual.Goals as goal
 
 pub returns-then-lo-pair : goal.returns-then-lo-pair

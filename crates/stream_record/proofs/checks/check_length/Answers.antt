@@ -1,6 +1,5 @@
 -- `stream_record::check_length` meets its contract: one test. Assumes nothing.
 use mathlib.Core.Path.{refl, sym, ◌∙◌}
-use Rattle.std.proofs.Common.{rules}
 use Rattle.stream_record.proofs.checks.check_length.Goals as goal
 
 pub returns-then-bad_length : goal.returns-then-bad_length

@@ -1,6 +1,5 @@
 -- `stream_record::check_shape` meets its contract: one test after the other. Assumes nothing.
 use mathlib.Core.Path.{refl, sym, ◌∙◌}
-use Rattle.std.proofs.Common.{rules}
 use Rattle.stream_record.proofs.checks.check_shape.Goals as goal
 
 pub returns-then-bad_width : goal.returns-then-bad_width

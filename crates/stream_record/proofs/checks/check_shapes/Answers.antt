@@ -1,7 +1,6 @@
 -- `stream_record::check_shapes` meets its contract: the output's width may be tested first. Assumes nothing.
 use mathlib.Core.Path.{sym, ◌∙◌}
 use Rattle.stream_record.proofs.Tests.{output_refused, output_passed}
-use Rattle.std.proofs.Common.{rules}
 use Rattle.stream_record.proofs.checks.check_shapes.Goals as goal
 
 pub returns-then-bad_width : goal.returns-then-bad_width

@@ -4,7 +4,6 @@ use mathlib.Core.List.{[], ◌∷◌}
 use Rattle.stream_spec.specs.Checks.{shape_checks, length_check}
 use Rattle.stream_spec.proofs.Passed.{shape_narrow}
 use Rattle.stream_record.proofs.Tests.{refused_front, passed_front, shape-fits}
-use Rattle.std.proofs.Common.{rules}
 use Rattle.stream_record.proofs.checks.check_take.Goals as goal
 
 pub check_length-requires : goal.check_length-requires

@@ -3,7 +3,6 @@ use mathlib.Core.Path.{sym, ◌∙◌}
 use native.Mathlib.Omega.{arith}
 use Rattle.stream_spec.proofs.Size.{size_holds}
 use Rattle.stream_record.proofs.RecordFaults.{padding_tells, head-tells}
-use Rattle.std.proofs.Common.{rules}
 use Rattle.stream_record.proofs.faults.fault_in.Goals as goal
 
 pub returns-then-bad_padding : goal.returns-then-bad_padding

@@ -1,6 +1,5 @@
 -- `stream_record::fault_of` meets its contract: one fault after the other. Assumes nothing.
 use Rattle.stream_record.proofs.RecordFaults.{fault_field, fault_reserved, fault_sound}
-use Rattle.std.proofs.Common.{rules}
 use Rattle.stream_record.proofs.faults.fault_of.Goals as goal
 
 pub returns-then-field_fault : goal.returns-then-field_fault

@@ -1,7 +1,6 @@
 -- `stream_record::record_fault` meets its contract: what the record's fault says of its checks. Assumes nothing.
 use mathlib.Core.Path.{sym, ◌∙◌}
 use Rattle.stream_record.proofs.RecordFaults.{told-field, told-reserved, told-sound}
-use Rattle.std.proofs.Common.{rules}
 use Rattle.stream_record.proofs.faults.record_fault.Goals as goal
 
 pub returns-in-Field : goal.returns-in-Field
