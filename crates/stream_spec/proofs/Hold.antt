@@ -118,9 +118,9 @@ module _ {A : Type 0} where
       let t : Transfer A = record { pair = p; lanes = map some xs; last = false } in
       let ts : List (Transfer A) = spread k v p (map some (y ∷ ys)) false in
       let same : spread (suc k) v p (map some (xs ++ y ∷ ys)) false ≡ t ∷ ts =
-          rw (map-append (λ (a : A). some a) xs (y ∷ ys))
-          (rw (fitted-full v (map some xs) (map some (y ∷ ys)) (length-map xs some ∙ e), drop_at (map some xs) (map some (y ∷ ys)) v (length-map xs some ∙ e))
-          refl) in
+      rw (map-append (λ (a : A). some a) xs (y ∷ ys))
+      (rw (fitted-full v (map some xs) (map some (y ∷ ys)) (length-map xs some ∙ e), drop_at (map some xs) (map some (y ∷ ys)) v (length-map xs some ∙ e))
+      refl) in
       subst (λ (us : List (Transfer A)). HoldsAs v (map (byte p) (xs ++ y ∷ ys)) us js) (sym same)
       (pack-full v h p xs y ys js e ∙ ap {B = List (Transfer A)} (λ l. t ∷ l) ih
       ∙ sym
