@@ -1,6 +1,7 @@
 /* Paper 01's bench cases P1, S1 to S7 and B1 to B6 through C, with every answer and every octet typed from the paper;
- * then cuts, write beats, user bits and merging (paper 02, T-02, T-05, T-06 and T-08), the layout of the structs, the refusals
- * that no bench case gives, and numbers at the edges.
+ * then cuts, write beats, user bits and merging (paper 02, T-02, T-05, T-06 and T-08), archived files, the layout of the structs,
+ * the refusals that no bench case gives, and numbers at the edges.
+ * It is run from the project's root, because it reads the folder examples/archive.
  * The last line is 'N passed, M failed'. A case passes if all its checks do. */
 #include "urdhvasolk.h"
 
@@ -780,6 +781,63 @@ static void merge_longest(void)
     merge_is(urd_merge(1, 0, first, 65536, second, 65536, out, 131072), URD_FIELD, 0, 8191, 0, "3 in the last one of port 0");
 }
 
+/* ---- archived files: what lane-keeping downsizing writes, repacked ---- */
+
+#define PACKED "01 01 02 07 00 05 00 11 00 44 00" /* S1 */
+#define SLICES "00 01 02 01 00 01 00 11 00 01 01 02 03 00 02 00 00 44" /* S2: the slices of TRANSFER */
+#define SLICES_TAGS "00 01 02 01 00 01 00 11 00 01 01 01 02 03 00 02 00 00 44 0E" /* the slices of TRANSFER TAGS */
+#define ARCHIVE "examples/archive/"
+
+/* A record of four lanes with three items and its slices of two, to every width and into rooms of every length: the same numbers and octets. */
+static void alike(size_t user, const char *original, const char *sliced)
+{
+    uint8_t record[12], slices[20], room[2][32];
+    size_t record_length = octets_of(original, record), slices_length = octets_of(sliced, slices);
+    for (size_t v = 1; v <= 16; v++)
+        for (size_t lent = 0; lent <= sizeof room[0]; lent++) {
+            memset(room, TAIL, sizeof room);
+            urd_stream_answer a = urd_repack(4, user, v, record, record_length, room[0], lent);
+            stream_is(urd_repack(2, user, v, slices, slices_length, room[1], lent), a.refusal, 0, 0, a.count, "the same numbers");
+            check(memcmp(room[0], room[1], sizeof room[0]) == 0, "the same octets");
+            check(lent < sizeof room[0] || a.count == (3 + v - 1) / v, "three items");
+        }
+}
+
+static void slices_repack(void)
+{
+    alike(0, TRANSFER, SLICES);
+    alike(2, TRANSFER TAGS, SLICES_TAGS);
+    writes(urd_repack, 2, 2, 4, SLICES_TAGS, 1, PACKED " 39");
+}
+
+static size_t file_octets(const char *name, uint8_t *to, size_t most)
+{
+    FILE *file = fopen(name, "rb");
+    size_t n = file == NULL ? 0 : fread(to, 1, most, file);
+    if (file != NULL)
+        fclose(file);
+    return n;
+}
+
+/* A folder with mode=lanes: the report writes its out.bin, and that repacked is what the report gives on its take with mode=pack. */
+static void archived_folder(void)
+{
+    const char *sheet = USER_SHEET("4", "4", "pack", "0"), *result = PACKED " 01 01 02 0F 00 0F 00 21 22 23 24";
+    uint8_t take[64], old[64], out[64], text[128];
+    size_t take_length = file_octets(ARCHIVE "take.bin", take, sizeof take), old_length = file_octets(ARCHIVE "out.bin", old, sizeof old);
+    check(take_length == 5 * 11 && old_length == 6 * 9, "both files are there");
+    const char *lanes = USER_SHEET("4", "2", "lanes", "0");
+    urd_report_answer b = urd_report((const uint8_t *)lanes, strlen(lanes), 1, take, take_length, 1, out, sizeof out, text, sizeof text);
+    check(b.verdict == URD_CLEAN && b.records == 6 && b.octets == old_length && memcmp(out, old, old_length) == 0, "what the report writes");
+    memset(out, TAIL, sizeof out);
+    urd_report_answer a = urd_report((const uint8_t *)sheet, strlen(sheet), 1, take, take_length, 1, out, sizeof out, text, sizeof text);
+    check(a.verdict == URD_CLEAN && a.transfers == 3 && a.packets == 2 && a.records == 2 && a.octets == 2 * 11, "the take with mode=pack");
+    room_is(out, sizeof out, result, "its result");
+    memset(out, TAIL, sizeof out);
+    stream_is(urd_repack(2, 0, 4, old, old_length, out, sizeof out), 0, 0, 0, 2, "out.bin repacked");
+    room_is(out, sizeof out, result, "the same octets");
+}
+
 /* ---- what no bench case shows ---- */
 
 /* A field's offset and its octets. */
@@ -980,6 +1038,8 @@ static void run_requests(void)
     run("T-08, each bit of a record", merge_bits);
     run("T-08, refusals", merge_refusals);
     run("T-08, the longest", merge_longest);
+    run("slices repack as their original", slices_repack);
+    run("the archived folder", archived_folder);
 }
 
 int main(void)

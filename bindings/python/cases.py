@@ -1,6 +1,7 @@
 """Paper 01's bench cases P1, S1 to S7 and B1 to B6 through Python, typed from the paper; then what no bench case shows.
 
-The last line is 'N passed, M failed'. A case passes if all its checks do.
+It is run from the project's root, because it reads the folder examples/archive. The last line is 'N passed, M failed'. A case
+passes if all its checks do.
 """
 import sys
 
@@ -539,6 +540,38 @@ def _():
     room = bytearray(list_ + bytes(16))
     same(urd.merge(1, 0, memoryview(room)[:16], memoryview(room)[:16], room), merged(count=4), "the lent memory as both lists")
     same(room, result, "merged in place")
+
+
+PACKED = "01 01 02 07 00 05 00 11 00 44 00"  # S1
+
+
+@case("slices repack as their original")
+def _():
+    sliced_p1 = "00 01 02 01 00 01 00 11 00 01 01 02 03 00 02 00 00 44"  # the slices of TRANSFER
+    tagged = "00 01 02 01 00 01 00 11 00 01 01 01 02 03 00 02 00 00 44 0E"  # the slices of TRANSFER + TAGS
+    packs(2, 4, tagged, 1, PACKED + "39", user=2)
+    for user, original, sliced in ((0, TRANSFER, sliced_p1), (2, TRANSFER + TAGS, tagged)):
+        for v in range(1, 17):
+            for size in range(33):
+                rooms = [bytearray([TAIL] * size) for _ in range(2)]
+                answer = urd.repack(4, user, v, octets(original), rooms[0])
+                same((urd.repack(2, user, v, octets(sliced), rooms[1]), rooms[1]), (answer, rooms[0]), f"to width {v}, room {size}")
+            same(answer, stream(count=(3 + v - 1) // v), f"three items to width {v}")
+
+
+def archive(name):
+    with open(f"examples/archive/{name}", "rb") as file:
+        return file.read()
+
+
+@case("the archived folder")
+def _():
+    told, result = "verdict=clean\ntransfers=3\npackets=2\nrecords=2\n", PACKED + "01 01 02 0F 00 0F 00 21 22 23 24"
+    sheet = SHEET.replace(b"width_out=2", b"width_out=4")
+    lanes = urd.report(SHEET.replace(b"mode=pack", b"mode=lanes"), archive("take.bin"))
+    same((lanes.records, lanes.result), (6, archive("out.bin")), "what the report writes")
+    same(urd.report(sheet, archive("take.bin")), report(urd.CLEAN, told, counts=(3, 2, 2), result=result), "the take with mode=pack")
+    writes(lambda out: urd.repack(2, 0, 4, archive("out.bin"), out), 2, result)
 
 
 @case("findings and UNCLEAN")

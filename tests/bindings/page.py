@@ -1,4 +1,4 @@
-"""The examples of three pages, run from top to bottom as they stand there: each answers what the page prints below it, and each page
+"""The examples of four pages, run from top to bottom as they stand there: each answers what the page prints below it, and each page
 has one of every answer that is named here. It is run from the project's root with bindings/python on PYTHONPATH. The last line is
 'N passed, M failed'."""
 import doctest
@@ -14,6 +14,11 @@ PAGES = {
     "docs/TWO-CAMERAS.md": {
         "merged": "MergeAnswer(refusal=0, port=0, place=0, count=5)", "17": "MergeAnswer(refusal=17, port=0, place=1,",
         "3 of port 1": "MergeAnswer(refusal=3, port=1,", "2 of port 1": "MergeAnswer(refusal=2, port=1,", "5": "MergeAnswer(refusal=5, port=0,"},
+    "docs/ARCHIVED-FILES.md": {
+        "lanes mode": r"'verdict=clean\ntransfers=3\npackets=2\nrecords=6\n", "15": r"'verdict=refused\nrefusal=15\n",
+        "2 of the report": r"'verdict=refused\nrefusal=2\n", "no transfer": r"'verdict=clean\ntransfers=0\n",
+        "two records": "StreamAnswer(refusal=0, rule=0, place=0, count=2)", "the report's octets": "True",
+        "2 of repacking": "(StreamAnswer(refusal=2,"},
 }
 
 

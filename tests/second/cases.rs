@@ -219,7 +219,8 @@ fn fill_ins(t: &mut Tally, fill_in: FillInCall) {
 }
 
 pub const P1_TAKE: &str = "0F 01 02 0D 00 09 00 11 22 33 44";
-const P1_TRANSFER: &str = "01 01 02 0D 00 09 00 11 22 33 44";
+pub const P1_TRANSFER: &str = "01 01 02 0D 00 09 00 11 22 33 44";
+pub const S1: &str = "01 01 02 07 00 05 00 11 00 44 00";
 const END_ONLY: &str = "01 00 00 00 00 00 00 00"; // the second record of S3
 
 pub fn streams(t: &mut Tally, c: &StreamCalls) {
@@ -238,7 +239,7 @@ pub fn streams(t: &mut Tally, c: &StreamCalls) {
         fills(t, c.fill_in, 4, 0, &take, 1, &low);
         fills(t, c.fill_in, 4, 1, &low, 1, &take);
     });
-    t.group("case S1", |t| pack(t, 4, 4, P1_TRANSFER, 1, "01 01 02 07 00 05 00 11 00 44 00"));
+    t.group("case S1", |t| pack(t, 4, 4, P1_TRANSFER, 1, S1));
     t.group("case S2", |t| writes(t, |out| (c.downsize)(4, 0, 2, &p1, out), 2, "00 01 02 01 00 01 00 11 00 01 01 02 03 00 02 00 00 44"));
     t.group("case S3", |t| pack(t, 1, 1, &format!("00 00 00 01 00 01 00 AA {END_ONLY}"), 1, "01 00 00 01 00 01 00 AA"));
     t.group("case S4", |t| pack(t, 1, 1, &format!("{END_ONLY} {END_ONLY}"), 2, &format!("{END_ONLY} {END_ONLY}")));

@@ -1,6 +1,7 @@
 //! The self test: the model against the papers' own cases and formulas.
 #![allow(dead_code)]
 mod cases;
+mod cases_archive;
 mod cases_fewest;
 mod cases_merge;
 mod cases_user;
@@ -179,6 +180,8 @@ fn main() {
     };
     cases::streams(&mut t, &calls);
     cases_user::users(&mut t, &calls);
+    cases_archive::definition(&mut t, model::slices);
+    cases_archive::files(&mut t, calls.repack);
     cases_fewest::all(&mut t, calls.repack);
     cases_merge::merges_of(&mut t, |w, m, [first, second], out| model_merge::merge(w, m, [first, second], out));
     t.group("pseudo code and formulas agree", |t| for _ in 0..20_000 {

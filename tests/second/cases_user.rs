@@ -5,10 +5,10 @@ use crate::model::StreamAnswer;
 use crate::tally::{Random, Tally};
 
 /// The octets of a record.
-fn size(w: usize, m: usize) -> usize { 7 + w + (w * m + 7) / 8 }
+pub fn size(w: usize, m: usize) -> usize { 7 + w + (w * m + 7) / 8 }
 
 /// A conversion: width, user bits, output width, the transfers, and the records written. A `|` stands between records.
-type Hand = (usize, usize, usize, &'static str, &'static str);
+pub type Hand = (usize, usize, usize, &'static str, &'static str);
 
 // P1's transfer (data 11, null, position, data 44) with the lanes' bits 0 1 1 1; 1 2 3 0; 7 5 2 6; 8 F 4 1.
 const P1_1: &str = "01 01 02 0D 00 09 00 11 22 33 44 0E";
@@ -72,7 +72,7 @@ const PACKED: [Hand; 35] = [
     (1, 4, 2, "00 00 00 01 00 01 00 77 0F 01 00 00 01 00 01 00 78 06", "01 00 00 03 00 03 00 77 78 6F"),
 ];
 
-const SLICED: [Hand; 14] = [
+pub const SLICED: [Hand; 14] = [
     (4, 1, 2, P1_1, "00 01 02 01 00 01 00 11 00 00 | 01 01 02 03 00 02 00 00 44 03"),
     (4, 1, 4, P1_1, "01 01 02 0D 00 09 00 11 00 00 44 0C"),
     (4, 2, 2, P1_2, "00 01 02 01 00 01 00 11 00 01 | 01 01 02 03 00 02 00 00 44 03"),
@@ -89,9 +89,12 @@ const SLICED: [Hand; 14] = [
     (1, 3, 1, END_ONLY, "01 07 00 00 00 00 00 00 00"),
 ];
 
-fn converts(t: &mut Tally, call: ConvertCall, (w, m, v, input, output): Hand) {
+/// The octets of records with a `|` between them.
+pub fn octets(records: &str) -> Vec<u8> { hex(&records.replace('|', " ")) }
+
+pub fn converts(t: &mut Tally, call: ConvertCall, (w, m, v, input, output): Hand) {
     let count = output.split('|').filter(|record| !record.is_empty()).count() as u64;
-    writes(t, |out| call(w, m, v, &hex(input), out), count, &output.replace('|', " "));
+    writes(t, |out| call(w, m, v, &octets(input), out), count, &output.replace('|', " "));
 }
 
 /// Two cycles: width, user bits, both, and (refusal, place, rule, count) of judging.
@@ -194,8 +197,11 @@ fn numbers(record: &[u8], w: usize) -> (u16, u16, u64) {
     (u16::from_le_bytes([record[3], record[4]]), u16::from_le_bytes([record[5], record[6]]), user)
 }
 
-/// (TKEEP, TSTRB, octet, bits) of each lane of all records.
-fn lanes(w: usize, m: usize, stream: &[u8]) -> Vec<(bool, bool, u8, u64)> {
+/// TKEEP, TSTRB, octet and user bits of a lane.
+pub type Lane = (bool, bool, u8, u64);
+
+/// Each lane of all records.
+pub fn lanes(w: usize, m: usize, stream: &[u8]) -> Vec<Lane> {
     stream.chunks(size(w, m)).flat_map(|record| {
         let (keep, strb, user) = numbers(record, w);
         (0..w).map(move |x| (keep >> x & 1 == 1, strb >> x & 1 == 1, record[7 + x], user >> (x * m) & ((1 << m) - 1))).collect::<Vec<_>>()
@@ -203,7 +209,7 @@ fn lanes(w: usize, m: usize, stream: &[u8]) -> Vec<(bool, bool, u8, u64)> {
 }
 
 /// Data lanes with octet and bits, position lanes with their bits alone.
-fn kept(lanes: &[(bool, bool, u8, u64)]) -> Vec<(Option<u8>, u64)> {
+fn kept(lanes: &[Lane]) -> Vec<(Option<u8>, u64)> {
     lanes.iter().filter(|lane| lane.0).map(|lane| (Some(lane.2).filter(|_| lane.1), lane.3)).collect()
 }
 
@@ -222,7 +228,7 @@ fn some_transfers(r: &mut Random, w: usize, m: usize) -> Vec<u8> {
     stream
 }
 
-fn result(call: ConvertCall, w: usize, m: usize, v: usize, input: &[u8]) -> (StreamAnswer, Vec<u8>) {
+pub fn result(call: ConvertCall, w: usize, m: usize, v: usize, input: &[u8]) -> (StreamAnswer, Vec<u8>) {
     let mut room = vec![0xC3; input.len() * 16];
     let answer = call(w, m, v, input, &mut room);
     room.truncate((answer.count as usize).saturating_mul(size(v, m)));

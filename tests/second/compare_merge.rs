@@ -26,7 +26,7 @@ fn pattern(a: &Asked) -> Vec<u8> {
 
 /// One call: the answer, every octet of the room, of the lists, and of the guards around them; and of a merged list what the request
 /// says of it. Answers what the library said, and the merged list where it is accepted as expected.
-fn compare(t: &mut Tally, a: &Asked) -> (MergeAnswer, Vec<u8>) {
+pub fn compare(t: &mut Tally, a: &Asked) -> (MergeAnswer, Vec<u8>) {
     let mut lent = a.lent().map(|list| [&[OUTSIDE; GUARD], list, &[OUTSIDE; GUARD]].concat());
     let (kept, mut out) = (lent.clone(), pattern(a));
     let mut modelled = out.clone();

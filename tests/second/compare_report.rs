@@ -52,7 +52,7 @@ fn lend(room: usize, front: &[u8]) -> [Vec<u8>; 2] {
 
 /// One report into one pair of rooms, the text's longer or shorter than the text by `more`: the numbers, every octet of the
 /// rooms and of the guards around them, and sheet and take afterwards.
-fn compare(t: &mut Tally, sheet: File, take: File, room: usize, more: isize) {
+pub fn compare(t: &mut Tally, sheet: File, take: File, room: usize, more: isize) {
     let expected = model(sheet, take, room);
     let text_room = expected.text.len().saturating_add_signed(more);
     let told = if more < 0 { "" } else { &expected.text };
@@ -99,7 +99,7 @@ fn random_sheet(r: &mut Random, w: usize, m: usize) -> Vec<u8> {
 }
 
 /// TLAST of each cycle at random, as of a port without the wire: clean where it is filled in, and else R3 if it moves during a wait.
-fn move_tlast(r: &mut Random, w: usize, m: usize, take: &mut [u8]) {
+pub fn move_tlast(r: &mut Random, w: usize, m: usize, take: &mut [u8]) {
     for cycle in take.chunks_mut(record_octets(w, m)) { cycle[0] ^= r.below(2) as u8; }
 }
 

@@ -1,16 +1,17 @@
 //! The library's stream calls against the model, on many takes.
 use crate::model::{self, StreamAnswer};
 use crate::tally::{Random, Tally};
-use crate::{cases, cases_user, library_stream as library};
+use crate::{cases, cases::ConvertCall, cases_user, library_stream as library};
 
 const GUARD: usize = 24; // octets before and after each lent room
+pub const REFUSED_ROOM: usize = 40; // octets lent where a refusal is expected in any room
 const HIGH: [u32; 7] = [1, 2, 255, 256, 0x1_0000, 0x8000_0000, u32::MAX]; // each says that TLAST is filled in high
 
 /// A call that writes into a lent room, by width, user bits and output width; `plan` is the model's whole answer.
 pub struct Writer {
     name: &'static str,
-    library: fn(usize, usize, usize, &[u8], &mut [u8]) -> StreamAnswer,
-    model: fn(usize, usize, usize, &[u8], &mut [u8]) -> StreamAnswer,
+    library: ConvertCall,
+    model: ConvertCall,
     plan: fn(usize, usize, usize, &[u8]) -> Result<Vec<u8>, StreamAnswer>,
 }
 
@@ -34,7 +35,7 @@ fn first_other(a: &[u8], b: &[u8]) -> isize {
 }
 
 /// With 1 to 4 user bits a verdict is another one than without.
-fn note(t: &mut Tally, call: &str, m: usize, a: StreamAnswer) {
+pub fn note(t: &mut Tally, call: &str, m: usize, a: StreamAnswer) {
     let with = if (1..=4).contains(&m) { WITH_USER_BITS } else { "" };
     t.verdict(match (a.refusal, a.rule) {
         (0, 0) => format!("{call} accepted{with}"),
@@ -43,15 +44,20 @@ fn note(t: &mut Tally, call: &str, m: usize, a: StreamAnswer) {
     });
 }
 
+/// A writing call into a room full of a pattern: its answer, and the room with the guards around it afterwards.
+pub fn lend_to(call: ConvertCall, w: usize, m: usize, v: usize, input: &[u8], room: usize) -> (StreamAnswer, Vec<u8>) {
+    let mut lent: Vec<u8> = (0..room + 2 * GUARD).map(|i| (i * 37 + 11) as u8).collect();
+    let answer = call(w, m, v, input, &mut lent[GUARD..GUARD + room]);
+    (answer, lent)
+}
+
 /// A writing call into one room: the answer, every octet of the room and of
 /// the guards around it, and the input afterwards. Answers what was written,
 /// where accepted (and as expected; a difference has been counted by then).
 pub fn write_into(t: &mut Tally, c: &Writer, w: usize, m: usize, v: usize, input: &[u8], room: usize) -> Option<Vec<u8>> {
-    let mut lent: Vec<u8> = (0..room + 2 * GUARD).map(|i| (i * 37 + 11) as u8).collect();
-    let mut modelled = lent.clone();
     let kept = input.to_vec();
-    let answer = (c.library)(w, m, v, input, &mut lent[GUARD..GUARD + room]);
-    let expected = (c.model)(w, m, v, &kept, &mut modelled[GUARD..GUARD + room]);
+    let (answer, lent) = lend_to(c.library, w, m, v, input, room);
+    let (expected, modelled) = lend_to(c.model, w, m, v, &kept, room);
     note(t, c.name, m, expected);
     let inputs = || format!("{} {w} to {v}, user bits {m}, room {room}, input {}", c.name, show(&kept));
     t.same(answer, expected, inputs);
@@ -62,11 +68,15 @@ pub fn write_into(t: &mut Tally, c: &Writer, w: usize, m: usize, v: usize, input
 }
 
 /// Rooms: exact, one octet less, larger, none.
-pub fn write_all(t: &mut Tally, c: &Writer, w: usize, m: usize, v: usize, input: &[u8]) {
-    let need = match (c.plan)(w, m, v, input) { Ok(octets) => octets.len(), Err(_) => 40 };
+pub fn rooms(need: usize) -> Vec<usize> {
     let mut rooms = vec![need, need.saturating_sub(1), need + 31, 0];
     rooms.dedup();
-    for room in rooms { write_into(t, c, w, m, v, input, room); }
+    rooms
+}
+
+pub fn write_all(t: &mut Tally, c: &Writer, w: usize, m: usize, v: usize, input: &[u8]) {
+    let need = (c.plan)(w, m, v, input).map_or(REFUSED_ROOM, |octets| octets.len());
+    for room in rooms(need) { write_into(t, c, w, m, v, input, room); }
 }
 
 pub fn compare_judge(t: &mut Tally, w: usize, m: usize, take: &[u8]) {
@@ -325,14 +335,17 @@ pub fn change_bits(t: &mut Tally, r: &mut Random, w: usize, m: usize, bits: std:
     }
 }
 
+/// This lane of the record at the front of these octets becomes a reserved one.
+pub fn reserve(record: &mut [u8], lane: usize) {
+    record[3 + lane / 8] &= !(1 << (lane % 8));
+    record[5 + lane / 8] |= 1 << (lane % 8);
+}
+
 pub fn reserve_lanes(t: &mut Tally, r: &mut Random, w: usize, m: usize) {
     let size = model::record_octets(w, m);
     for (at, lane) in (0..3).flat_map(|record| (0..w).map(move |lane| (record * size, lane))) {
         let (mut take, mut input) = (cycles(r, w, m, 3), transfers(r, w, m, 3));
-        for octets in [&mut take, &mut input] {
-            octets[at + 3 + lane / 8] &= !(1 << (lane % 8));
-            octets[at + 5 + lane / 8] |= 1 << (lane % 8);
-        }
+        for octets in [&mut take, &mut input] { reserve(&mut octets[at..], lane); }
         cycle_calls(t, w, m, &take);
         transfer_calls(t, w, m, w, &input);
     }
@@ -403,10 +416,7 @@ pub fn all(t: &mut Tally) {
             for _ in 0..way / 3 % 3 { let flags = r.pick(&[8, 9, 12, 13]); take.extend(record(r, w, 0, flags)); }
             let (flags, lane) = (r.pick(&[2, 10, 11, 14, 15]), r.below(w));
             let mut valid = record(r, w, 0, flags);
-            if way >= 9 {
-                valid[3 + lane / 8] &= !(1 << (lane % 8));
-                valid[5 + lane / 8] |= 1 << (lane % 8);
-            }
+            if way >= 9 { reserve(&mut valid, lane); }
             take.extend(valid);
             cycle_calls(t, w, 0, &take);
         }

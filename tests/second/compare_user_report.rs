@@ -107,7 +107,7 @@ const BOUNDS: [(usize, usize, usize, &str, &str, usize, usize, Option<usize>); 3
 ];
 
 /// A handshaken cycle with so many data lanes from lane 0 up, every user bit high.
-fn cycle(w: usize, m: usize, data: usize, last: bool) -> Vec<u8> {
+pub fn cycle(w: usize, m: usize, data: usize, last: bool) -> Vec<u8> {
     let lanes = (((1u32 << data) - 1) as u16).to_le_bytes();
     let user = (((1u128 << (w * m)) - 1) as u64).to_le_bytes();
     [&[14 | u8::from(last), 5, 2, lanes[0], lanes[1], lanes[0], lanes[1]], &vec![0x77; w][..], &user[..(w * m + 7) / 8]].concat()

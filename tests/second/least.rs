@@ -16,7 +16,9 @@ pub const SELF_TEST: Least = &[
     ("T-06 packing twice, and downsizing first, change nothing", 8743), ("T-02 by hand", 84), ("T-02 refusals in order", 45),
     ("T-05 lanes of B1, B2 and B3", 72), ("T-05 narrow buses by hand", 92), ("T-05 wide buses by hand", 52), ("T-05 rules by hand", 94),
     ("T-05 most beats and octets by hand", 40), ("T-05 refusals in order", 126), ("T-05 by its least finding", 11_816),
-    ("cut bursts have the old beats", 142_837), ("masks agree with the pseudo code", 1_905_288), ("every group ran", 1),
+    ("cut bursts have the old beats", 142_837), ("masks agree with the pseudo code", 1_905_288),
+    ("slices by hand", 22), ("slices lane by lane", 30_000), ("slices of slices, and their items", 32_000), ("archives by hand", 17),
+    ("archive refusals by hand", 19), ("slices by hand are packed alike", 336), ("every group ran", 1),
 ];
 
 /// The library against the model.
@@ -60,5 +62,9 @@ pub const COMPARE: Least = &[
     ("T-08 each bit and each reserved lane", 129_500), ("T-08 two faults", 88_320), ("T-08 many faults", 32_000), ("T-08 every room", 15_500),
     ("T-08 wrong lengths", 70_272), ("T-08 widths and user bits", 17_200), ("T-08 longest lists", 1976), ("T-08 random lists", 79_000),
     ("T-08 damaged lists", 44_800), ("T-08 random octets", 35_900), ("T-08 a list with itself", 800), ("T-08 merged, then repacked", 23_000),
+    ("archives by hand", 17), ("archive refusals by hand", 19), ("slices by hand are packed alike", 336),
+    ("archives at every cut", 224_000), ("archives sliced twice", 105_000), ("archives at the bound of a take", 8750),
+    ("archives and reports", 22_500), ("archives and reports on long takes", 7500), ("archives as takes", 39_000),
+    ("damaged archives", 48_000), ("archives merged", 26_000),
     ("every verdict occurs", 1), ("every group ran", 1),
 ];

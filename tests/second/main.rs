@@ -5,10 +5,12 @@
 #![allow(dead_code)]
 mod calls;
 mod cases;
+mod cases_archive;
 mod cases_fewest;
 mod cases_merge;
 mod cases_user;
 mod cases_writes;
+mod compare_archive;
 mod compare_axi3;
 mod compare_bursts;
 mod compare_fewest;
@@ -55,10 +57,11 @@ fn gate(seed: u64, only: Option<String>) -> ! {
     compare_user_report::all(&mut t);
     compare_fewest::all(&mut t);
     compare_merge::all(&mut t);
+    compare_archive::all(&mut t);
     calls::show();
     t.seed = None; // the last two groups are about the run as a whole
     let bursts = [&compare_bursts::VERDICTS[..], &compare_axi3::VERDICTS, &compare_writes::VERDICTS];
-    let streams = [compare_streams::verdicts(), compare_merge::verdicts()].concat();
+    let streams = [compare_streams::verdicts(), compare_merge::verdicts(), compare_archive::verdicts()].concat();
     let streams = streams.iter().map(String::as_str).chain(compare_report::VERDICTS).collect();
     t.show_verdicts(&[bursts.concat(), streams].concat());
     t.every_group_ran();
@@ -88,6 +91,7 @@ fn soak(seconds: u64, first: u64) -> ! {
         compare_report::round(&mut t, &mut r);
         compare_fewest::round(&mut t, &mut r);
         compare_merge::round(&mut t, &mut r);
+        compare_archive::round(&mut t, &mut r);
         if began.elapsed() >= Duration::from_secs(seconds) { break; }
         if shown.elapsed() >= PROGRESS {
             shown = Instant::now();

@@ -397,20 +397,24 @@ pub fn downsize_plan(w: usize, m: usize, v: usize, input: &[u8]) -> Result<Vec<u
     check_widths(&[w, v], m)?;
     if w % v != 0 { return Err(refused(RATIO)); }
     check_transfers(w, m, input)?;
-    let mut out = Vec::new();
-    for r in records(w, m, input) {
-        for slice in 0..w / v {
-            let mut s = vec![0u8; record_octets(v, m)];
-            s[0] = u8::from(tlast(r) && slice == w / v - 1);
-            s[1] = r[1];
-            s[2] = r[2];
-            for lane in 0..v {
-                if let Some(what) = carried(r, w, m, slice * v + lane) { put_lane(&mut s, v, m, lane, what); }
-            }
-            out.extend(s);
-        }
+    Ok(slices(w, m, v, input))
+}
+
+/// Slice k of a record: its lanes from k * v on, nulls staying as nulls; TLAST on the last slice only.
+fn slice(w: usize, m: usize, v: usize, r: &[u8], k: usize) -> Vec<u8> {
+    let mut s = vec![0u8; record_octets(v, m)];
+    s[0] = u8::from(tlast(r) && k == w / v - 1);
+    s[1] = r[1];
+    s[2] = r[2];
+    for lane in 0..v {
+        if let Some(what) = carried(r, w, m, k * v + lane) { put_lane(&mut s, v, m, lane, what); }
     }
-    Ok(out)
+    s
+}
+
+/// The w/v slices of each record of a legal stream of any length; v divides w.
+pub fn slices(w: usize, m: usize, v: usize, stream: &[u8]) -> Vec<u8> {
+    records(w, m, stream).into_iter().flat_map(|r| (0..w / v).flat_map(move |k| slice(w, m, v, r, k))).collect()
 }
 
 pub fn downsize(w: usize, m: usize, v: usize, input: &[u8], out: &mut [u8]) -> StreamAnswer { write(downsize_plan(w, m, v, input), v, m, out) }

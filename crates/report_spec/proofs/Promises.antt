@@ -9,7 +9,7 @@ use native.Mathlib.Nat.{le_trans, zero-mul, one-mul, mul-div_cancel}
 use native.Mathlib.Omega.{arith}
 use borrow.Author.Tests.{eqb-true, eqb-false, not-false}
 use lib.Dec.{eqb, ltb}
-use lib.ListN.{length, length-map}
+use lib.ListN.{length, length-map, replicate, length-replicate}
 use Rattle.refusal.specs.Code.{code_of}
 use Rattle.refusal.specs.declared.Refusal.{Refusal}
 use Rattle.refusal.specs.declared.Refusal.TheVariants.{Length, Room, Setup as BadSheet}
@@ -18,11 +18,11 @@ use Rattle.stream_spec.specs.declared.Verdict.{Verdict as Judgement}
 use Rattle.stream_spec.specs.declared.Verdict.TheVariants.{Clean as Sound, Broken as Breaks, Refused as NotJudged}
 use Rattle.stream_spec.specs.declared.Written.{Written}
 use Rattle.stream_spec.specs.declared.Written.TheVariants.{Records, Refused as NotWritten}
-use Rattle.stream_spec.specs.Layout.{bit_of, size, at_width, records, record_count, joined, stream_items, sliced}
+use Rattle.stream_spec.specs.Layout.{bit_of, size, at_width, records, record_count, joined, stream_items, packed, sliced}
 use Rattle.refusal.specs.Checks.{Check, first}
-use Rattle.stream_spec.specs.Checks.{ratio_check, length_check, cycle_checks, transfer_checks, room_check}
+use Rattle.stream_spec.specs.Checks.{capture_most, ratio_check, length_check, cycle_checks, transfer_checks, room_check}
 use Rattle.stream_spec.specs.Handshake.{Finding, first_finding, handshakes, transfer_count, low, high, harvested, as_filled}
-use Rattle.stream_spec.specs.Answers.{verdict, written, judge_checks, judge_answer, harvest_refusal, fill_after, repack_answer}
+use Rattle.stream_spec.specs.Answers.{verdict, written, lent_after, judge_checks, judge_answer, harvest_refusal, fill_after, repack_refusal, repack_answer, repack_after}
 use Rattle.stream_spec.specs.Memory.{in_front}
 use Rattle.stream_spec.specs.Legal.{Octets, Legal}
 use Rattle.refusal.proofs.First.{first-none, append-found, append-passed}
@@ -32,7 +32,7 @@ use Rattle.stream_spec.proofs.Records.{length-pieces, records_sized}
 use Rattle.stream_spec.proofs.Harvest.{harvested-count}
 use Rattle.stream_spec.proofs.Fill.{clean-filled, filled-octets, sized_filled, harvest-records, all-last}
 use Rattle.stream_spec.proofs.Clean.{clean-count, clean-passed, clean-harvested}
-use Rattle.stream_spec.proofs.Promises.{repacking_keeps, no_shorter, lane_keeping, harvest_legal, harvest_repacks, packed_legal, filled_harvest}
+use Rattle.stream_spec.proofs.Promises.{repacking_keeps, no_shorter, lane_keeping, archives_repack, harvest_legal, harvest_repacks, packed_legal, filled_harvest}
 use Rattle.report_setup_spec.specs.declared.Setup.{Setup}
 use Rattle.report_setup_spec.specs.declared.Mode.{Mode}
 use Rattle.report_setup_spec.specs.declared.Mode.TheVariants.{Pack, Lanes}
@@ -44,7 +44,7 @@ use Rattle.report_setup_spec.specs.Grammar.{sheet_of, text as ascii}
 use Rattle.report_spec.specs.declared.Tally.{Tally}
 use Rattle.report_spec.specs.declared.Verdict.TheVariants.{Clean, Broken, Refused}
 use Rattle.report_spec.specs.Report.{Outcome, shape_of, out_shape, prepared, cycles_of, transfers_of, lasts, packet_count, convert_answer, convert_result, tally, converted, converted_transfers, after_judging, capture_outcome, ratio_checks, setup_checks, Passes, unless, setup_outcome, sheet_outcome, outcome_of, Whole, whole, report_of}
-use Rattle.report_spec.specs.Promises.{OctetsOf, ReportsSetup, is_clean, OnlyWhenClean, CleanTally, CleanTallies, sampled_at, result_by, TlastNone, TlastLow, LeastRecords, may_show, RefusalsShown, NeverReservedNorUnclean, PackNeverRatio, ordered_checks, converted_of, tally_of, in_order, ReportInOrder, TextShort}
+use Rattle.report_spec.specs.Promises.{OctetsOf, ReportsSetup, is_clean, OnlyWhenClean, CleanTally, CleanTallies, sampled_at, result_by, TlastNone, TlastLow, LeastRecords, ArchivesReported, may_show, RefusalsShown, NeverReservedNorUnclean, PackNeverRatio, ordered_checks, converted_of, tally_of, in_order, ReportInOrder, TextShort}
 use Rattle.report_spec.proofs.Passes.{sound_in, sound_out, sound-user, sound-ratio, fits_out}
 use Rattle.report_spec.proofs.Convert.{convert_refusal, convert_count, answer-is, result-long, result_fits, each-converted, not_written, IsWritten, is-written}
 use Rattle.report_spec.proofs.Ends.{lasts-filled, same_ends}
@@ -125,12 +125,14 @@ module _ (u : Setup) (p : Passes u) (capture : List ℕ) (o : Octets capture) (n
   legal : Legal s ts
   legal = harvest.0
 
+  short : length ts ≤ capture_most
+  short = omega (arith, harvest.1, (clean-passed s (cycles_of u capture) n clean).short)
+
   transfers_are : n ≡ length (records s ts)
   transfers_are = clean-count s (cycles_of u capture) n clean ∙ sym (harvested-count s (cycles_of u capture))
 
   fits-take : (length_check s ts).found ≡ false
-  fits-take =
-      fits-length s ts (omega (arith, harvest.1, (clean-passed s (cycles_of u capture) n clean).short)) legal.whole
+  fits-take = fits-length s ts short legal.whole
 
   width_out : (1 ≤ v) × (v ≤ 16)
   width_out = ((fits_out u p).low, (fits_out u p).high)
@@ -427,6 +429,37 @@ least_records u capture room t m e ys l same =
       ap (λ (x : Tally). x.records) r.is,
       no_shorter (shape_of u) u.width_out (transfers_of u capture) room r.number packs ys l same,
     )
+
+-- ---- archived files
+
+-- an accepted repacking call leaves its result in front
+accepted_front : (s : Shape) (v : ℕ) (xs lent : List ℕ) → repack_refusal s v xs (length lent) ≡ none → repack_after s v xs lent ≡ in_front (packed s v xs) lent
+unfolding repack_after
+accepted_front s v xs lent e = ap (λ (o : Option Refusal). lent_after o (packed s v xs) lent) e
+
+pub archives_reported : ArchivesReported
+archives_reported u capture room t m o e v w d a =
+    let r = reached u capture room t e in
+    let ts = transfers_of u capture in
+    let alike = archives_repack (shape_of u) v ts w d (legal u r.passes capture o r.count r.clean) (short u r.passes capture o r.count r.clean) a u.width_out in
+    let long : length (replicate {A = ℕ} room 0) ≡ room = length-replicate {A = ℕ} room 0 in
+    let packs : repack_answer (shape_of u) u.width_out ts room ≡ Records r.number =
+    sym (ap (λ (x : Mode). convert_answer x (shape_of u) u.width_out ts room) m) ∙ r.wrote in
+    let accepted : repack_refusal (shape_of u) u.width_out ts room ≡ none =
+    sym (ap (λ (x : Mode). convert_refusal x (shape_of u) u.width_out ts room) m) ∙ (wrote_is u capture room t r).accepted in
+    let result-packed : (setup_outcome u (some capture) room).result ≡ packed (shape_of u) u.width_out ts =
+    result-is u capture room t r ∙ ap (λ (x : Mode). convert_result x (shape_of u) u.width_out ts) m in
+    record {
+      answers =
+          sym (ap (repack_answer (at_width (shape_of u) v) u.width_out (sliced (shape_of u) v ts)) long)
+          ∙ (alike (replicate {A = ℕ} room 0)).answers
+          ∙ ap (repack_answer (shape_of u) u.width_out ts) long
+          ∙ packs ∙ ap (λ (x : Tally). Records x.records) (sym r.is);
+      leaves = λ lent k.
+          (alike lent).leaves
+          ∙ accepted_front (shape_of u) u.width_out ts lent (ap (repack_refusal (shape_of u) u.width_out ts) k ∙ accepted)
+          ∙ ap (λ (xs : List ℕ). in_front xs lent) (sym result-packed);
+    }
 
 -- ---- 01's order
 

@@ -6,20 +6,24 @@ use mathlib.Core.Bool.{Bool, true, false}
 use mathlib.Core.List.{List, [], ◌∷◌, ◌++◌, map}
 use mathlib.Core.Logic.{◌≢◌}
 use mathlib.Core.Option.{Option, none, some}
-use Prim.Native.Nat.{ℕ, ◌≤◌}
+use Prim.Native.Nat.{ℕ, ◌%◌, ◌≤◌}
 use native.Mathlib.Omega.{arith}
-use lib.ListN.{length}
+use lib.Dec.{lit≤}
+use lib.ListN.{length, replicate}
 use Rattle.refusal.specs.Code.{code_of}
 use Rattle.refusal.specs.declared.Refusal.{Refusal}
 use Rattle.refusal.specs.declared.Refusal.TheVariants.{Field, Reserved, Room, Ratio, Unclean}
-use Rattle.stream_spec.specs.Layout.{size, shaped, records, stream_items}
+use Rattle.stream_spec.specs.declared.Written.{Written}
+use Rattle.stream_spec.specs.declared.Written.TheVariants.{Records}
+use Rattle.stream_spec.specs.Layout.{size, shaped, at_width, records, stream_items, sliced as cut}
 use Rattle.refusal.specs.Checks.{first}
-use Rattle.stream_spec.specs.Checks.{room_check}
+use Rattle.stream_spec.specs.Checks.{capture_most, room_check}
 use Rattle.stream_spec.specs.Handshake.{Finding, first_finding, transfer_count}
-use Rattle.stream_spec.specs.Answers.{judge_answer, fill_after, repack_answer, downsize_answer}
+use Rattle.stream_spec.specs.Answers.{judge_answer, fill_after, repack_answer, repack_after, downsize_answer, Repacked}
 use Rattle.stream_spec.specs.Memory.{in_front}
 use Rattle.stream_spec.specs.Legal.{Octets, Legal}
-use Rattle.stream_spec.proofs.Tables.{octets_tested, legal_tested}
+use Rattle.stream_spec.specs.Promises.{Width}
+use Rattle.stream_spec.proofs.Tables.{width_tested, octets_tested, legal_tested}
 use Rattle.report_setup_spec.specs.declared.Setup.{Setup}
 use Rattle.report_setup_spec.specs.declared.Mode.{Mode}
 use Rattle.report_setup_spec.specs.declared.Mode.TheVariants.{Pack, Lanes}
@@ -33,7 +37,7 @@ use Rattle.report_spec.specs.declared.Verdict.TheVariants.{Clean, Broken, Refuse
 use Rattle.report_spec.specs.Report.{shape_of, out_shape, cycles_of, transfers_of, tally, setup_outcome, sheet_outcome, verdict_values, text_of, whole, report_of}
 use Rattle.report_spec.specs.Promises.{OctetsOf, is_clean, CleanTally, OnePacketEach, NoPacketEnds, may_show, ordered_checks, converted_of, tally_of, in_order}
 use Rattle.report_spec.specs.Cases.{says, p1_sheet, p1_take, p1_result, p1_tagged, p1_tagged_result, p1_low, p1_slices, cycle}
-use Rattle.report_spec.proofs.Promises.{reports_setup, only_when_clean, clean_tallies, tlast_none, tlast_low, least_records, refusals_shown, never_reserved_nor_unclean, pack_never_ratio, report_in_order, text_short, no}
+use Rattle.report_spec.proofs.Promises.{reports_setup, only_when_clean, clean_tallies, tlast_none, tlast_low, least_records, archives_reported, refusals_shown, never_reserved_nor_unclean, pack_never_ratio, report_in_order, text_short, no}
 
 -- ---- what the promises ask
 
@@ -213,6 +217,35 @@ not_in_lanes-mode least =
     let few : 4 ≤ 3 =
     least to_one p1_take 32 (tally 1 1 4) refl refl p1_ones ((legal_tested (shaped 1 0) p1_ones).1 refl) refl in
     omega arith
+
+-- P1's slices, an archived file, repacked to width 2: P1's records and its result, and the octet after it stays
+pub p1_archived : (repack_answer (shaped 2 0) 2 p1_slices 19 ≡ Records 2) × (repack_after (shaped 2 0) 2 p1_slices (replicate {A = ℕ} 19 0xEE) ≡ p1_result ++ (0xEE ∷ []))
+unfolding size judge_answer repack_answer repack_after
+p1_archived =
+    let k = archives_reported p1 p1_take 19 (tally 1 1 2) refl ((octets_tested p1_take).1 refl) refl 2 ((width_tested 2).1 refl) refl (lit≤ tt) in
+    (k.answers, k.leaves (replicate {A = ℕ} 19 0xEE) refl)
+
+-- the same with two user bits to a byte
+abbrev p1_tagged_slices : List ℕ
+p1_tagged_slices =
+    0x00 ∷ 0x01 ∷ 0x02 ∷ 0x01 ∷ 0x00 ∷ 0x01 ∷ 0x00 ∷ 0x11 ∷ 0x00 ∷ 0x01
+    ∷ 0x01 ∷ 0x01 ∷ 0x02 ∷ 0x03 ∷ 0x00 ∷ 0x02 ∷ 0x00 ∷ 0x00 ∷ 0x44 ∷ 0x0E ∷ []
+
+pub tagged_archived : (repack_answer (shaped 2 2) 2 p1_tagged_slices 20 ≡ Records 2) × (repack_after (shaped 2 2) 2 p1_tagged_slices (replicate {A = ℕ} 20 0xEE) ≡ p1_tagged_result)
+unfolding size judge_answer repack_answer repack_after
+tagged_archived =
+    let k = archives_reported p1_user p1_tagged 20 (tally 1 1 2) refl ((octets_tested p1_tagged).1 refl) refl 2 ((width_tested 2).1 refl) refl (lit≤ tt) in
+    (k.answers, k.leaves (replicate {A = ℕ} 20 0xEE) refl)
+
+-- at its widest, of the contract of the call: whatever it answers and leaves for the slices are the `records` and the result of the report
+pub as_reported : (u : Setup) (capture : List ℕ) (room : ℕ) (t : Tally) → u.mode ≡ Pack → Octets capture → (setup_outcome u (some capture) room).verdict ≡ Clean t
+    → (v : ℕ) → Width v → u.width_in % v ≡ 0 → length (cut (shape_of u) v (transfers_of u capture)) ≤ capture_most
+    → (before after : List ℕ) (r : Written) → length before ≡ room
+    → Repacked (at_width (shape_of u) v) u.width_out (cut (shape_of u) v (transfers_of u capture)) before after r
+    → (r ≡ Records t.records) × (after ≡ in_front (setup_outcome u (some capture) room).result before)
+as_reported u capture room t m o e v w d a before after r n p =
+    let k = archives_reported u capture room t m o e v w d a in
+    (p.is ∙ ap (repack_answer (at_width (shape_of u) v) u.width_out (cut (shape_of u) v (transfers_of u capture))) n ∙ k.answers, p.leaves ∙ k.leaves before n)
 
 -- one octet short
 pub p1_unwritten : (out : List ℕ) → in_front (report_of p1_sheet (some p1_take) 17).result out ≡ out

@@ -1,15 +1,18 @@
 -- What is proved of the report, a statement each. Words in quotes are paper 01's or, where it is said, a request's of paper 02.
 -- The proofs are in proofs/Promises.
-use Rattle.std.specs.Prelude.{◌≡◌, Bool, true, false, ◌||◌, List, [], ◌∷◌, ◌++◌, map, ◌≢◌, ℕ, ◌*◌, ◌^◌, ◌≤◌, ◌<◌, eqb, length}
+use Rattle.std.specs.Prelude.{◌≡◌, Bool, true, false, ◌||◌, List, [], ◌∷◌, ◌++◌, map, ◌≢◌, ℕ, ◌*◌, ◌%◌, ◌^◌, ◌≤◌, ◌<◌, eqb, length}
 use Rattle.std.proofs.Math.Option.{Option, none, some}
 use Rattle.refusal.specs.Code.{code_of}
 use Rattle.refusal.specs.declared.Refusal.{Refusal}
-use Rattle.stream_spec.specs.Layout.{size, records, joined, stream_items}
+use Rattle.stream_spec.specs.declared.Written.TheVariants.{Records}
+use Rattle.stream_spec.specs.Layout.{size, at_width, records, joined, stream_items, sliced}
 use Rattle.refusal.specs.Checks.{Check, first}
 use Rattle.stream_spec.specs.Checks.{length_check, cycle_checks, room_check}
 use Rattle.stream_spec.specs.Handshake.{Finding, first_finding, handshakes, transfer_count, low, high, as_filled}
+use Rattle.stream_spec.specs.Answers.{repack_answer, repack_after}
 use Rattle.stream_spec.specs.Memory.{in_front}
 use Rattle.stream_spec.specs.Legal.{Octets, Legal}
+use Rattle.stream_spec.specs.Promises.{Width}
 use Rattle.report_setup_spec.specs.declared.Setup.{Setup}
 use Rattle.report_setup_spec.specs.declared.Mode.{Mode}
 use Rattle.report_setup_spec.specs.declared.Mode.TheVariants.{Pack, Lanes}
@@ -113,6 +116,21 @@ LeastRecords =
     (u : Setup) (capture : List ℕ) (room : ℕ) (t : Tally) → u.mode ≡ Pack → (setup_outcome u (some capture) room).verdict ≡ Clean t
     → (ys : List ℕ) → Legal (out_shape u) ys → stream_items (out_shape u) ys ≡ stream_items (shape_of u) (transfers_of u capture)
     → t.records ≤ length (records (out_shape u) ys)
+
+-- ---- archived files. What `mode=lanes` writes of a take are the slices of its transfers. "repacking them gives what repacking their
+-- original takes gave": u is the old sheet with `mode=pack` and any output width put in, v the old output width. Where the report by u on the
+-- take is clean, repacking the slices to u's output width answers its `records`, and leaves its result in front of what the call is lent.
+-- The slices have to be as short as a take, since what is longer is refused with 2.
+
+pub record AsReported (u : Setup) (v : ℕ) (archived : List ℕ) (room : ℕ) (result : List ℕ) (t : Tally) : Type 0 where
+  pub answers : repack_answer (at_width (shape_of u) v) u.width_out archived room ≡ Records t.records
+  pub leaves : (lent : List ℕ) → length lent ≡ room → repack_after (at_width (shape_of u) v) u.width_out archived lent ≡ in_front result lent
+
+abbrev pub ArchivesReported : Type 0
+ArchivesReported =
+    (u : Setup) (capture : List ℕ) (room : ℕ) (t : Tally) → u.mode ≡ Pack → Octets capture → (setup_outcome u (some capture) room).verdict ≡ Clean t
+    → (v : ℕ) → Width v → u.width_in % v ≡ 0 → length (sliced (shape_of u) v (transfers_of u capture)) ≤ 65536
+    → AsReported u v (sliced (shape_of u) v (transfers_of u capture)) room (setup_outcome u (some capture) room).result t
 
 -- ---- which refusals show once the sheet is read, by their numbers: 1, 2, 3, 5, since T-06 16, and 6 in lanes mode. So 4 and 14
 -- never do: a reserved lane is R4, and a broken take is a verdict of its own.

@@ -1,29 +1,36 @@
 -- "may be longer than a take": there are legal streams of any number of records; demand 3 speaks of them, in calls and in parts, and so
--- does T-07 of the stream that a packed form is compared with. Assumes nothing.
-use mathlib.Core.Path.{◌≡◌, refl, ap, ap₂, ◌∙◌}
-use mathlib.Core.Bool.{true, false}
+-- does T-07 of the stream that a packed form is compared with. The promise of archived files does not: slices that are longer than a
+-- take are refused with 2. Assumes nothing.
+use mathlib.Core.Path.{◌≡◌, refl, sym, ap, ap₂, ◌∙◌}
+use mathlib.Core.Bool.{Bool, true, false, cond}
 use mathlib.Core.List.{List, [], ◌∷◌, ◌++◌, head?, get_last?}
 use mathlib.Core.Option.{Option, none, some}
-use Prim.Native.Nat.{ℕ, zero, suc, ◌+◌, ◌*◌, ◌<◌}
+use Prim.Native.Nat.{ℕ, zero, suc, ◌+◌, ◌*◌, ◌/◌, ◌≤◌, ◌<◌}
 use native.Mathlib.Omega.{arith}
-use lib.Dec.{lit≤}
+use lib.Dec.{ltb, lit≤}
+use borrow.Author.Tests.{lt-ltb}
 use lib.ListN.{length, replicate, length-replicate}
+use Rattle.refusal.specs.declared.Refusal.{Refusal}
+use Rattle.refusal.specs.declared.Refusal.TheVariants.{Length, Room}
 use Rattle.stream_spec.specs.declared.Shape.{Shape}
 use Rattle.stream_spec.specs.Items.{Transfer, Item, items}
 use Rattle.stream_spec.specs.Packed.{apart, parted, fitted}
-use Rattle.stream_spec.specs.Layout.{Kept, size, octets, stream_items}
-use Rattle.stream_spec.specs.Checks.{capture_most}
-use Rattle.stream_spec.specs.Answers.{repack_answer}
+use Rattle.stream_spec.specs.Layout.{Kept, size, octets, records, record_count, stream_items, packed_transfers, packed, sliced}
+use Rattle.stream_spec.specs.Checks.{capture_most, length_check, transfer_checks, room_check}
+use Rattle.stream_spec.specs.Answers.{written, repack_refusal, repack_answer}
 use Rattle.stream_spec.specs.Legal.{Legal}
+use Rattle.stream_spec.specs.Promises.{Width}
 use Rattle.stream_spec.specs.Demand3.{CallsKeep, Part, whole, AllAccepted, Divides}
 use Rattle.stream_spec.specs.Tables.{lanes, stream, pair, LegalLong, part, ended}
-use Rattle.stream_spec.specs.Witnesses.{mixed_calls, transfer, packed_ones, ones_items, ones_octets, Behind, many_parts, ManyJoin}
+use Rattle.stream_spec.specs.Witnesses.{mixed_calls, transfer, packed_ones, ones_items, ones_octets, Behind, many_parts, ManyJoin, ArchivesOf}
+use Rattle.stream_spec.proofs.Passed.{WidthFits, ShapeFits, fits_width, shapes_left}
+use Rattle.stream_spec.proofs.Repack.{legal_repacks}
 use Rattle.stream_spec.proofs.Pack.{Wide, length-fitted}
-use Rattle.stream_spec.proofs.Records.{length-octets, transfers_back}
+use Rattle.stream_spec.proofs.Records.{length-pieces, length-octets, transfers_back}
 use Rattle.stream_spec.proofs.Users.{Tagged}
 use Rattle.stream_spec.proofs.Each.{EachLane}
 use Rattle.stream_spec.proofs.Legal.{PairFits, ByteFits, Sound, transfers-legal}
-use Rattle.stream_spec.proofs.Promises.{no_shorter}
+use Rattle.stream_spec.proofs.Promises.{no_shorter, lane_keeping, archives_repack}
 use Rattle.stream_spec.proofs.Demand3.{calls, parts}
 use Rattle.stream_spec.proofs.Tables.{width_tested}
 
@@ -164,3 +171,39 @@ many_join n =
       joins = parts (lanes 1) 2 (many_parts n) (replicate n 1) (rw (many-octets n) legal) (many-accepted n) (many-divides n);
       octets = ap length (many-octets n) ∙ many-length (lanes 1) n end_only refl;
     }
+
+-- ---- archived files: slices that are longer than a take
+
+pub short_archives : ArchivesOf (λ (xs ys : List ℕ). length ys ≤ capture_most)
+short_archives = archives_repack
+
+-- such slices are refused with 2, and a legal stream that is as short as a take never is
+no_length : (b : Bool) (n m : ℕ) → written (some Length) n ≡ written (cond b (some Room) none) m → ⊥
+no_length true n m e = let z : ◌≡◌ {A = ℕ} 0 1 = cc in absurd (omega arith)
+no_length false n m e = let z : ◌≡◌ {A = ℕ} 0 1 = cc in absurd (omega arith)
+
+never_alike : (s t : Shape) (u : ℕ) (xs ys : List ℕ) (room : ℕ) → WidthFits u → Legal s xs → length xs ≤ capture_most → ShapeFits t → capture_most < length ys
+    → repack_answer t u ys room ≡ repack_answer s u xs room → ⊥
+unfolding repack_answer
+never_alike s t u xs ys room w l short shape long e =
+    let later = transfer_checks t 0 (records t ys) ++ room_check (packed t u ys) room ∷ [] in
+    let two : repack_refusal t u ys room ≡ some Length =
+    shapes_left t u (length_check t ys ∷ later) shape ∙ rw (fits_width u w, lt-ltb capture_most (length ys) long) refl in
+    let other : repack_refusal s u xs room ≡ cond (ltb room (length (packed s u xs))) (some Room) none =
+    legal_repacks s u xs room l short ∙ rw (fits_width u w) refl in
+    no_length (ltb room (length (packed s u xs))) (length (packed_transfers t u ys)) (length (packed_transfers s u xs))
+    (sym (ap (λ (o : Option Refusal). written o (length (packed_transfers t u ys))) two) ∙ e ∙ ap (λ (o : Option Refusal). written o (length (packed_transfers s u xs))) other)
+
+-- 2,849 records of 16 lanes are 65,527 octets, a take; their slices of one lane are 364,672
+pub not_of_any_length : ArchivesOf (λ (xs ys : List ℕ). length xs ≤ capture_most) → ⊥
+unfolding size
+not_of_any_length alike =
+    let l = legal_long (lanes 16) 2849 ((width_tested 16).1 refl) (lit≤ tt) in
+    let one : Width 1 = (width_tested 1).1 refl in
+    let short : length l.octets ≤ capture_most = omega (arith, l.count) in
+    let k = lane_keeping (lanes 16) 1 l.octets one refl l.legal in
+    let many : length (records (lanes 16) l.octets) ≡ 2849 =
+    length-pieces 23 (record_count (lanes 16) l.octets) l.octets ∙ ap (λ (n : ℕ). n / 23) l.count in
+    never_alike (lanes 16) (lanes 1) 1 l.octets (sliced (lanes 16) 1 l.octets) 0 (record { low = lit≤ tt; high = lit≤ tt }) l.legal short
+    (record { low = lit≤ tt; high = lit≤ tt; user = lit≤ tt }) (omega (arith, k.long, many))
+    (alike (lanes 16) 1 l.octets one refl l.legal short short 1 []).answers

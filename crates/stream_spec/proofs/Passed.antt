@@ -2,14 +2,15 @@
 -- take. A new test of a shape is one field and one line here. Assumes nothing.
 use mathlib.Core.Path.{◌≡◌, refl}
 use mathlib.Core.Bool.{false, not}
-use mathlib.Core.List.{List, [], ◌∷◌}
+use mathlib.Core.List.{List, [], ◌∷◌, ◌++◌}
 use mathlib.Core.Option.{none}
 use Prim.Native.Nat.{ℕ, ◌%◌, ◌≤◌}
 use native.Mathlib.Omega.{arith}
 use borrow.Author.Tests.{eqb-false, eqb-true, ltb-false, le-ltb, eq-eqb, ne_eqb, not-false}
 use lib.Dec.{eqb, ltb}
 use lib.ListN.{length}
-use Rattle.refusal.specs.Checks.{first}
+use Rattle.refusal.specs.Checks.{Check, first}
+use Rattle.refusal.specs.declared.Refusal.{Refusal}
 use Rattle.refusal.proofs.First.{first-none, none_first, append-none, none-append}
 use Rattle.stream_spec.specs.declared.Shape.{Shape}
 use Rattle.stream_spec.specs.Layout.{width_most, user_most, size}
@@ -67,6 +68,10 @@ pub fits-shapes : (s : Shape) (v : ℕ) → ShapeFits s → WidthFits v → firs
 fits-shapes s v h o =
     none_first (width_check s.width) (width_check v ∷ user_check s ∷ []) (of_width s h)
     (none_first (width_check v) (user_check s ∷ []) (fits_width v o) (of_user s h))
+
+-- of a shape that fits, only the output's width is left to be tested
+pub shapes_left : (s : Shape) (v : ℕ) (cs : List (Check Refusal)) → ShapeFits s → first (shape_checks s (v ∷ []) ++ cs) ≡ first (width_check v ∷ cs)
+shapes_left s v cs h = rw (of_width s h, le-ltb user_most s.user h.user) refl
 
 -- what code asks of a shape whose size it counts
 pub shape_narrow : (s : Shape) → ShapeFits s → Narrow s

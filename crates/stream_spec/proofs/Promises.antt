@@ -10,18 +10,21 @@ use lib.Pow.{pow_pos, pow_mono, shr-shr}
 use native.Mathlib.Nat.{le_trans, one-mul, mod-le, le-div_iff_mul-le, suc-mul, zero-mul, div-add-mod', mul-le-mul_right, div-mul-le_self}
 use native.Mathlib.Omega.{arith}
 use lib.ListN.{length, get_or, drop, length-map, length-append, length-drop}
-use mathlib.Core.Option.{none}
+use mathlib.Core.Option.{Option, none}
+use Rattle.refusal.specs.declared.Refusal.{Refusal}
+use Rattle.refusal.specs.Checks.{first}
 use Rattle.stream_spec.specs.declared.Shape.{Shape}
 use Rattle.stream_spec.specs.declared.Verdict.TheVariants.{Clean}
 use Rattle.stream_spec.specs.Items.{Item, Transfer, items}
 use Rattle.stream_spec.specs.Packed.{pack, slice_transfer, slices}
-use Rattle.stream_spec.specs.Layout.{bit, odd, size, tvalid, aresetn, tkeep, tstrb, shaped, at_width, null_lane, lane_type, types_of, Kept, data_octets, user_number, octets_of, record_count, records, transfer_of, transfers, octets, stream_items, packed_transfers, packed, sliced_transfers}
-use Rattle.stream_spec.specs.Checks.{take_checks, index_check}
+use Rattle.stream_spec.specs.Layout.{bit, odd, size, tvalid, aresetn, tkeep, tstrb, shaped, at_width, null_lane, lane_type, types_of, Kept, data_octets, user_number, octets_of, record_count, records, transfer_of, transfers, octets, stream_items, packed_transfers, packed, sliced_transfers, sliced}
+use Rattle.stream_spec.specs.Checks.{capture_most, width_check, take_checks, index_check, room_check}
 use Rattle.stream_spec.specs.Handshake.{was_reset}
 use Rattle.stream_spec.specs.Walk.{Passed}
-use Rattle.stream_spec.specs.Answers.{judge_answer, data_refusal, data_part}
+use Rattle.stream_spec.specs.Answers.{written, lent_after, judge_answer, data_refusal, data_part, repack_refusal, repack_answer, repack_after}
+use Rattle.stream_spec.specs.Legal.{Legal}
 use Rattle.stream_spec.specs.Demand3.{accepted}
-use Rattle.stream_spec.specs.Promises.{SetAbove, cycle_before, FieldBits, UserExactly, RecordGrows, WithoutUserBits, LaneUserBits, PaddingExactly, NullsZero, NullLanesZero, DataHandedOut, WidthExactly, LengthExactly, ByteTypes, RepackingKeeps, PackedLegal, PackedLength, PackedFull, PackedOnly, Holds, Joins, Canonical, NoShorter, LeastReached, LaneKeeping, Findings, ResetQuiet, HarvestLegal, HarvestRepacks, FilledHarvest, JudgedAlike, EachItsPacket}
+use Rattle.stream_spec.specs.Promises.{SetAbove, cycle_before, FieldBits, UserExactly, RecordGrows, WithoutUserBits, LaneUserBits, PaddingExactly, NullsZero, NullLanesZero, DataHandedOut, WidthExactly, LengthExactly, ByteTypes, RepackingKeeps, PackedLegal, PackedLength, PackedFull, PackedOnly, Holds, Joins, Canonical, NoShorter, LeastReached, LaneKeeping, ArchivesRepack, Findings, ResetQuiet, HarvestLegal, HarvestRepacks, FilledHarvest, JudgedAlike, EachItsPacket}
 use Rattle.stream_spec.proofs.Bits.{bit-zero, bit-suc}
 use Rattle.stream_spec.proofs.Size.{size_is, data_long}
 use Rattle.stream_spec.proofs.Bools.{or_split, not_left}
@@ -30,12 +33,12 @@ use Rattle.stream_spec.proofs.Passed.{checks-passed}
 use Rattle.stream_spec.proofs.Pack.{Wide, pack-parted, length-spread, items-slices, wide-pack, wide-slices}
 use Rattle.stream_spec.proofs.Hold.{hold}
 use Rattle.stream_spec.proofs.Least.{pack-least}
-use Rattle.stream_spec.proofs.Records.{octets_sized, records-joined, packed-items, length-packed, transfers_back, packed-tagged, sliced-tagged}
+use Rattle.stream_spec.proofs.Records.{octets_sized, records-joined, packed-items, length-octets, length-packed, transfers_back, packed-tagged, sliced-tagged}
 use Rattle.stream_spec.proofs.Users.{Tagged}
 use Rattle.stream_spec.proofs.Bare.{without_user-bits}
 use Rattle.stream_spec.proofs.UserBits.{lane-reads, padding_set, set_padding, transfers-nulls}
 use Rattle.stream_spec.proofs.Legal.{packed-legal, sliced-legal, wide-transfers}
-use Rattle.stream_spec.proofs.Repack.{takes_legal, accepted_of}
+use Rattle.stream_spec.proofs.Repack.{takes_legal, legal_repacks, accepted_of}
 use Rattle.stream_spec.proofs.Full.{packed-full}
 use Rattle.stream_spec.proofs.Only.{packed-only}
 use Rattle.stream_spec.proofs.Findings.{judges}
@@ -234,13 +237,32 @@ pub lane_keeping : LaneKeeping
 lane_keeping s v xs w d l =
     let same = ap items (transfers_back (at_width s v) (sliced_transfers s v xs) (wide-slices s.width v (transfers s xs)) (sliced-tagged s v xs))
     ∙ items-slices s.width v w.0 d l.width_low (transfers s xs) (wide-transfers s xs) in
+    let count = count-slices s.width v (one_slice s.width v d l.width_low) (transfers s xs)
+    ∙ ap (λ (n : ℕ). n * (s.width / v)) (length-map (records s xs) (transfer_of s)) in
     record {
       same = same;
       legal = sliced-legal s v xs w.0 w.1 l;
       packs = λ u. ap (λ (is : List (Item Kept)). octets s.user (pack u is)) same;
-      count =
-          count-slices s.width v (one_slice s.width v d l.width_low) (transfers s xs)
-          ∙ ap (λ (n : ℕ). n * (s.width / v)) (length-map (records s xs) (transfer_of s));
+      count = count;
+      long =
+          length-octets (at_width s v) (sliced_transfers s v xs) (wide-slices s.width v (transfers s xs))
+          ∙ ap (λ (n : ℕ). n * size (at_width s v)) count;
+    }
+
+-- both calls are tested for the output's width and for room, and for nothing else; and the packed form is the same
+alike_refused : (s t : Shape) (xs ys : List ℕ) → Legal s xs → Legal t ys → length xs ≤ capture_most → length ys ≤ capture_most
+    → (u : ℕ) → packed t u ys ≡ packed s u xs → (room : ℕ) → repack_refusal t u ys room ≡ repack_refusal s u xs room
+alike_refused s t xs ys l k a b u same room =
+    legal_repacks t u ys room k b ∙ ap (λ (zs : List ℕ). first (width_check u ∷ room_check zs room ∷ [])) same ∙ sym (legal_repacks s u xs room l a)
+
+pub archives_repack : ArchivesRepack
+unfolding repack_answer repack_after
+archives_repack s v xs w d l a b u lent =
+    let k = lane_keeping s v xs w d l in
+    let refusal = alike_refused s (at_width s v) xs (sliced s v xs) l k.legal a b u (k.packs u) (length lent) in
+    record {
+      answers = ap₂ (λ (r : Option Refusal) (is : List (Item Kept)). written r (length (pack u is))) refusal k.same;
+      leaves = ap₂ (λ (r : Option Refusal) (zs : List ℕ). lent_after r zs lent) refusal (k.packs u);
     }
 
 -- ---- findings and harvest

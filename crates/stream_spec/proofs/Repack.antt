@@ -1,6 +1,6 @@
 -- What an accepted repacking call means: its widths are from 1 to 16, its input is a take of whole records without fault,
 -- and its result is the packed form. Assumes nothing.
-use mathlib.Core.Path.{◌≡◌, refl}
+use mathlib.Core.Path.{◌≡◌, refl, ◌∙◌}
 use mathlib.Core.Bool.{false}
 use mathlib.Core.List.{List, [], ◌∷◌, ◌++◌}
 use mathlib.Core.Option.{Option, none, some}
@@ -13,12 +13,12 @@ use Rattle.refusal.specs.declared.Refusal.{Refusal}
 use Rattle.stream_spec.specs.declared.Shape.{Shape}
 use Rattle.stream_spec.specs.Layout.{size, at_width, records, packed_transfers, packed}
 use Rattle.refusal.specs.Checks.{first}
-use Rattle.stream_spec.specs.Checks.{shape_checks, length_check, transfer_checks, room_check}
+use Rattle.stream_spec.specs.Checks.{capture_most, width_check, shape_checks, length_check, transfer_checks, room_check}
 use Rattle.stream_spec.specs.Answers.{written, repack_refusal, repack_answer, repack_after}
 use Rattle.stream_spec.specs.Legal.{Octets, Legal}
 use Rattle.stream_spec.specs.Demand3.{Call, answer_to, accepted, result_of}
-use Rattle.refusal.proofs.First.{first-none, none_first, append-none, none-append}
-use Rattle.stream_spec.proofs.Passed.{WidthFits, ShapeFits, shapes_fit, fits-shapes, length-fits}
+use Rattle.refusal.proofs.First.{first-none, none_first, append-none, none-append, append-passed}
+use Rattle.stream_spec.proofs.Passed.{WidthFits, ShapeFits, shapes_fit, fits-shapes, shapes_left, length-fits, fits-length}
 use Rattle.stream_spec.proofs.Records.{length-packed}
 
 -- the input that a repacking call accepts
@@ -70,6 +70,15 @@ takes_legal s xs o h =
       whole = takes_whole s xs h;
       faultless = h.faultless;
     }
+
+-- A legal stream that is no longer than a take is refused for the output's width or for want of room, and for nothing else.
+pub legal_repacks : (s : Shape) (v : ℕ) (xs : List ℕ) (room : ℕ) → Legal s xs → length xs ≤ capture_most
+    → repack_refusal s v xs room ≡ first (width_check v ∷ room_check (packed s v xs) room ∷ [])
+legal_repacks s v xs room l short =
+    let roomy = room_check (packed s v xs) room ∷ [] in
+    let later = transfer_checks s 0 (records s xs) ++ roomy in
+    shapes_left s v (length_check s xs ∷ later) (record { low = l.width_low; high = l.width_high; user = l.user_high })
+    ∙ rw (fits-length s xs short l.whole, append-passed (transfer_checks s 0 (records s xs)) roomy l.faultless) refl
 
 -- ---- answers
 

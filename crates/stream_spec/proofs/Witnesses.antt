@@ -1,30 +1,32 @@
 -- Every promise that has a premise, applied to the worked data of specs/Witnesses: all its premises hold there, and what it
 -- says is what was typed by hand. Assumes nothing.
-use mathlib.Core.Path.{◌≡◌, refl}
+use mathlib.Core.Path.{◌≡◌, refl, ap, ◌∙◌}
 use mathlib.Core.Bool.{true, false}
 use mathlib.Core.List.{List, [], ◌∷◌, ◌++◌}
 use mathlib.Core.Logic.{◌⊎◌}
 use mathlib.Core.Option.{none, some}
-use Prim.Native.Nat.{ℕ, ◌≤◌, ◌<◌}
+use Prim.Native.Nat.{ℕ, ◌*◌, ◌/◌, ◌%◌, ◌≤◌, ◌<◌}
 use native.Mathlib.Omega.{arith}
 use lib.Dec.{lit<, lit≤}
 use lib.ListN.{length, get_or}
-use Rattle.refusal.specs.declared.Refusal.TheVariants.{Room, Index}
+use Rattle.refusal.specs.declared.Refusal.TheVariants.{Width as BadWidth, Room, Index}
 use Rattle.stream_spec.specs.declared.Shape.{Shape}
 use Rattle.stream_spec.specs.declared.Verdict.TheVariants.{Clean}
+use Rattle.stream_spec.specs.declared.Written.{Written}
+use Rattle.stream_spec.specs.declared.Written.TheVariants.{Records, Refused}
 use Rattle.stream_spec.specs.Packed.{pack}
-use Rattle.stream_spec.specs.Layout.{bit, size, shaped, at_width, position, transfer_of, data_lane, null_lane, lane_types, records, stream_items, packed_transfers, packed, sliced_transfers}
-use Rattle.stream_spec.specs.Checks.{width_check, user_fault}
+use Rattle.stream_spec.specs.Layout.{bit, size, shaped, at_width, position, transfer_of, data_lane, null_lane, lane_types, records, stream_items, packed_transfers, packed, sliced_transfers, sliced}
+use Rattle.stream_spec.specs.Checks.{capture_most, width_check, user_fault}
 use Rattle.stream_spec.specs.Handshake.{low, high, harvested, filled_in}
-use Rattle.stream_spec.specs.Answers.{judge_answer, fill_after, repack_refusal, repack_answer, repack_after, data_part}
+use Rattle.stream_spec.specs.Answers.{judge_answer, fill_after, repack_refusal, repack_answer, repack_after, data_part, written_values, Repacked}
 use Rattle.stream_spec.specs.Legal.{Octets, Legal}
 use Rattle.stream_spec.specs.Promises.{Width, SetAbove, lane_bits, PaddingSet, Packs, breaks, IsEarliest, Quiet}
 use Rattle.stream_spec.specs.Demand3.{accepted_at, next, after_calls, whole}
 use Rattle.stream_spec.specs.Tables.{lanes, stream, tagged, is_legal}
 use Rattle.stream_spec.specs.Cases.{p1, straddled}
-use Rattle.stream_spec.specs.Witnesses.{first, first_items, at_one, at_two, at_four, at_sixteen, endless, endless_items, lends, refused_calls, mixed_calls, some_parts, some_numbers, some_joined, packed_ones, ones_bytes, ones_ends, ones_items, spread_out, Compared, p1_slices, p1_items, p1_packed, wide, broken_take, clean_take, reset_take, early_take, loud_take, harvest, harvest_low, harvest_high, last_ones, last_twos, tags, tags_items, tags_at_one, tags_at_two, tags_at_three, tags_slices, tags_calls, tags_parts, tags_joined, padded, two_tags, tags_take, tags_harvest}
+use Rattle.stream_spec.specs.Witnesses.{first, first_items, at_one, at_two, at_four, at_sixteen, endless, endless_items, lends, refused_calls, mixed_calls, some_parts, some_numbers, some_joined, packed_ones, ones_bytes, ones_ends, ones_items, spread_out, Compared, p1_slices, p1_items, p1_packed, twelve, wide, broken_take, clean_take, reset_take, early_take, loud_take, harvest, harvest_low, harvest_high, last_ones, last_twos, tags, tags_items, tags_at_one, tags_at_two, tags_at_three, tags_slices, tags_calls, tags_parts, tags_joined, padded, two_tags, tags_take, tags_harvest}
 use Rattle.stream_spec.proofs.Bools.{no_such}
-use Rattle.stream_spec.proofs.Promises.{field_bits, user_exactly, lane_user_bits, padding_exactly, null_lanes_zero, byte_types, data_handed_out, repacking_keeps, packed_legal, packed_full, packed_only, holds, joins, canonical, no_shorter, least_reached, lane_keeping, findings, reset_quiet, harvest_legal, harvest_repacks, filled_harvest, judged_alike, each_its_packet}
+use Rattle.stream_spec.proofs.Promises.{field_bits, user_exactly, lane_user_bits, padding_exactly, null_lanes_zero, byte_types, data_handed_out, repacking_keeps, packed_legal, packed_full, packed_only, holds, joins, canonical, no_shorter, least_reached, lane_keeping, archives_repack, findings, reset_quiet, harvest_legal, harvest_repacks, filled_harvest, judged_alike, each_its_packet}
 use Rattle.stream_spec.proofs.Demand3.{calls, parts}
 use Rattle.stream_spec.proofs.Tables.{width_tested, octets_tested, legal_tested, divides_tested}
 
@@ -170,6 +172,50 @@ slices =
     let k = lane_keeping (lanes 4) 2 p1 (width 2 refl) refl (legal 4 p1 refl) in
     (k.same, k.legal, k.packs 4, k.count)
 
+-- and their octets: two records of nine
+pub slices_long : length p1_slices ≡ 18
+unfolding size
+slices_long = (lane_keeping (lanes 4) 2 p1 (width 2 refl) refl (legal 4 p1 refl)).long
+
+-- at its widest, field by field
+module _ (s : Shape) (v : ℕ) (xs : List ℕ) (w : Width v) (d : s.width % v ≡ 0) (l : Legal s xs) where
+  pub slices-keep : (stream_items (at_width s v) (sliced s v xs) ≡ stream_items s xs) × ((u : ℕ) → packed (at_width s v) u (sliced s v xs) ≡ packed s u xs)
+  slices-keep = let k = lane_keeping s v xs w d l in (k.same, k.packs)
+
+  pub slices-legal : Legal (at_width s v) (sliced s v xs)
+  slices-legal = (lane_keeping s v xs w d l).legal
+
+  pub slices-count : (length (sliced_transfers s v xs) ≡ length (records s xs) * (s.width / v)) × (length (sliced s v xs) ≡ length (records s xs) * (s.width / v) * size (at_width s v))
+  slices-count = let k = lane_keeping s v xs w d l in (k.count, k.long)
+
+-- "v divides w": where it does not, lanes are lost: of three lanes, cut at 2, the third, a position byte
+pub not_undivided : ((s : Shape) (v : ℕ) (xs : List ℕ) → Width v → Legal s xs → stream_items (at_width s v) (sliced s v xs) ≡ stream_items s xs) → ⊥
+unfolding size
+not_undivided keeps =
+    let three : ◌≡◌ {A = ℕ} 2 3 = ap length (keeps (shaped 3 3) 2 straddled (width 2 refl) ((legal_tested (shaped 3 3) straddled).1 refl)) in
+    absurd (omega arith)
+
+-- an archived file, S2's two records, repacked to width 4: S1, and the octet after it stays
+pub archived : (repack_answer (lanes 2) 4 p1_slices 12 ≡ Records 1) × (repack_after (lanes 2) 4 p1_slices twelve ≡ p1_packed ++ (0xEE ∷ []))
+unfolding size repack_answer repack_after
+archived =
+    let k = archives_repack (lanes 4) 2 p1 (width 2 refl) refl (legal 4 p1 refl) (lit≤ tt) (lit≤ tt) 4 twelve in
+    (k.answers, k.leaves)
+
+-- it is refused alike too, here for its output's width and for want of room
+pub archived_refused : (repack_answer (lanes 2) 17 p1_slices 12 ≡ Refused BadWidth) × (repack_answer (lanes 2) 4 p1_slices 0 ≡ Refused Room)
+unfolding size repack_answer
+archived_refused =
+    let alike = archives_repack (lanes 4) 2 p1 (width 2 refl) refl (legal 4 p1 refl) (lit≤ tt) (lit≤ tt) in
+    ((alike 17 twelve).answers, (alike 4 []).answers)
+
+-- at its widest, of the contract: whatever a call answers and leaves for the slices meets the contract of the call for the original
+pub as_the_original : (s : Shape) (v : ℕ) (xs : List ℕ) → Width v → s.width % v ≡ 0 → Legal s xs → length xs ≤ capture_most → length (sliced s v xs) ≤ capture_most
+    → (u : ℕ) (before after : List ℕ) (r : Written) → Repacked (at_width s v) u (sliced s v xs) before after r → Repacked s u xs before after r
+as_the_original s v xs w d l a b u before after r p =
+    let k = archives_repack s v xs w d l a b u before in
+    record { is = p.is ∙ k.answers; shows = p.shows ∙ ap written_values k.answers; leaves = p.leaves ∙ k.leaves }
+
 -- ---- findings and harvest
 
 -- the earliest cycle and its lowest rule, against a later rule of that cycle and against the last cycle
@@ -282,6 +328,13 @@ tags-legal = packed_legal (shaped 3 3) 2 straddled (width 2 refl) legal-tags
 pub tags-sliced : (stream_items (shaped 1 3) tags_slices ≡ tags_items) × Legal (shaped 1 3) tags_slices × (packed (shaped 1 3) 2 tags_slices ≡ tags_at_two)
 unfolding size
 tags-sliced = let k = lane_keeping (shaped 3 3) 1 straddled (width 1 refl) refl legal-tags in (k.same, k.legal, k.packs 2)
+
+-- an archived file too: its slices repacked to width 2
+pub tags_archived : (repack_answer (shaped 1 3) 2 tags_slices 12 ≡ Records 1) × (repack_after (shaped 1 3) 2 tags_slices twelve ≡ tags_at_two ++ (0xEE ∷ 0xEE ∷ []))
+unfolding size repack_answer repack_after
+tags_archived =
+    let k = archives_repack (shaped 3 3) 1 straddled (width 1 refl) refl legal-tags (lit≤ tt) (lit≤ tt) 2 twelve in
+    (k.answers, k.leaves)
 
 -- demand 3 with one m in all the calls, and straight there; and of parts
 pub tags_stand : after_calls tags tags_calls ≡ tagged 2 3 tags_at_two

@@ -373,4 +373,13 @@ worked_cases =
     (one 0xFF 0 0 0 0 0 ++ (0xFE ∷ []) ++ one 0x09 0 0 0 0 0 ++ (0 ∷ []))
     -- W106: T-06: at its own width the null lane goes to the end, and gets zero bits
     ∷ gives (repack (shaped 3 3) 3 straddled (eight ++ ee)) 1 (0x01 ∷ 1 ∷ 2 ∷ 0x03 ∷ 0 ∷ 0x01 ∷ 0 ∷ 17 ∷ 0 ∷ 0 ∷ 0x35 ∷ 0 ∷ [])
+    -- W107: an archived file, which holds lane-keeping slices, is repacked like any other stream: S2's two records to width 4 are S1's
+    ∷ gives
+    (repack (lanes 2) 4
+    (0x00 ∷ 0x01 ∷ 0x02 ∷ 0x01 ∷ 0x00 ∷ 0x01 ∷ 0x00 ∷ 0x11 ∷ 0x00 ∷ 0x01 ∷ 0x01 ∷ 0x02 ∷ 0x03 ∷ 0x00 ∷ 0x02 ∷ 0x00 ∷ 0x00 ∷ 0x44 ∷ [])
+    (eight ++ ee))
+    1 (0x01 ∷ 0x01 ∷ 0x02 ∷ 0x07 ∷ 0x00 ∷ 0x05 ∷ 0x00 ∷ 0x11 ∷ 0x00 ∷ 0x44 ∷ 0x00 ∷ 0xEE ∷ [])
+    -- W108: the same with user bits: W88's three records to width 2 are W86's one
+    ∷ gives (repack (shaped 1 3) 2 (one 0 1 2 1 1 17 ++ (5 ∷ []) ++ one 0 1 2 0 0 0 ++ (0 ∷ []) ++ one 1 1 2 1 0 0 ++ (6 ∷ [])) (eight ++ ee)) 1
+    (0x01 ∷ 1 ∷ 2 ∷ 0x03 ∷ 0 ∷ 0x01 ∷ 0 ∷ 17 ∷ 0 ∷ 0x35 ∷ 0xEE ∷ 0xEE ∷ [])
     ∷ []

@@ -12,7 +12,7 @@ use Rattle.stream_spec.specs.Packed.{fitted, pack, settled, held, parted}
 use Rattle.stream_spec.specs.Layout.{bit, bit_of, mask_of, width_most, user_octets, user_number, data_octets, tlast, tvalid, aresetn, tkeep, tstrb, size, of_width, at_width, LaneType, data_lane, null_lane, lane_type, types_of, lane_types, any_reserved, lane_of, Kept, keep_bit, strb_bit, lane_octet, transfer_of, octets_of, records, joined, stream_items, packed_transfers, packed, sliced_transfers, sliced}
 use Rattle.stream_spec.specs.Checks.{width_check, user_check, length_check, user_fault, field_fault, reserved_fault}
 use Rattle.stream_spec.specs.Handshake.{r1, r2, r3, r4, Finding, first_finding, handshakes, harvested, filled_in, as_filled}
-use Rattle.stream_spec.specs.Answers.{judge_answer, fill_after, repack_refusal, repack_answer, harvest_refusal, data_refusal, data_part}
+use Rattle.stream_spec.specs.Answers.{judge_answer, fill_after, repack_refusal, repack_answer, repack_after, harvest_refusal, data_refusal, data_part}
 use Rattle.stream_spec.specs.Legal.{Octets, Legal}
 
 -- a width that is not refused
@@ -228,15 +228,28 @@ LeastReached = (s : Shape) (v : ℕ) (xs : List ℕ) (room n : ℕ) → Octets x
 
 -- ---- lane-keeping downsizing
 
--- "Its items equal the input's, so its packed form at any width is the input's." And it is a legal stream.
+-- "Its items equal the input's, so its packed form at any width is the input's." And it is a legal stream, of so many octets.
 pub record Keeps (s : Shape) (v : ℕ) (xs : List ℕ) : Type 0 where
   pub same : stream_items (at_width s v) (sliced s v xs) ≡ stream_items s xs
   pub legal : Legal (at_width s v) (sliced s v xs)
   pub packs : (u : ℕ) → packed (at_width s v) u (sliced s v xs) ≡ packed s u xs
   pub count : length (sliced_transfers s v xs) ≡ length (records s xs) * (s.width / v)
+  pub long : length (sliced s v xs) ≡ length (records s xs) * (s.width / v) * size (at_width s v)
 
 abbrev pub LaneKeeping : Type 0
 LaneKeeping = (s : Shape) (v : ℕ) (xs : List ℕ) → Width v → s.width % v ≡ 0 → Legal s xs → Keeps s v xs
+
+-- Archived files, which hold such slices, "remain legal transfer lists: repacking them gives what repacking their original takes
+-- gave". ys are repacked to width u like xs: the call answers the same, and leaves the same in whatever memory it is lent.
+pub record RepacksAlike (s t : Shape) (xs ys : List ℕ) (u : ℕ) (lent : List ℕ) : Type 0 where
+  pub answers : repack_answer t u ys (length lent) ≡ repack_answer s u xs (length lent)
+  pub leaves : repack_after t u ys lent ≡ repack_after s u xs lent
+
+-- At every width, refused ones too, and into every room. Both have to be as short as a take, since what is longer is refused with 2.
+abbrev pub ArchivesRepack : Type 0
+ArchivesRepack =
+    (s : Shape) (v : ℕ) (xs : List ℕ) → Width v → s.width % v ≡ 0 → Legal s xs → length xs ≤ 65536 → length (sliced s v xs) ≤ 65536
+    → (u : ℕ) (lent : List ℕ) → RepacksAlike s (at_width s v) xs (sliced s v xs) u lent
 
 -- ---- handshake findings
 

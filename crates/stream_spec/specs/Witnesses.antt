@@ -1,14 +1,15 @@
 -- Worked data for each promise that has a premise: examples that meet all its premises, and what it then says of them,
 -- typed by hand and never computed. proofs/Witnesses applies the proved promise to each, so a premise that lets in less
 -- is refused there. Which streams, divisions and numbers a premise lets in is in Tables.
-use Rattle.std.specs.Prelude.{◌≡◌, Bool, true, false, List, [], ◌∷◌, ◌++◌, map, ℕ, ◌+◌, ◌*◌, ◌≤◌, length, replicate}
+use Rattle.std.specs.Prelude.{◌≡◌, Bool, true, false, List, [], ◌∷◌, ◌++◌, map, ℕ, ◌+◌, ◌*◌, ◌%◌, ◌≤◌, length, replicate}
 use Rattle.std.proofs.Math.Option.{Option, none, some}
 use Rattle.stream_spec.specs.declared.Shape.{Shape}
 use Rattle.stream_spec.specs.declared.Written.TheVariants.{Records}
 use Rattle.stream_spec.specs.Items.{Transfer, Item, byte, end}
-use Rattle.stream_spec.specs.Layout.{Kept, octet, position, records, stream_items}
+use Rattle.stream_spec.specs.Layout.{Kept, octet, position, at_width, records, stream_items, sliced}
 use Rattle.stream_spec.specs.Answers.{repack_answer}
 use Rattle.stream_spec.specs.Legal.{Legal}
+use Rattle.stream_spec.specs.Promises.{Width, RepacksAlike}
 use Rattle.stream_spec.specs.Demand3.{Call, Standing, Part, whole, PartsJoin}
 use Rattle.stream_spec.specs.Cases.{straddled}
 use Rattle.stream_spec.specs.Tables.{lanes, one, stream, tagged, pair, part, seven, other_tid, other_tdest, ended, nulls}
@@ -142,6 +143,16 @@ p1_items = byte (pair 1 2) (octet 0x11 0) ∷ byte (pair 1 2) (position 0) ∷ b
 
 abbrev pub p1_packed : List ℕ
 p1_packed = 0x01 ∷ 0x01 ∷ 0x02 ∷ 0x07 ∷ 0x00 ∷ 0x05 ∷ 0x00 ∷ 0x11 ∷ 0x00 ∷ 0x44 ∷ 0x00 ∷ []
+
+-- lent memory of twelve octets
+abbrev pub twelve : List ℕ
+twelve = replicate {A = ℕ} 12 0xEE
+
+-- the statement of archived files with another condition on how long the slices of xs are
+abbrev pub ArchivesOf : (List ℕ → List ℕ → Type 0) → Type 0
+ArchivesOf short =
+    (s : Shape) (v : ℕ) (xs : List ℕ) → Width v → s.width % v ≡ 0 → Legal s xs → length xs ≤ 65536 → short xs (sliced s v xs)
+    → (u : ℕ) (lent : List ℕ) → RepacksAlike s (at_width s v) xs (sliced s v xs) u lent
 
 -- lane 15 of width 16 is a data lane, lane 14 a position lane
 abbrev pub wide : List ℕ
