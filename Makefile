@@ -21,16 +21,16 @@ test: need-rt
 DIR = examples/p1
 run: need-rt
 	@[ -d "$(DIR)" ] || { echo "there is no folder '$(DIR)': make a folder with setup.txt and take.bin in it, then make run DIR=that-folder" >&2; exit 1; }
-	@[ -x target/bin/report ] || echo "proving and building the report program first; this takes some minutes" >&2
-	@rt check report > build/run.log 2>&1 || { tail -n 20 build/run.log >&2; echo "the report program was not built, see above (whole log: build/run.log)" >&2; exit 1; }
-	@cd "$(DIR)" && "$(CURDIR)/target/bin/report"
+	@[ -x crates/report/out/report ] || echo "proving and building the report program first; this takes some minutes" >&2
+	@(cd crates/report && rt run) > build/run.log 2>&1 < /dev/null || { tail -n 20 build/run.log >&2; echo "the report program was not built, see above (whole log: build/run.log)" >&2; exit 1; }
+	@cd "$(DIR)" && "$(CURDIR)/crates/report/out/report"
 
 table: need-rt
-	@rt check table > build/table.log 2>&1 || { tail -n 20 build/table.log; exit 1; }
-	@target/bin/table
+	@(cd crates/table && rt run) 2> build/table.log || { tail -n 20 build/table.log; exit 1; }
 
 check: need-rt
-	rt check
+	rt all check
+	@for name in cases report table; do sh tests/program $$name || exit 1; done
 
 lib: need-rt
 	@sh bindings/build
@@ -43,10 +43,10 @@ bench: need-rt
 	@sh bench/run
 
 fmt: need-rt
-	rt fmt
+	@for crate in crates/*; do (cd $$crate && rt fmt) || exit 1; done
 
 clean:
-	rm -rf target build
+	rm -rf build crates/*/out
 
 .PHONY: need-rt
 need-rt:

@@ -20,7 +20,7 @@ function parameter(text,    name, type) {
 inside && /^}/ { print line " } " name ";"; inside = 0; next }
 inside { field = $0; gsub(/^ *pub |,$/, "", field); split(field, part, /: */); line = line " " (part[2] in c ? c[part[2]] : part[2]) " " part[1] ";"; next }
 
-/^#\[no_mangle\]/ { head = ""; reading = 1; next }
+/^#\[unsafe\(no_mangle\)\]/ { head = ""; reading = 1; next }
 reading { sub(/^ */, " "); gsub(/<'a>|'a /, ""); head = head $0 } # how long a part is lent does not cross the border
 reading && /->/ {
     reading = 0

@@ -20,8 +20,9 @@ FNR == 1 {
     n = split(FILENAME, part, "/")
     place = part[2] " " part[n]
 }
+ghost && /^ *(ghost|use|pub|mod|fn|const|#)/ { odd("a ghost use of a line before has no end") }
 /^ *ghost use / { ghost = 1 }
-head && /^ *(requires|ensures)( [a-z_]+)? *\{/ { contract = 1 }
+head && /^ *(requires|ensures)( [a-z0-9_]+)? *\{/ { contract = 1 }
 (ghost || contract) && /\/\/|--/ { odd("a comment in what the prover reads") }
 { sub(/\/\/.*/, "") }
 ghost { if (!sub(/^[^;]*;/, "")) next; ghost = 0 }

@@ -9,27 +9,30 @@ mod merges;
 mod streams;
 mod writes;
 
-fn main() {
-    streams::packed();
-    streams::three_pairs();
-    streams::findings();
-    streams::resets();
-    streams::levels();
-    streams::bounds();
-    streams::fields();
-    streams::user_bits();
-    streams::user_bounds();
-    streams::user_takes();
-    bursts::beats();
-    bursts::wrap();
-    bursts::boundary();
-    bursts::counts();
-    bursts::top();
-    cuts::incr();
-    cuts::others();
-    writes::lanes();
-    writes::counts();
-    writes::refusals();
-    merges::turns();
-    merges::refusals();
+use std::io;
+
+// An answer that can't be written ends the program with that error.
+fn main(rt: HostRuntime) -> io::Result<()> {
+    streams::packed(&rt)?;
+    streams::three_pairs(&rt)?;
+    streams::findings(&rt)?;
+    streams::resets(&rt)?;
+    streams::levels(&rt)?;
+    streams::bounds(&rt)?;
+    streams::fields(&rt)?;
+    streams::user_bits(&rt)?;
+    streams::user_bounds(&rt)?;
+    streams::user_takes(&rt)?;
+    bursts::beats(&rt)?;
+    bursts::wrap(&rt)?;
+    bursts::boundary(&rt)?;
+    bursts::counts(&rt)?;
+    bursts::top(&rt)?;
+    cuts::incr(&rt)?;
+    cuts::others(&rt)?;
+    writes::lanes(&rt)?;
+    writes::counts(&rt)?;
+    writes::refusals(&rt)?;
+    merges::turns(&rt)?;
+    merges::refusals(&rt)
 }

@@ -8,7 +8,7 @@ use native.Mathlib.Omega.{arith}
 use lib.ListN.{length, take, drop, length-append}
 use lib.Seq.{length-take-le, take_at}
 use borrow.Author.Tests.{le-ltb}
-use Rattle.io.specs.Counts.{IsPrefixLen}
+use Rattle.report.specs.Counts.{IsPrefixLen}
 use Rattle.stream_spec.specs.Memory.{in_front}
 use Rattle.report_spec.specs.declared.Summary.{Summary}
 use Rattle.report_spec.specs.Report.{Whole, report_of, fitting, text_most, Reported}

@@ -2,7 +2,7 @@
 -- and printed. Words in quotes are paper 01's.
 use Rattle.std.specs.Prelude.{◌≡◌, true, List, ℕ, take}
 use Rattle.std.proofs.Math.Option.{Option}
-use Rattle.io.specs.Counts.{IsPrefixLen}
+use Rattle.report.specs.Counts.{IsPrefixLen}
 use Rattle.report_spec.specs.declared.Summary.{Summary}
 use Rattle.report_spec.specs.Report.{contents, Whole, report_of}
 use Rattle.report_spec.specs.Promises.{is_clean}

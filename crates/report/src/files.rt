@@ -1,12 +1,24 @@
 // The report program's files: a file read whole into a lent buffer, and out.bin written whole or not at all.
 // `save` and `print` take the summary for their contracts alone: these ask that what they are handed is its result or its text.
-// The kit's contracts say nothing of what a call reads or writes, so only code and tests/report show the rest: that `read_file`
+// std's contracts say nothing of what a call on a file reads or writes, so only code and tests/report show the rest: that `read_file`
 // hands over what the file holds, that `save` puts its octets into out.bin and flushes them, and that `print` puts its
 // letters on standard output. Proved of that is that nothing goes out of bounds and that every loop ends.
-ghost use Rattle.io.specs.Counts.{IsPrefixLen};
+ghost use Rattle.report.specs.Counts.{IsPrefixLen};
 ghost use Rattle.report.specs.Delivery.{Saves, Prints};
 
+use arrayvec::ArrayString;
 use report_spec::Summary;
+use std::fmt::Write as _;
+use std::fs;
+use std::fs::OpenFile;
+use std::io;
+use std::io::{Read, Write};
+use std::rt::Files;
+
+// The system's numbers of the two failures that a flush of the folder may have: it may not be read, and it has no flush.
+const EACCES: i32 = 13;
+
+const EINVAL: i32 = 22;
 
 // How many octets of a file stand at the front of the buffer, and whether they are the whole file: false where it can't be
 // opened, where a read fails at any point, and where the file is longer than the buffer.
@@ -17,118 +29,144 @@ pub struct Input {
 }
 
 // Reads the file of this name.
-pub fn read_file(name: &[u8], buf: &mut [u8]) -> Input
+pub fn read_file(rt: &impl Files, name: &str, buf: &mut [u8]) -> Input
     ensures { IsPrefixLen result.octets buf.new }
 {
-    let fd = os::open_read(name);
-    if fd < 0 {
-        return Input {
+    match fs::open(rt, name) {
+        Ok(mut file) => read_open(&mut file, buf),
+        Err(_) => Input {
             octets: 0,
             whole: false,
-        };
+        },
     }
-    let input = read_open(fd, buf);
-    libc::close(fd);
-    input
 }
 
-// Reads until the file ends, a read fails or the buffer is full. The sign of each read is kept, since a folder can be opened
-// and only its read fails.
-fn read_open(fd: i32, buf: &mut [u8]) -> Input
+// Reads until the file ends, a read fails or the buffer is full. A read's failure is told from its end, since a folder can be
+// opened and only its read fails.
+fn read_open(file: &mut impl Read, buf: &mut [u8]) -> Input
     ensures { IsPrefixLen result.octets buf.new }
 {
     let mut at = 0;
     while at < buf.len() {
-        let got = libc::read(fd, &mut buf[at..]);
-        if got < 0 {
-            return Input {
-                octets: at,
-                whole: false,
-            };
+        match file.read(&mut buf[at..]) {
+            Ok(0) => {
+                return Input {
+                    octets: at,
+                    whole: true,
+                };
+            }
+            Ok(n) => at += n,
+            Err(_) => {
+                return Input {
+                    octets: at,
+                    whole: false,
+                };
+            }
         }
-        let n = io::count(got, &buf[at..]);
-        if n == 0 {
-            return Input {
-                octets: at,
-                whole: true,
-            };
-        }
-        at += n;
     }
     Input {
         octets: at,
-        whole: at_end(fd),
+        whole: at_end(file),
     }
 }
 
 // Whether nothing is left to read.
-fn at_end(fd: i32) -> bool {
+fn at_end(file: &mut impl Read) -> bool {
     let mut spare = [0u8; 1];
-    libc::read(fd, &mut spare) == 0
+    matches!(file.read(&mut spare), Ok(0))
 }
 
 // Writes out.bin whole, flushes it, and its folder where that has a flush, and answers true. Where that fails, answers false:
 // an out.bin that was there stays as it was (unless only the folder's flush failed), no side file stays, and one line on
 // standard error says what to do.
-pub fn save(told: Summary, octets: &[u8]) -> bool
+pub fn save(rt: &(impl Files + Eprint), told: Summary, octets: &[u8]) -> bool
     requires { Saves told octets.now }
 {
-    let part = os::open_overwrite(b"out.bin.part");
-    if part < 0 {
-        return not_saved();
-    }
-    if write_and_close(part, octets) {
-        if os::rename(b"out.bin.part", b"out.bin") == 0 {
-            return flush_folder();
+    let part = match fs::create(rt, "out.bin.part") {
+        Ok(part) => part,
+        Err(error) => return not_saved(rt, error),
+    };
+    let renamed = match write_and_close(part, octets) {
+        Ok(()) => fs::rename(rt, "out.bin.part", "out.bin"),
+        Err(error) => Err(error),
+    };
+    match renamed {
+        Ok(()) => flush_folder(rt),
+        Err(error) => {
+            not_saved(rt, error);
+            let _ = fs::remove_file(rt, "out.bin.part");
+            false
         }
     }
-    not_saved();
-    os::unlink(b"out.bin.part");
-    false
 }
 
-// Every write is checked, the flush and the close too: some systems only then say that there was no room. The flush comes
-// before the rename, so that after a power cut out.bin is the old one or the new one, and whole.
-fn write_and_close(part: i32, octets: &[u8]) -> bool {
-    let written = io::write_all(part, octets);
-    let flushed = written && libc::fsync(part) == 0;
-    let closed = libc::close(part) == 0;
-    flushed && closed
+// Every write is checked, and the flush too: some systems only then say that there was no room. The flush comes before the
+// rename, so that after a power cut out.bin is the old one or the new one, and whole. std closes the file here and does not
+// hand on what the close says; what was written is on the disk by then.
+fn write_and_close<F: Write + OpenFile + Drop>(mut part: F, octets: &[u8]) -> io::Result<()> {
+    part.write_all(octets)?;
+    part.sync_all()
 }
 
 // Flushes the folder, so that the new out.bin stays after a power cut. Where it may not be read, or has no flush (EINVAL),
 // nothing has failed and the report goes on. Any other failure is told: out.bin is then the new one, and nothing is printed.
-fn flush_folder() -> bool {
-    let folder = os::open_read(b".");
-    if folder < 0 {
-        return os::errno() == libc::EACCES || not_flushed();
+fn flush_folder(rt: &(impl Files + Eprint)) -> bool {
+    match fs::open(rt, ".") {
+        Ok(folder) => match folder.sync_all() {
+            Ok(()) => true,
+            Err(error) => is_os_error(&error, EINVAL) || not_flushed(rt, error),
+        },
+        Err(error) => is_os_error(&error, EACCES) || not_flushed(rt, error),
     }
-    let flushed = libc::fsync(folder) == 0 || os::errno() == libc::EINVAL || not_flushed();
-    libc::close(folder);
-    flushed
 }
 
-// Says why, by the errno of the call that failed: nothing else may be called in between.
-fn not_saved() -> bool {
-    os::fail(
-        b"report: out.bin is not written, so there is no report; make room and permission for out.bin and out.bin.part in this folder, then run again",
+fn is_os_error(error: &io::Error, code: i32) -> bool {
+    match error.raw_os_error() {
+        Some(number) => number == code,
+        None => false,
+    }
+}
+
+fn not_saved(rt: &impl Eprint, error: io::Error) -> bool {
+    fail(
+        rt,
+        "report: out.bin is not written, so there is no report; make room and permission for out.bin and out.bin.part in this folder, then run again",
+        error,
     );
     false
 }
 
-fn not_flushed() -> bool {
-    os::fail(
-        b"report: out.bin is written, but its folder is not flushed to the disk, so there is no report; see to the disk, then run again",
+fn not_flushed(rt: &impl Eprint, error: io::Error) -> bool {
+    fail(
+        rt,
+        "report: out.bin is written, but its folder is not flushed to the disk, so there is no report; see to the disk, then run again",
+        error,
     );
     false
 }
 
 // Prints a text, or says on standard error that it could not be printed.
-pub fn print(told: Summary, letters: &[u8])
+pub fn print(rt: &(impl Print + Eprint), told: Summary, letters: &[u8])
     requires { Prints told letters.now }
 {
-    if io::write_all(libc::STDOUT_FILENO, letters) {
-        return;
+    if let Err(error) = rt.write_all(letters) {
+        fail(
+            rt,
+            "report: standard output can't be written; make room for it, then run again",
+            error,
+        );
     }
-    os::fail(b"report: standard output can't be written; make room for it, then run again");
+}
+
+// Writes a line to standard error: what failed, a colon and the system's words for why, without the number that std puts
+// behind them. Where standard error can't be written, nobody can be told.
+fn fail(rt: &impl Eprint, what: &str, error: io::Error) {
+    let mut words = ArrayString::<256>::new();
+    let _ = write!(words, "{error}");
+    let words = words.as_str();
+    let why = match words.rsplit_once(" (os error ") {
+        Some((why, _)) => why,
+        None => words,
+    };
+    let _ = eprintln!(rt; "{what}: {why}");
 }

@@ -9,13 +9,14 @@
 mod files;
 
 ghost use Rattle.std.specs.Prelude.{◌≤◌, ◌≡◌, length};
-ghost use Rattle.io.specs.Counts.{IsPrefixLen};
+ghost use Rattle.report.specs.Counts.{IsPrefixLen};
 ghost use Rattle.report_spec.specs.Report.{report_of, text_most};
 ghost use Rattle.report_spec.specs.Promises.{is_clean};
 ghost use Rattle.report.specs.Delivery.{known, Tells, Delivers};
 
 use files::Input;
 use report_spec::{Summary, Verdict};
+use std::rt::Files;
 
 // The longest sheet has 55 octets: a longer file is read as over-long, and is no sheet.
 const SHEET_MOST: usize = 64;
@@ -23,15 +24,15 @@ const SHEET_MOST: usize = 64;
 // No text is longer: the `text_most` of report_spec.
 const TEXT_MOST: usize = 128;
 
-fn main() {
+fn main(rt: HostRuntime) {
     let mut sheet = [0u8; SHEET_MOST];
     let mut text = [0u8; TEXT_MOST];
     let mut take = [0u8; 65536];
     let mut output = [0u8; 65536];
-    let setup = files::read_file(b"setup.txt", &mut sheet);
-    let capture = files::read_file(b"take.bin", &mut take);
+    let setup = files::read_file(&rt, "setup.txt", &mut sheet);
+    let capture = files::read_file(&rt, "take.bin", &mut take);
     let told = report_on(setup, &sheet, capture, &take, &mut output, &mut text);
-    deliver(told, &output, &text);
+    deliver(&rt, told, &output, &text);
 }
 
 // The report on what was read of the two files.
@@ -61,18 +62,18 @@ fn report_on(
 }
 
 // The result first, and the text only after it: a clean report that is printed has its out.bin, on the disk.
-fn deliver(told: Summary, output: &[u8], text: &[u8])
+fn deliver(rt: &(impl Files + Print + Eprint), told: Summary, output: &[u8], text: &[u8])
     requires { Delivers told output.now text.now }
 {
     let verdict = told.verdict;
     if is_clean(verdict) {
         let octets = told.octets;
-        if !files::save(told, &output[..octets]) {
+        if !files::save(rt, told, &output[..octets]) {
             return;
         }
     }
     let letters = told.text;
-    files::print(told, &text[..letters]);
+    files::print(rt, told, &text[..letters]);
 }
 
 fn is_clean(verdict: Verdict) -> bool
