@@ -1,7 +1,7 @@
 -- Laws of the verdict's text: lines put one after the other fit into 128 octets, and a text goes to the front of lent memory
 -- or, where it does not fit, nowhere. Assumes nothing.
 use mathlib.Core.Path.{◌≡◌, refl, sym, ap, ap₂, ◌∙◌, subst}
-use mathlib.Core.List.{List, [], ◌∷◌, ◌++◌}
+use mathlib.Core.List.{List, ◌++◌}
 use Prim.Native.Nat.{ℕ, ◌+◌, ◌^◌, ◌≤◌, ◌<◌}
 use native.Mathlib.Nat.{zero-add}
 use native.Mathlib.Omega.{arith}
@@ -16,7 +16,7 @@ use Rattle.refusal.specs.Code.{code_of}
 use Rattle.refusal.specs.declared.Refusal.{Refusal}
 use Rattle.report_spec.specs.declared.Verdict.{Verdict}
 use Rattle.report_spec.specs.declared.Verdict.TheVariants.{Refused}
-use Rattle.report_spec.specs.Report.{refused_text, text_of, fitting, text_most}
+use Rattle.report_spec.specs.Report.{refused_text, text_of, text_most}
 use Rattle.report_spec.proofs.Short.{line-short, two-short}
 use Rattle.report_call.specs.Steps.{two_lines, TwoFit, Rendered}
 

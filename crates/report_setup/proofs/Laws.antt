@@ -1,6 +1,6 @@
 -- The grammar, as the code walks it: the first line by the place of its LF, a key octet by octet, what each reader's answer makes
 -- of a line, and one line after the other. Which of its words a line holds is in Words. Assumes nothing.
-use mathlib.Core.Bool.{Bool, true, false, cond, ◌&&◌}
+use mathlib.Core.Bool.{Bool, true, false, cond}
 use mathlib.Core.List.{List, [], ◌∷◌}
 use mathlib.Core.Option.{Option, none, some}
 use mathlib.Core.Path.{◌≡◌, refl, sym, ap, ap₂, ◌∙◌, subst}
@@ -13,12 +13,10 @@ use lib.ListN.{length, get_or, take, drop, length-drop, drop_of_length-le}
 use lib.Seq.{drop-cons, drop-drop, take-nil, take_all, length-take-le}
 use borrow.Author.Tests.{eq-eqb, ne_eqb, le-leb, lt-leb, ltb-false, eqb-true, eqb-false}
 use Rattle.report_setup_spec.specs.declared.Mode.{Mode}
-use Rattle.report_setup_spec.specs.declared.Mode.TheVariants.{Lanes}
 use Rattle.report_setup_spec.specs.declared.Tlast.{Tlast}
-use Rattle.report_setup_spec.specs.declared.Tlast.TheVariants.{Absent}
 use Rattle.report_setup_spec.specs.declared.Sheet.{Sheet}
 use Rattle.report_setup_spec.specs.declared.Sheet.TheVariants.{Read, Refused}
-use Rattle.report_setup_spec.specs.Grammar.{text, Line as Held, line, longer as longerLine, on, first_line, after, entry, line_of, nothing_left, Word, is_word, one_of, modes, tlasts, digit, number, sheet_of}
+use Rattle.report_setup_spec.specs.Grammar.{text, Line as Held, line, on, first_line, after, entry, line_of, nothing_left, is_word, one_of, modes, tlasts, digit, number, sheet_of}
 use Rattle.report_setup_spec.specs.Answers.{sheet_values, Parsed}
 use Rattle.report_setup_spec.specs.Promises.{numeral}
 use Rattle.report_setup_spec.proofs.Promises.{digits_exactly, numbers_exactly}
@@ -26,7 +24,7 @@ use Rattle.report_setup.specs.declared.Value.{Value}
 use Rattle.report_setup.specs.declared.Value.TheVariants.{Is, Missing}
 use Rattle.report_setup.specs.declared.Line.{Line}
 use Rattle.report_setup.specs.declared.Line.TheVariants.{Read as Line-as-Read, Refused as Line-as-Refused}
-use Rattle.report_setup.specs.Reading.{told, LineEnd, Begins, yes, no, Ended, EndSays, ends, no_end, Reads, LineSays, line_read, line_refused, longer, words_of, shift, place, meaning, Means}
+use Rattle.report_setup.specs.Reading.{told, LineEnd, Begins, yes, no, Ended, EndSays, ends, no_end, Reads, LineSays, line_read, line_refused}
 
 -- ---- the first line
 

@@ -1,5 +1,4 @@
 -- `report_call::report` meets its contract: the outcome, and its text. Assumes nothing.
-use Rattle.std.proofs.Common.{rules}
 use Rattle.report_spec.specs.Report.{contents}
 use Rattle.report_call.proofs.Steps.{reported}
 use Rattle.report_call.proofs.report.Goals as goal

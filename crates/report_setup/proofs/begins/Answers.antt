@@ -1,9 +1,7 @@
 -- `report_setup::begins` meets its contract. The loop's invariant: what is left to compare decides. Assumes nothing.
 use mathlib.Core.Path.{refl}
-use Prim.Native.Nat.{◌≤◌, ◌-◌}
 use native.Mathlib.Omega.{arith}
-use lib.ListN.{length}
-use Rattle.report_setup.proofs.Laws.{Left, too_short, left_more, left-differs, left-none}
+use Rattle.report_setup.proofs.Laws.{too_short, left_more, left-differs, left-none}
 use Rattle.report_setup.proofs.begins.Goals as goal
 
 pub returns-then-text-word : goal.returns-then-text-word

@@ -1,8 +1,6 @@
-use mathlib.Core.Path.{refl}
 use Prim.Native.Nat.{◌≤◌, ◌-◌}
-use native.Mathlib.Omega.{arith}
 use lib.ListN.{length}
-use Rattle.report_setup.proofs.Laws.{Left, too_short, left_more, left-differs, left-none}
+use Rattle.report_setup.proofs.Laws.{Left}
 use Rattle.report_setup.proofs.begins.Given as goal
 
 abbrev pub invariant-loop-i : goal.invariant-loop-i

@@ -1,7 +1,6 @@
 -- `report_setup::digit_line` meets its contract: the key, then a number up to 9. Assumes nothing.
 use lib.ListN.{drop}
 use Rattle.report_setup.proofs.Laws.{read, refused, digit-refused, digit_over, digit-read}
-use Rattle.std.proofs.Common.{rules}
 use Rattle.report_setup.proofs.digit_line.Goals as goal
 
 pub returns-in_default : goal.returns-in_default

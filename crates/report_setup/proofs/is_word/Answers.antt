@@ -1,6 +1,5 @@
 -- `report_setup::is_word` meets its contract: the word, and as many octets as it has. Assumes nothing.
 use Rattle.report_setup.proofs.Laws.{is_word_lem, no_word}
-use Rattle.std.proofs.Common.{rules}
 use Rattle.report_setup.proofs.is_word.Goals as goal
 
 pub returns-then-begins : goal.returns-then-begins

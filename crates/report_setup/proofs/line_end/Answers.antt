@@ -1,9 +1,7 @@
 -- `report_setup::line_end` meets its contract. The loop's invariant: no octet in front of place i is an LF. Assumes nothing.
-use Prim.Native.Nat.{◌≤◌, ◌-◌}
 use native.Mathlib.Omega.{arith}
 use borrow.Author.Count.{below_more}
-use lib.ListN.{length}
-use Rattle.report_setup.proofs.Laws.{NoneBefore, found-end, unended-end}
+use Rattle.report_setup.proofs.Laws.{found-end, unended-end}
 use Rattle.report_setup.proofs.line_end.Goals as goal
 
 pub loop-i-init : goal.loop-i-init

@@ -1,8 +1,6 @@
 use Prim.Native.Nat.{◌≤◌, ◌-◌}
-use native.Mathlib.Omega.{arith}
-use borrow.Author.Count.{below_more}
 use lib.ListN.{length}
-use Rattle.report_setup.proofs.Laws.{NoneBefore, found-end, unended-end}
+use Rattle.report_setup.proofs.Laws.{NoneBefore}
 use Rattle.report_setup.proofs.line_end.Given as goal
 
 abbrev pub invariant-loop-i : goal.invariant-loop-i

@@ -7,7 +7,6 @@ use Rattle.report_setup_spec.specs.Grammar.{number as number_of}
 use Rattle.report_setup.specs.declared.Value.{Value}
 use Rattle.report_setup.specs.Reading.{told}
 use Rattle.report_setup.proofs.Laws.{one-octet, two-octets, other_length}
-use Rattle.std.proofs.Common.{rules}
 use Rattle.report_setup.proofs.number.Goals as goal
 
 -- what is told of the same octets

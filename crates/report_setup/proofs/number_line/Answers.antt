@@ -2,7 +2,6 @@
 use native.Mathlib.Omega.{arith}
 use Rattle.report_setup_spec.specs.Grammar.{number as number_of}
 use Rattle.report_setup.proofs.Laws.{has_end, no-line_there, not_read, is_read}
-use Rattle.std.proofs.Common.{rules}
 use Rattle.report_setup.proofs.number_line.Goals as goal
 
 pub returns-in_default : goal.returns-in_default

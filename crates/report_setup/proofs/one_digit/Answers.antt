@@ -1,7 +1,6 @@
 -- `report_setup::one_digit` meets its contract. Assumes nothing.
 use mathlib.Core.Path.{sym, ◌∙◌}
 use Rattle.report_setup_spec.proofs.Digits.{digit_range}
-use Rattle.std.proofs.Common.{rules}
 use Rattle.report_setup.proofs.one_digit.Goals as goal
 
 pub overflow_sub-result : goal.overflow_sub-result

@@ -2,7 +2,6 @@
 -- line. Assumes nothing.
 use Rattle.report_setup.proofs.Laws.{read, refused, first-refused, second-refused, third_refused, fourth_refused, fifth_refused, end_refused, sheet-read, parsed}
 use Rattle.report_setup.proofs.Words.{mode-read, mode-refused, tlast-read, tlast-refused}
-use Rattle.std.proofs.Common.{rules}
 use Rattle.report_setup.proofs.parse.Goals as goal
 
 pub number_line-requires-2 : goal.number_line-requires-2

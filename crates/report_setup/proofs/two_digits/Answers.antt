@@ -2,7 +2,6 @@
 use mathlib.Core.Path.{sym, ◌∙◌}
 use borrow.Author.Tests.{eq-eqb, ne_eqb}
 use Rattle.report_setup_spec.proofs.Digits.{digit_range}
-use Rattle.std.proofs.Common.{rules}
 use Rattle.report_setup.proofs.two_digits.Goals as goal
 
 pub returns-then-x-eq48 : goal.returns-then-x-eq48

@@ -1,6 +1,5 @@
 -- `report_setup::value_end` meets its contract: the line that a LF ends, and the key in front of it. Assumes nothing.
 use Rattle.report_setup.proofs.Laws.{no_line, line-length, line-found, other_key}
-use Rattle.std.proofs.Common.{rules}
 use Rattle.report_setup.proofs.value_end.Goals as goal
 
 pub returns-then-n-rest : goal.returns-then-n-rest

@@ -1,10 +1,9 @@
 -- `report_setup::word_place` meets its contract. The loop's invariant: no word in front of place `at` is the value. Assumes nothing.
 use mathlib.Core.Path.{sym, ◌∙◌}
-use Prim.Native.Nat.{◌+◌, ◌-◌, ◌≤◌}
+use Prim.Native.Nat.{◌+◌, ◌≤◌}
 use native.Mathlib.Omega.{arith}
 use lib.ListN.{length}
-use Rattle.std.proofs.Common.{rules}
-use Rattle.report_setup.proofs.Words.{Passing, passing_none, no-word-left, unended-word, word-inside, word-long, word_here, word-passed}
+use Rattle.report_setup.proofs.Words.{passing_none, no-word-left, unended-word, word-inside, word-long, word_here, word-passed}
 use Rattle.report_setup.proofs.word_place.Goals as goal
 
 pub loop-at-init : goal.loop-at-init

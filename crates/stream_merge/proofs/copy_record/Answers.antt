@@ -10,7 +10,6 @@ use lib.ListN.{length, take, drop}
 use Rattle.words.specs.Splice.{splice}
 use Rattle.stream_spec.specs.Memory.{in_front}
 use Rattle.stream_merge.proofs.Copy.{copied, copied_more, copied_all}
-use Rattle.std.proofs.Common.{rules}
 use Rattle.stream_merge.proofs.copy_record.Goals as goal
 
 pub returns-then-n-le16 : goal.returns-then-n-le16

@@ -4,7 +4,6 @@ use mathlib.Core.Path.{◌≡◌, refl}
 use lib.Dec.{eqb}
 use lib.ListN.{get_or}
 use Rattle.stream_spec.specs.Layout.{bit, bit_of}
-use Rattle.std.proofs.Common.{rules}
 use Rattle.stream_merge.proofs.ends_turn.Goals as goal
 
 pub returns : goal.returns

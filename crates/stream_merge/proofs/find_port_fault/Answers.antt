@@ -1,14 +1,11 @@
 -- `stream_merge::find_port_fault` meets its contract, as stream_record's `find_fault` does. The loop's invariant: the first fault of the records left is the first of
 -- all. Assumes nothing.
-use Prim.Native.Nat.{◌-◌}
 use native.Mathlib.Omega.{arith}
-use Rattle.std.proofs.Common.{rules}
-use lib.ListN.{length}
 use Rattle.stream_spec.proofs.Size.{size_pos}
 use Rattle.stream_spec.proofs.Passed.{passed_narrow}
 use Rattle.stream_spec.proofs.Walk.{record_fits, record_long}
 use Rattle.merge_spec.specs.Answers.{port_faults}
-use Rattle.stream_record.proofs.RecordFaults.{Judging, judging_starts, judging_found, judging_next, judging_done}
+use Rattle.stream_record.proofs.RecordFaults.{judging_starts, judging_found, judging_next, judging_done}
 use Rattle.stream_merge.proofs.find_port_fault.Goals as goal
 
 pub record_size-z-requires : goal.record_size-z-requires

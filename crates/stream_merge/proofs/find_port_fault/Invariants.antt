@@ -1,12 +1,7 @@
 use Prim.Native.Nat.{◌-◌}
-use native.Mathlib.Omega.{arith}
-use Rattle.std.proofs.Common.{rules}
 use lib.ListN.{length}
-use Rattle.stream_spec.proofs.Size.{size_pos}
-use Rattle.stream_spec.proofs.Passed.{passed_narrow}
-use Rattle.stream_spec.proofs.Walk.{record_fits, record_long}
 use Rattle.merge_spec.specs.Answers.{port_faults}
-use Rattle.stream_record.proofs.RecordFaults.{Judging, judging_starts, judging_found, judging_next, judging_done}
+use Rattle.stream_record.proofs.RecordFaults.{Judging}
 use Rattle.stream_merge.proofs.find_port_fault.Given as goal
 
 abbrev pub invariant-loop-at : goal.invariant-loop-at

@@ -14,7 +14,6 @@ use Rattle.stream_spec.proofs.Size.{size_pos}
 use Rattle.stream_record.proofs.Tests.{refused-is, passed_is}
 use Rattle.merge_spec.specs.Answers.{port_checks}
 use Rattle.stream_merge.proofs.Answer.{bad-take, first-passed, shape_narrow, bad-other, second-passed, bad-first, bad-second, no_room, lists_fit, all-written}
-use Rattle.std.proofs.Common.{rules}
 use Rattle.stream_merge.proofs.merge.Goals as goal
 
 pub returns-in-Refused : goal.returns-in-Refused

@@ -6,7 +6,6 @@ use native.Mathlib.Omega.{arith}
 use Rattle.words.specs.Splice.{splice}
 use Rattle.words.specs.Words.{octets_of_word}
 use Rattle.words.proofs.Words.{word-take}
-use Rattle.std.proofs.Common.{rules}
 use Rattle.stream_merge.proofs.move8.Goals as goal
 
 pub returns : goal.returns

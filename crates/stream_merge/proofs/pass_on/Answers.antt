@@ -3,7 +3,6 @@ use native.Mathlib.Omega.{arith}
 use lib.ListN.{length-drop}
 use Rattle.stream_spec.proofs.Memory.{lent-rest}
 use Rattle.stream_merge.proofs.Pass.{picked_size, passes_of}
-use Rattle.std.proofs.Common.{rules}
 use Rattle.stream_merge.proofs.pass_on.Goals as goal
 
 pub put_picked-requires : goal.put_picked-requires

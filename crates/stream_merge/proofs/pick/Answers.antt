@@ -1,7 +1,6 @@
 -- `stream_merge::pick` meets its contract: each branch returns a part of its own take. Assumes nothing.
 use mathlib.Core.Path.{refl}
 use native.Mathlib.Omega.{arith}
-use Rattle.std.proofs.Common.{rules}
 use Rattle.stream_merge.proofs.pick.Goals as goal
 
 pub overflow_add-end : goal.overflow_add-end

@@ -10,7 +10,6 @@ use Rattle.stream_spec.specs.Checks.{transfer_faults}
 use Rattle.stream_spec.proofs.Size.{size_holds}
 use Rattle.stream_record.proofs.Tests.{refused_front, passed_front}
 use Rattle.merge_spec.specs.Merge.{high_tid}
-use Rattle.std.proofs.Common.{rules}
 use Rattle.stream_merge.proofs.port_fault.Goals as goal
 
 pub returns-in-Refused : goal.returns-in-Refused

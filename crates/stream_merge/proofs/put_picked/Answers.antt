@@ -5,7 +5,6 @@ use Prim.Native.Nat.{ℕ, ◌+◌}
 use native.Mathlib.Omega.{arith}
 use lib.ListN.{get_or, set}
 use Rattle.stream_merge.proofs.Copy.{copied_tag}
-use Rattle.std.proofs.Common.{rules}
 use Rattle.stream_merge.proofs.put_picked.Goals as goal
 
 pub overflow_add-out : goal.overflow_add-out

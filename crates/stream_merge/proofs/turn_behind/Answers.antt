@@ -1,7 +1,6 @@
 -- `stream_merge::turn_behind` meets its contract: a branch for the port that had the turn. Assumes nothing.
 use mathlib.Core.Path.{refl}
 use native.Mathlib.Omega.{arith}
-use Rattle.std.proofs.Common.{rules}
 use Rattle.stream_merge.proofs.turn_behind.Goals as goal
 
 pub overflow_add-at1 : goal.overflow_add-at1

@@ -1,5 +1,5 @@
 -- `text::put_decimal` meets its contract: one digit, or what is before the last digit and then that. Assumes nothing.
-use mathlib.Core.Path.{◌∙◌, subst}
+use mathlib.Core.Path.{subst}
 use Prim.Native.Nat.{ℕ, ◌/◌, ◌<◌}
 use native.Mathlib.Omega.{arith}
 use Rattle.text.proofs.Laws.{digit_room, digit_put, front_room, last-room, last_put}

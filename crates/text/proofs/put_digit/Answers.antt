@@ -1,7 +1,6 @@
 -- `text::put_digit` meets its contract: one octet is stored. Assumes nothing.
 use Rattle.text.proofs.Laws.{put_one}
 use Rattle.text.specs.Text.{digit}
-use Rattle.std.proofs.Common.{rules}
 use Rattle.text.proofs.put_digit.Goals as goal
 
 pub returns : goal.returns

@@ -1,6 +1,5 @@
 -- `text::put_line` meets its contract: three pieces one after the other. Assumes nothing.
 use Rattle.text.proofs.Laws.{key_room, number-room, end-room, line_put}
-use Rattle.std.proofs.Common.{rules}
 use Rattle.text.proofs.put_line.Goals as goal
 
 pub put_octets-number-requires : goal.put_octets-number-requires

@@ -1,8 +1,6 @@
 -- `text::put_octets` meets its contract: after i turns the first i octets stand in their place. Assumes nothing.
-use Prim.Native.Nat.{◌-◌}
 use native.Mathlib.Omega.{arith}
-use lib.ListN.{length}
-use Rattle.text.proofs.Laws.{Copied, copied_none, copied_more, copied_long, copied_all}
+use Rattle.text.proofs.Laws.{copied_none, copied_more, copied_long, copied_all}
 use Rattle.text.proofs.put_octets.Goals as goal
 
 pub loop-i-init : goal.loop-i-init

@@ -1,6 +1,5 @@
 -- `write_data::all_inside` meets its contract. Assumes nothing.
 use mathlib.Core.Path.{refl}
-use Rattle.std.proofs.Common.{rules}
 use borrow.Author.Tests.{le-leb, lt-leb}
 use Rattle.write_data.proofs.all_inside.Goals as goal
 

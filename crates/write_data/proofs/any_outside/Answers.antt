@@ -1,8 +1,6 @@
 -- `write_data::any_outside` meets its contract: up to octet i no strobe is high outside the lanes. Assumes nothing.
-use Prim.Native.Nat.{◌-◌}
 use native.Mathlib.Omega.{arith}
-use lib.ListN.{length}
-use Rattle.write_data.proofs.Lanes.{Passing, passing_start, passing_found, passing_next, passing_end}
+use Rattle.write_data.proofs.Lanes.{passing_start, passing_found, passing_next, passing_end}
 use Rattle.write_data.proofs.any_outside.Goals as goal
 
 pub loop-i-init : goal.loop-i-init

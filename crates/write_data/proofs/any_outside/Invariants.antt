@@ -1,7 +1,6 @@
 use Prim.Native.Nat.{◌-◌}
-use native.Mathlib.Omega.{arith}
 use lib.ListN.{length}
-use Rattle.write_data.proofs.Lanes.{Passing, passing_start, passing_found, passing_next, passing_end}
+use Rattle.write_data.proofs.Lanes.{Passing}
 use Rattle.write_data.proofs.any_outside.Given as goal
 
 abbrev pub invariant-loop-i : goal.invariant-loop-i

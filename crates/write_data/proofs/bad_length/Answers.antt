@@ -3,7 +3,6 @@ use mathlib.Core.Path.{refl}
 use borrow.Author.Tests.{lt-ltb, le-ltb}
 use lib.ListN.{length}
 use Rattle.write_data.proofs.Fields.{size_pos}
-use Rattle.std.proofs.Common.{rules}
 use Rattle.write_data.proofs.bad_length.Goals as goal
 
 pub returns-then-n-gt-CAPTURE_MOST : goal.returns-then-n-gt-CAPTURE_MOST

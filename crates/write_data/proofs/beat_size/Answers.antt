@@ -1,7 +1,6 @@
 -- `write_data::beat_size` meets its contract. Assumes nothing.
 use mathlib.Core.Path.{sym}
 use Rattle.write_data.proofs.Fields.{size_is}
-use Rattle.std.proofs.Common.{rules}
 use Rattle.write_data.proofs.beat_size.Goals as goal
 
 pub returns : goal.returns

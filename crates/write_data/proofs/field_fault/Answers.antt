@@ -2,7 +2,6 @@
 use mathlib.Core.Path.{sym}
 use native.Mathlib.Omega.{arith}
 use Rattle.write_data.proofs.Fields.{bus-fits, size_is, fault_flags, fault_wide, told_narrow}
-use Rattle.std.proofs.Common.{rules}
 use Rattle.write_data.proofs.field_fault.Goals as goal
 
 pub bounds-rec-0 : goal.bounds-rec-0

@@ -1,9 +1,7 @@
 -- `write_data::high_strobes` meets its contract: up to octet i so many strobes are high. Assumes nothing.
-use Prim.Native.Nat.{◌-◌}
 use native.Mathlib.Omega.{arith}
-use lib.ListN.{length}
 use Rattle.write_data.proofs.Fields.{bus-fits, size_is}
-use Rattle.write_data.proofs.Lanes.{Counting, counting_start, counting_most, counting_next, counting_end}
+use Rattle.write_data.proofs.Lanes.{counting_start, counting_most, counting_next, counting_end}
 use Rattle.write_data.proofs.high_strobes.Goals as goal
 
 pub loop-i-init : goal.loop-i-init

@@ -1,9 +1,6 @@
 -- `write_data::judge_beats` meets its contract: the verdict on the beats left is the verdict on all. Assumes nothing.
-use Prim.Native.Nat.{◌-◌}
 use native.Mathlib.Omega.{arith}
-use lib.ListN.{length}
 use Rattle.burst_spec.proofs.Known.{known}
-use Rattle.write_data.specs.Scan.{Turning}
 use Rattle.write_data.proofs.Fields.{bus-fits, size_pos}
 use Rattle.write_data.proofs.Turns.{fits, turning_start, asks, turning_found, turning_next, turning_short, turning_clean}
 use Rattle.write_data.proofs.judge_beats.Goals as goal

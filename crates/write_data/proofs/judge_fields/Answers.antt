@@ -1,8 +1,5 @@
 -- `write_data::judge_fields` meets its contract: the first fault of the records left is the first of all. Assumes nothing.
-use Prim.Native.Nat.{◌-◌}
 use native.Mathlib.Omega.{arith}
-use lib.ListN.{length}
-use Rattle.write_data.specs.Scan.{Looking}
 use Rattle.write_data.proofs.Fields.{bus-fits, size_pos}
 use Rattle.write_data.proofs.Turns.{fits, long, looking_start, looking_found, looking_next, looking_end}
 use Rattle.write_data.proofs.judge_fields.Goals as goal

@@ -1,9 +1,6 @@
 use Prim.Native.Nat.{◌-◌}
-use native.Mathlib.Omega.{arith}
 use lib.ListN.{length}
 use Rattle.write_data.specs.Scan.{Looking}
-use Rattle.write_data.proofs.Fields.{bus-fits, size_pos}
-use Rattle.write_data.proofs.Turns.{fits, long, looking_start, looking_found, looking_next, looking_end}
 use Rattle.write_data.proofs.judge_fields.Given as goal
 
 abbrev pub invariant-loop-at : goal.invariant-loop-at

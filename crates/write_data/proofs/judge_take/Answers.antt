@@ -5,7 +5,6 @@ use Rattle.burst_spec.proofs.Answers.{accepted_exactly}
 use Rattle.write_data_spec.specs.Promises.{IsAccepted}
 use Rattle.write_data.proofs.Fields.{bus-fits}
 use Rattle.write_data.proofs.Taken.{whole_of, take_judged, take-length, take_fields}
-use Rattle.std.proofs.Common.{rules}
 use Rattle.write_data.proofs.judge_take.Goals as goal
 
 pub bad_length-requires : goal.bad_length-requires

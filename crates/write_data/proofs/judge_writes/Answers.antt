@@ -4,7 +4,6 @@ use Rattle.burst_spec.specs.declared.Judgement.TheVariants as judged
 use Rattle.burst_spec.specs.Answers.{judgement_for}
 use Rattle.write_data_spec.specs.Answers.{write_refusal}
 use Rattle.write_data.proofs.Taken.{refuses, judgeable, answers}
-use Rattle.std.proofs.Common.{rules}
 use Rattle.write_data.proofs.judge_writes.Goals as goal
 
 pub judge_beats-requires : goal.judge_beats-requires

@@ -3,7 +3,6 @@ use mathlib.Core.Path.{ap, ◌∙◌}
 use Prim.Native.Nat.{◌+◌, ◌/◌}
 use native.Mathlib.Omega.{arith}
 use lib.Bits.{and_le_r}
-use Rattle.std.proofs.Common.{rules}
 use Rattle.stream_spec.specs.Layout.{bit}
 use Rattle.write_data_spec.proofs.Sums.{count_most}
 use Rattle.write_data.specs.Scan.{octet_high}

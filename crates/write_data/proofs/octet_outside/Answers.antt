@@ -2,7 +2,6 @@
 use mathlib.Core.Path.{sym, ◌∙◌}
 use native.Mathlib.Omega.{arith}
 use lib.Pow.{pow_pos}
-use Rattle.std.proofs.Common.{rules}
 use Rattle.stream_record.proofs.Field.{shifted}
 use Rattle.write_data.proofs.Octets.{stray_zero, stray_inside, told-low, told-high}
 use Rattle.write_data.proofs.octet_outside.Goals as goal

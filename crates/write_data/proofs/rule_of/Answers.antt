@@ -2,7 +2,6 @@
 use native.Mathlib.Omega.{arith}
 use Rattle.write_data.proofs.Fields.{size_is}
 use Rattle.write_data.proofs.Rules.{rule_past, rule_stray, rule_early, rule-waits, rule-ends, rule_missing}
-use Rattle.std.proofs.Common.{rules}
 use Rattle.write_data.proofs.rule_of.Goals as goal
 
 pub returns-then-last-k : goal.returns-then-last-k

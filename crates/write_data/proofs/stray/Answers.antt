@@ -11,7 +11,6 @@ use Rattle.burst_spec.proofs.Lanes.{lanes_ordered}
 use Rattle.write_data.specs.Scan.{stray_below}
 use Rattle.write_data.proofs.Fields.{bus-fits, size_is}
 use Rattle.write_data.proofs.Lanes.{stray_all}
-use Rattle.std.proofs.Common.{rules}
 use Rattle.write_data.proofs.stray.Goals as goal
 
 pub any_outside-requires : goal.any_outside-requires

@@ -2,7 +2,6 @@
 use mathlib.Core.Path.{sym}
 use Rattle.stream_spec.proofs.Bits.{bit-zero}
 use lib.ListN.{get_or}
-use Rattle.std.proofs.Common.{rules}
 use Rattle.write_data.proofs.wlast.Goals as goal
 
 pub returns : goal.returns

@@ -1,5 +1,4 @@
 -- `capi::urd_axi3_cut` meets its contract: it shows what the call answers, and leaves what the call leaves. Assumes nothing.
-use Rattle.std.proofs.Common.{rules}
 use mathlib.Core.Path.{subst}
 use Rattle.axi3_spec.specs.Answers.{cut_values}
 use Rattle.capi.specs.Shows.{ShowsCut}

@@ -1,12 +1,7 @@
 -- `capi::urd_burst_beat` meets its contract: it shows what the call answers. Assumes nothing.
-use mathlib.Core.Path.{◌≡◌, refl}
-use Rattle.burst_spec.specs.declared.BeatAnswer.{BeatAnswer}
-use Rattle.burst_spec.specs.declared.Burst.{Burst}
-use Rattle.burst_spec.specs.Answers.{burst_of, beat_answer, beat_values}
-use Rattle.capi.specs.declared.burst_calls.BurstAnswer.{BurstAnswer}
-use Rattle.capi.specs.Shows.{ShowsBurst}
+use mathlib.Core.Path.{refl}
+use Rattle.burst_spec.specs.Answers.{beat_answer, beat_values}
 use Rattle.capi.proofs.Told.{told}
-use Rattle.std.proofs.Common.{rules}
 use Rattle.capi.proofs.burst_calls.urd_burst_beat.Goals as goal
 
 pub returns-in-Refused : goal.returns-in-Refused

@@ -1,12 +1,7 @@
 -- `capi::urd_burst_judge` meets its contract: it shows what the call answers. Assumes nothing.
-use mathlib.Core.Path.{◌≡◌, refl}
-use Rattle.burst_spec.specs.declared.Burst.{Burst}
-use Rattle.burst_spec.specs.declared.Judgement.{Judgement}
+use mathlib.Core.Path.{refl}
 use Rattle.burst_spec.specs.Answers.{burst_of, judgement, judgement_values}
-use Rattle.capi.specs.declared.burst_calls.BurstAnswer.{BurstAnswer}
-use Rattle.capi.specs.Shows.{ShowsBurst}
 use Rattle.capi.proofs.Told.{told}
-use Rattle.std.proofs.Common.{rules}
 use Rattle.capi.proofs.burst_calls.urd_burst_judge.Goals as goal
 
 pub returns-in-Refused : goal.returns-in-Refused

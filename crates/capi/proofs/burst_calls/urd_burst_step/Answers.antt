@@ -1,14 +1,9 @@
 -- `capi::urd_burst_step` meets its contract: it shows what the call answers. Assumes nothing.
-use mathlib.Core.Path.{◌≡◌, refl, sym, ◌∙◌}
+use mathlib.Core.Path.{refl, sym, ◌∙◌}
 use mir.Facts.{to_z-of_z}
 use mir.Syntax.{w32}
-use Rattle.burst_spec.specs.declared.Burst.{Burst}
-use Rattle.burst_spec.specs.declared.StepAnswer.{StepAnswer}
-use Rattle.burst_spec.specs.Answers.{burst_of, step_answer, step_values}
-use Rattle.capi.specs.declared.burst_calls.BurstAnswer.{BurstAnswer}
-use Rattle.capi.specs.Shows.{ShowsBurst}
+use Rattle.burst_spec.specs.Answers.{step_answer, step_values}
 use Rattle.capi.proofs.Told.{told, step_fits}
-use Rattle.std.proofs.Common.{rules}
 use Rattle.capi.proofs.burst_calls.urd_burst_step.Goals as goal
 
 pub returns-in-Refused : goal.returns-in-Refused

@@ -1,5 +1,4 @@
 -- `capi::of_merged` meets its contract: each case shows its numbers. Assumes nothing.
-use Rattle.std.proofs.Common.{rules}
 use mathlib.Core.Path.{sym, subst}
 use Rattle.merge_spec.specs.Answers.{merged_values}
 use Rattle.capi.specs.Shows.{ShowsMerge}

@@ -1,5 +1,4 @@
 -- `capi::urd_merge` meets its contract: it shows what the call answers, and leaves what the call leaves. Assumes nothing.
-use Rattle.std.proofs.Common.{rules}
 use mathlib.Core.Path.{subst}
 use Rattle.merge_spec.specs.Answers.{merged_values}
 use Rattle.capi.specs.Shows.{ShowsMerge}

@@ -1,7 +1,6 @@
 -- `capi::report_call::of_verdict` meets its contract: each case shows its numbers. Assumes nothing.
 use mathlib.Core.Path.{refl}
 use Rattle.capi.proofs.Reported.{shown}
-use Rattle.std.proofs.Common.{rules}
 use Rattle.capi.proofs.report_calls.of_verdict.Goals as goal
 
 pub returns-in-Clean : goal.returns-in-Clean

@@ -1,6 +1,5 @@
 -- `capi::report_call::refused` meets its contract: the refusal's number and its place. Assumes nothing.
 use mathlib.Core.Path.{refl}
-use Rattle.std.proofs.Common.{rules}
 use Rattle.capi.proofs.report_calls.refused.Goals as goal
 
 pub returns : goal.returns

@@ -1,7 +1,6 @@
 -- `capi::urd_report` meets its contract: it shows what the report answers, and leaves what the report leaves. Assumes nothing.
 use Rattle.capi.specs.Reports.{report_asked}
 use Rattle.capi.proofs.Reported.{tells}
-use Rattle.std.proofs.Common.{rules}
 use Rattle.capi.proofs.report_calls.urd_report.Goals as goal
 
 pub returns : goal.returns

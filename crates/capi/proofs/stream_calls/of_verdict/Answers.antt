@@ -1,7 +1,6 @@
 -- `capi::of_verdict` meets its contract: each case shows its numbers. Assumes nothing.
 use Rattle.stream_spec.specs.Answers.{verdict_values}
 use Rattle.capi.proofs.Told.{shown, numbers}
-use Rattle.std.proofs.Common.{rules}
 use Rattle.capi.proofs.stream_calls.of_verdict.Goals as goal
 
 pub returns-in-Clean : goal.returns-in-Clean

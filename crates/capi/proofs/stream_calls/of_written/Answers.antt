@@ -1,7 +1,6 @@
 -- `capi::of_written` meets its contract: each case shows its numbers. Assumes nothing.
 use Rattle.stream_spec.specs.Answers.{written_values}
 use Rattle.capi.proofs.Told.{shown, numbers}
-use Rattle.std.proofs.Common.{rules}
 use Rattle.capi.proofs.stream_calls.of_written.Goals as goal
 
 pub returns-in-Records : goal.returns-in-Records

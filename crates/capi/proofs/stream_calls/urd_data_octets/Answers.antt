@@ -4,7 +4,6 @@ use lib.ListN.{length}
 use Rattle.stream_spec.specs.declared.Lookup.{Lookup}
 use Rattle.stream_spec.specs.Answers.{lookup_values}
 use Rattle.capi.proofs.Told.{part-shown}
-use Rattle.std.proofs.Common.{rules}
 use Rattle.capi.proofs.stream_calls.urd_data_octets.Goals as goal
 
 pub returns : goal.returns

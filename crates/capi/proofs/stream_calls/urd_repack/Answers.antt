@@ -2,7 +2,6 @@
 use mathlib.Core.Path.{sym}
 use Rattle.stream_spec.specs.Answers.{written_values}
 use Rattle.capi.proofs.Told.{shown}
-use Rattle.std.proofs.Common.{rules}
 use Rattle.capi.proofs.stream_calls.urd_repack.Goals as goal
 
 pub returns : goal.returns

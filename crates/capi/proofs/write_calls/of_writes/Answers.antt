@@ -1,5 +1,4 @@
 -- `capi::of_writes` meets its contract: each case shows its numbers. Assumes nothing.
-use Rattle.std.proofs.Common.{rules}
 use mathlib.Core.Path.{sym, subst}
 use Rattle.write_data_spec.specs.Answers.{write_values}
 use Rattle.capi.specs.Shows.{ShowsWrite}

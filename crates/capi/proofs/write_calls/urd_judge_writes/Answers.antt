@@ -1,5 +1,4 @@
 -- `capi::urd_judge_writes` meets its contract: it shows what the call answers. Assumes nothing.
-use Rattle.std.proofs.Common.{rules}
 use mathlib.Core.Path.{subst}
 use Rattle.write_data_spec.specs.Answers.{write_values}
 use Rattle.capi.specs.Shows.{ShowsWrite}

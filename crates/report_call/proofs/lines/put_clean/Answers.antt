@@ -2,7 +2,6 @@
 use native.Mathlib.Omega.{arith}
 use Rattle.report_setup_spec.specs.Grammar.{text as ascii}
 use Rattle.report_call.proofs.Told.{clean_fit, room_3, three_put}
-use Rattle.std.proofs.Common.{rules}
 use Rattle.report_call.proofs.lines.put_clean.Goals as goal
 
 pub put_line-requires : goal.put_line-requires

@@ -1,6 +1,5 @@
 -- `report_call::lines::put_text` meets its contract: the text of each verdict. Assumes nothing.
 use Rattle.report_call.proofs.Told.{text-of, text_of_refused}
-use Rattle.std.proofs.Common.{rules}
 use Rattle.report_call.proofs.lines.put_text.Goals as goal
 
 pub returns-in-Clean : goal.returns-in-Clean

@@ -1,6 +1,5 @@
 -- `report_call::lines::put_two` meets its contract: one piece after the other, in 128 octets. Assumes nothing.
 use Rattle.report_call.proofs.Told.{head-room, room_1, room_2, two_put}
-use Rattle.std.proofs.Common.{rules}
 use Rattle.report_call.proofs.lines.put_two.Goals as goal
 
 pub put_octets-a-requires : goal.put_octets-a-requires

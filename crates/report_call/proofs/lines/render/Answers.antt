@@ -2,7 +2,6 @@
 use mathlib.Core.List.{List}
 use Prim.Native.Nat.{ℕ}
 use lib.ListN.{replicate}
-use Rattle.std.proofs.Common.{rules}
 use Rattle.report_spec.specs.Report.{text_of}
 use Rattle.report_call.proofs.Told.{prefix_fits, prefix_long, told-nothing, told-room, told-all}
 use Rattle.report_call.proofs.lines.render.Goals as goal

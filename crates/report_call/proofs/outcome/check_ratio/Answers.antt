@@ -1,5 +1,4 @@
 -- `report_call::outcome::check_ratio` meets its contract, by the mode. Assumes nothing.
-use Rattle.std.proofs.Common.{rules}
 use Rattle.report_call.proofs.Passed.{pack_passes, bad-ratio, lanes_pass}
 use Rattle.report_call.proofs.outcome.check_ratio.Goals as goal
 

@@ -1,5 +1,4 @@
 -- `report_call::outcome::check_setup` meets its contract: the shapes, then the ratio. Assumes nothing.
-use Rattle.std.proofs.Common.{rules}
 use Rattle.report_call.proofs.Passed.{bad-shape, out_some, then_ratio}
 use Rattle.report_call.proofs.outcome.check_setup.Goals as goal
 

@@ -1,5 +1,4 @@
 -- `report_call::outcome::convert` meets its contract: one call, by the mode. Assumes nothing.
-use Rattle.std.proofs.Common.{rules}
 use Rattle.report_call.proofs.Convert.{packs, slices}
 use Rattle.report_call.proofs.outcome.convert.Goals as goal
 

@@ -3,7 +3,6 @@ use mathlib.Core.List.{List}
 use Prim.Native.Nat.{ℕ}
 use native.Mathlib.Omega.{arith}
 use lib.ListN.{replicate, length-replicate}
-use Rattle.std.proofs.Common.{rules}
 use Rattle.stream_spec.proofs.Passed.{length-fits}
 use Rattle.report_spec.specs.Report.{shape_of}
 use Rattle.report_call.proofs.Told.{prefix_fits, prefix_long}

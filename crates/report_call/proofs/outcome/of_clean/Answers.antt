@@ -3,7 +3,6 @@ use mathlib.Core.List.{List}
 use Prim.Native.Nat.{ℕ, ◌*◌}
 use native.Mathlib.Omega.{arith}
 use lib.ListN.{replicate, length-replicate, take}
-use Rattle.std.proofs.Common.{rules}
 use Rattle.report_spec.specs.Report.{shape_of}
 use Rattle.report_call.proofs.Sound.{shape_narrow, short, part-is, part-fits, part-long, part-passed}
 use Rattle.report_call.proofs.Steps.{clean_came}

@@ -1,5 +1,4 @@
 -- `report_call::outcome::of_cycles` meets its contract: what judging answers, and for a clean take what follows. Assumes nothing.
-use Rattle.std.proofs.Common.{rules}
 use Rattle.report_call.proofs.Steps.{judged_refused, judged_broken, sound-is, judged_sound}
 use Rattle.report_call.proofs.outcome.of_cycles.Goals as goal
 

@@ -1,6 +1,4 @@
 -- `report_call::outcome::of_setup` meets its contract: the sheet's numbers, then LENGTH, then the take. Assumes nothing.
-use borrow.Author.Tests.{not-true, not-false}
-use Rattle.std.proofs.Common.{rules}
 use Rattle.report_spec.specs.Report.{contents}
 use Rattle.report_call.proofs.Steps.{setup_refused, passes, shape_narrow, length-passed, length-refused, setup_unread, setup_ill, setup_read}
 use Rattle.report_call.proofs.outcome.of_setup.Goals as goal

@@ -1,6 +1,4 @@
 -- `report_call::outcome::of_sheet` meets its contract: SHEET, or what the sheet says. Assumes nothing.
-use Rattle.std.proofs.Common.{rules}
-use borrow.Author.Tests.{not-true, not-false}
 use Rattle.report_spec.specs.Report.{contents}
 use Rattle.report_call.proofs.Steps.{sheet_unread, sheet-refused, sheet-read}
 use Rattle.report_call.proofs.outcome.of_sheet.Goals as goal

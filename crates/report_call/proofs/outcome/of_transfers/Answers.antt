@@ -1,7 +1,6 @@
 -- `report_call::outcome::of_transfers` meets its contract: ROOM, or clean. Assumes nothing.
 use mathlib.Core.Path.{sym, subst}
 use native.Mathlib.Omega.{arith}
-use Rattle.std.proofs.Common.{rules}
 use Rattle.stream_spec.specs.declared.Shape.{Shape}
 use Rattle.stream_spec.specs.Walk.{Narrow, Passed}
 use Rattle.report_spec.proofs.Passes.{narrow_out}

@@ -1,6 +1,5 @@
 -- `report_call::outcome::out_shape` meets its contract: it is of the kind of the take's shape. Assumes nothing.
 use mathlib.Core.Path.{ap, ◌∙◌}
-use Rattle.std.proofs.Common.{rules}
 use Rattle.stream_spec.specs.declared.Shape.{Shape}
 use Rattle.stream_spec.specs.Layout.{at_width}
 use Rattle.report_call.proofs.outcome.out_shape.Goals as goal

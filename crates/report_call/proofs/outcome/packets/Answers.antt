@@ -1,15 +1,10 @@
 -- `report_call::outcome::packets` meets its contract. The loop counts; the shape is not read in it, so its invariant is said of each
 -- shape with records of this size. Assumes nothing.
-use mathlib.Core.Path.{◌≡◌, sym, ◌∙◌}
-use Prim.Native.Nat.{◌-◌}
+use mathlib.Core.Path.{sym, ◌∙◌}
 use native.Mathlib.Omega.{arith}
-use Rattle.std.proofs.Common.{rules}
-use lib.ListN.{length}
-use Rattle.stream_spec.specs.declared.Shape.{Shape}
-use Rattle.stream_spec.specs.Layout.{size as size_of}
 use Rattle.stream_spec.proofs.Passed.{passed_narrow}
 use Rattle.stream_spec.proofs.Size.{size_pos}
-use Rattle.report_call.proofs.Packets.{Counting, counting_start, next-within, again, counted}
+use Rattle.report_call.proofs.Packets.{counting_start, next-within, again, counted}
 use Rattle.report_call.proofs.outcome.packets.Goals as goal
 
 pub record_size-size-requires : goal.record_size-size-requires

@@ -1,13 +1,9 @@
-use mathlib.Core.Path.{◌≡◌, sym, ◌∙◌}
+use mathlib.Core.Path.{◌≡◌}
 use Prim.Native.Nat.{◌-◌}
-use native.Mathlib.Omega.{arith}
-use Rattle.std.proofs.Common.{rules}
 use lib.ListN.{length}
 use Rattle.stream_spec.specs.declared.Shape.{Shape}
 use Rattle.stream_spec.specs.Layout.{size as size_of}
-use Rattle.stream_spec.proofs.Passed.{passed_narrow}
-use Rattle.stream_spec.proofs.Size.{size_pos}
-use Rattle.report_call.proofs.Packets.{Counting, counting_start, next-within, again, counted}
+use Rattle.report_call.proofs.Packets.{Counting}
 use Rattle.report_call.proofs.outcome.packets.Given as goal
 
 abbrev pub invariant-loop-at : goal.invariant-loop-at
