@@ -9,11 +9,10 @@ ghost use Rattle.report.specs.Delivery.{Saves, Prints};
 use arrayvec::ArrayString;
 use report_spec::Summary;
 use std::fmt::Write as _;
-use std::fs;
 use std::fs::OpenFile;
-use std::io;
 use std::io::{Read, Write};
 use std::rt::Files;
+use std::{fs, io};
 
 // The system's numbers of the two failures that a flush of the folder may have: it may not be read, and it has no flush.
 const EACCES: i32 = 13;
