@@ -1,7 +1,7 @@
 #!/usr/bin/env python3
 """Brings this repository's own definitions and lemmas to today's spelling: words in snake case, primes as apostrophes.
 
-usage: python3 tools/respell.py        at the top of the repository, once, straight after /opt/rattle/port/port.py
+usage: python3 tools/respell.py        at the top of the repository, once, straight after the kit's port.py
 
     recordCount, codeOf, each-itemsOf, every-line   ->   record_count, code_of, each-items_of, every_line
 
