@@ -2,4 +2,3 @@
 pub mod Rows
 pub mod Numbers
 pub mod Alone
-pub mod Walks

@@ -1,7 +1,6 @@
 // Cutting a long burst for AXI3 boards, which take at most 16 beats (paper 02, T-02). Every call takes any numbers and refuses
 // what is not allowed. What the answers mean is in the crate axi3_spec. `cut` has the form that paper 01 names, a lent row of
-// bursts; whoever calls it needs a proof by hand, so `cut_into` alone does, and all others call `cut_row` or `cut_numbers`, which
-// stand above it.
+// bursts; `cut_into` alone calls it, and all others call `cut_row` or `cut_numbers`, which stand above it.
 #![tactic(auto)]
 
 ghost use Rattle.std.specs.Prelude.{◌≡◌, ◌+◌, ◌*◌, ◌≤◌, ◌<◌, min, length};

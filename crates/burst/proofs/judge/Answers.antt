@@ -1,6 +1,5 @@
 -- `burst::judge` meets its contract: each answer is that of the first check of the list that refuses, and those before it
--- have passed. Below, `e1` to `e5` are the places where the first, second, .. test has passed, and `b1` to `b6` the burst seen
--- from there. Assumes nothing.
+-- have passed. Assumes nothing.
 use borrow.Author.Tests.{not-false}
 use mathlib.Core.Bool.{not, false}
 use mathlib.Core.Path.{◌≡◌, sym, ◌∙◌}

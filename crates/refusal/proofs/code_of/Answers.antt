@@ -1,7 +1,5 @@
--- `refusal::code_of` meets its contract: each arm answers with the code of the constructor that the match found. A file of its
--- own, since the automatic proof ends at fifteen constructors. A new one is two lines: what the match tells of `r` in the first
--- list, and its arm in the second (`enum_told` where it has no number of its own, `r` under `before` where it has one).
--- Assumes nothing.
+-- `refusal::code_of` meets its contract: each arm answers with the code of the constructor that the match found. A new
+-- constructor is one answer more. Assumes nothing.
 use mathlib.Core.Path.{◌≡◌, refl}
 use Rattle.refusal.specs.declared.Refusal.{Refusal}
 use Rattle.refusal.specs.Code.{code_of}

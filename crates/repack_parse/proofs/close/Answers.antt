@@ -1,4 +1,4 @@
--- `repack_parse::close` meets its contract: the entry at its place.  Assumes nothing.
+-- `repack_parse::close` meets its contract: the entry at its place. Assumes nothing.
 use mathlib.Core.Path.{refl}
 use Rattle.repack_parse.proofs.close.Goals as goal
 

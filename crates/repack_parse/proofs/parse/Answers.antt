@@ -1,6 +1,4 @@
 -- `repack_parse::parse` meets its contract: the usual records, then one of another kind, and at last the open stretch. Assumes nothing.
--- ---- what is known after the usual records are skimmed, and after one of another kind
--- ---- the needs
 use mathlib.Core.Path.{◌≡◌, sym, ap, ◌∙◌}
 use mathlib.Core.Bool.{Bool}
 use mathlib.Core.List.{List}

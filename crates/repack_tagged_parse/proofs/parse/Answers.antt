@@ -1,6 +1,4 @@
 -- `repack_tagged_parse::parse` meets its contract: record by record, and at last the open stretch. Assumes nothing.
--- ---- what is known wherever a record starts or the take ends, and after a record is read
--- ---- the needs
 use mathlib.Core.Path.{◌≡◌, sym, ◌∙◌}
 use mathlib.Core.List.{List}
 use Prim.Native.Nat.{ℕ, ◌<◌}

@@ -1,5 +1,4 @@
--- `report_setup::parse` meets its contract: each line in its turn, and nothing after the fifth. The lets name what is known after each
--- line. Assumes nothing.
+-- `report_setup::parse` meets its contract: each line in its turn, and nothing after the fifth. Assumes nothing.
 use Rattle.report_setup.proofs.Laws.{read, refused, first-refused, second-refused, third_refused, fourth_refused, fifth_refused, end_refused, sheet-read, parsed}
 use Rattle.report_setup.proofs.Words.{mode-read, mode-refused, tlast-read, tlast-refused}
 use Rattle.report_setup.proofs.parse.Goals as goal

@@ -1,7 +1,5 @@
 -- `stream_downsize::put_all` meets its contract. The loop's invariant: what is written and the slices of the records left are
 -- the slices of all. Assumes nothing.
--- ---- what is known in a turn, and what is known behind the loop's end
--- ---- the needs
 use mathlib.Core.List.{List}
 use Prim.Native.Nat.{ℕ, ◌+◌, ◌≤◌}
 use native.Mathlib.Omega.{arith}

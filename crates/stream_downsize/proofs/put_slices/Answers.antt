@@ -1,7 +1,5 @@
 -- `stream_downsize::put_slices` meets its contract: slice by slice while k are left before the last one, then the last one.
 -- Assumes nothing.
--- ---- what is known in a turn, and what is known behind the loop's end
--- ---- the needs
 use mathlib.Core.Path.{◌≡◌, ap, ◌∙◌}
 use mathlib.Core.List.{List}
 use Prim.Native.Nat.{ℕ, ◌+◌, ◌-◌, ◌≤◌}

@@ -1,7 +1,5 @@
 -- `stream_fill_in::fill` meets its contract. The loop's invariant: the records in front of `at` stand filled, and what follows is as
 -- it was. Assumes nothing.
--- ---- what is known in a turn
--- ---- the needs
 use mathlib.Core.List.{List}
 use Prim.Native.Nat.{ℕ, ◌+◌, ◌-◌, ◌≤◌}
 use native.Mathlib.Omega.{arith}

@@ -1,8 +1,6 @@
 -- `stream_harvest::put_cycles` meets its contract. The loop's invariant: what is written, with what the cycles left will add, is
 -- what the take gives. The shape is not read in the loop, so it is said of each shape with records of this size. Assumes
 -- nothing.
--- ---- what is known in a turn, and what is known behind the loop's end
--- ---- the needs
 use mathlib.Core.Path.{sym, ◌∙◌}
 use mathlib.Core.List.{List}
 use Prim.Native.Nat.{ℕ, ◌+◌, ◌≤◌}

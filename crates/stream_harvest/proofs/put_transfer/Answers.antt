@@ -1,6 +1,4 @@
 -- `stream_harvest::put_transfer` meets its contract: octet 0, then the others in up to three groups. Assumes nothing.
--- ---- what stands in the output after each group
--- ---- the needs
 use mathlib.Core.Path.{◌≡◌, ap, ◌∙◌}
 use mathlib.Core.List.{List}
 use Prim.Native.Nat.{ℕ, ◌+◌, ◌-◌, ◌%◌, ◌<◌}

@@ -1,7 +1,5 @@
 -- `stream_judge::broken` meets its contract. The loop's invariant: the verdict where only a bad field of the cycles left counts
 -- is the verdict on all from cycle j on. Assumes nothing.
--- ---- what is known in a turn, and what is known behind the loop's end
--- ---- the needs
 use mathlib.Core.Path.{◌≡◌}
 use mathlib.Core.Bool.{Bool, true, false}
 use mathlib.Core.List.{List}

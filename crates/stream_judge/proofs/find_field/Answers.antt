@@ -1,7 +1,5 @@
 -- `stream_judge::find_field` meets its contract. The loop's invariant: the first bad field of the records left is the first of
 -- all. Assumes nothing.
--- ---- what is known in a turn, and what is known behind the loop's end
--- ---- the needs
 use Prim.Native.Nat.{ℕ, ◌+◌, ◌≤◌}
 use mathlib.Core.List.{List}
 use native.Mathlib.Omega.{arith}

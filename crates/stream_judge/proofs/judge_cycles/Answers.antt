@@ -1,7 +1,5 @@
 -- `stream_judge::judge_cycles` meets its contract. The loop's invariant: the verdict on the cycles left is the verdict on all.
 -- Assumes nothing.
--- ---- what is known in a turn, and what is known behind the loop's end
--- ---- the needs
 use mathlib.Core.Path.{◌≡◌}
 use mathlib.Core.Bool.{Bool, true, false}
 use mathlib.Core.List.{List}

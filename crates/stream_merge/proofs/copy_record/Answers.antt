@@ -1,7 +1,5 @@
 -- `stream_merge::copy_record` meets its contract: eight octets at a time, the last eight over the end of those before them. Assumes
 -- nothing.
--- ---- what stands in the output after eight, sixteen and twenty-four octets
--- ---- the needs
 use mathlib.Core.List.{List}
 use mathlib.Core.Path.{◌≡◌, ap, ◌∙◌}
 use Prim.Native.Nat.{ℕ, ◌+◌, ◌-◌, ◌≤◌, ◌<◌}

@@ -1,7 +1,5 @@
 -- `stream_merge::merge` meets its contract: the tests in the paper's order, each with what those before it have passed, then both lists.
 -- Assumes nothing.
--- ---- the arguments, and what has passed behind each test
--- ---- the needs
 use mathlib.Core.List.{List, [], ◌∷◌}
 use mathlib.Core.Option.{none}
 use mathlib.Core.Path.{◌≡◌}

@@ -1,7 +1,5 @@
 -- `stream_merge::put_all` meets its contract. The loop's invariant: what is written, with what the records left will add, is the merged
 -- list. Assumes nothing.
--- ---- what is known in a turn of the loop
--- ---- the needs
 use mathlib.Core.List.{List}
 use Prim.Native.Nat.{ℕ, ◌+◌, ◌≤◌}
 use native.Mathlib.Omega.{arith}

@@ -1,7 +1,5 @@
 -- `stream_repack::convert_tagged` meets its contract: a record's fault is the answer, or what writing the stretches answers.
 -- Assumes nothing.
--- ---- a take without fault, from where its table is known
--- ---- the needs
 use mathlib.Core.Path.{◌∙◌}
 use mathlib.Core.List.{List}
 use Prim.Native.Nat.{ℕ}
