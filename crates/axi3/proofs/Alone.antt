@@ -1,5 +1,5 @@
 -- A cut into a row of its own: it is made with room for every cut, and what was asked for decides. Assumes nothing.
-use mathlib.Core.Option.{Option, none, some}
+use Rattle.std.specs.Prelude.{Option, None, Some}
 use mathlib.Core.Path.{◌≡◌, refl, sym, ap, subst, ◌∙◌}
 use Prim.Native.Nat.{ℕ, ◌≤◌, ◌<◌}
 use native.Mathlib.Omega.{arith}
@@ -26,10 +26,10 @@ module _ (x : Burst) (room : ℕ) (r : CutRow) (c : Cut x blank_row r.answer r.b
   too_short h q e f = go (cut_refusal x row_length) refl
     where
       go : (o : Option Refusal) → cut_refusal x row_length ≡ o → CutAlone x room q
-      go (some p) g = absurd (omega (arith, used_is x row_length r.answer c.answers (some p) g))
-      go none g =
+      go (Some p) g = absurd (omega (arith, used_is x row_length r.answer c.answers (Some p) g))
+      go None g =
           let a : IsAccepted x = (none-refused x row_length g).0 in
-          let short : room < piece_count x = omega (arith, used_is x row_length r.answer c.answers none g) in
+          let short : room < piece_count x = omega (arith, used_is x row_length r.answer c.answers None g) in
           record {
             answers = subst (Answered x room) (sym e) (answer-room x room a short);
             leaves = f ∙ sym (ap (λ o. row_for o (pieces x) blank_row) (refusal-room x room a short));
@@ -40,11 +40,11 @@ module _ (x : Burst) (room : ℕ) (r : CutRow) (c : Cut x blank_row r.answer r.b
   same-refusal h = go (first (checks x)) refl
     where
       go : (o : Option Refusal) → first (checks x) ≡ o → cut_refusal x room ≡ cut_refusal x row_length
-      go (some p) g = refusal_judged x room p (ap judgement_for g) ∙ sym (refusal_judged x row_length p (ap judgement_for g))
-      go none g =
+      go (Some p) g = refusal_judged x room p (ap judgement_for g) ∙ sym (refusal_judged x row_length p (ap judgement_for g))
+      go None g =
           let a : IsAccepted x = ap judgement_for g in
-          let all : cut_refusal x row_length ≡ none = refusal-none x row_length a (count_most x ((accepted_exactly x).0 a).legal) in
-          refusal-none x room a (omega (arith, used_is x row_length r.answer c.answers none all)) ∙ sym all
+          let all : cut_refusal x row_length ≡ None = refusal-none x row_length a (count_most x ((accepted_exactly x).0 a).legal) in
+          refusal-none x room a (omega (arith, used_is x row_length r.answer c.answers None all)) ∙ sym all
 
   pub long-enough : used_of r.answer ≤ room → CutAlone x room r
   long-enough h =

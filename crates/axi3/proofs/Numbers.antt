@@ -1,6 +1,6 @@
 -- A row of numbers while descriptions are written to it, and when all are. Assumes nothing.
+use Rattle.std.specs.Prelude.{Option, None, Some}
 use mathlib.Core.List.{List, [], ◌∷◌, ◌++◌, map, map-append, append_assoc, append-nil}
-use mathlib.Core.Option.{Option, none, some}
 use mathlib.Core.Path.{◌≡◌, refl, sym, ap, ap₂, ◌∙◌}
 use Prim.Native.Nat.{ℕ, suc, ◌+◌, ◌*◌, ◌≤◌, ◌<◌}
 use native.Mathlib.Omega.{arith}
@@ -90,10 +90,10 @@ module _ (x : Burst) (room : ℕ) (r : CutRow) (c : CutAlone x room r) where
   row-length = go (cut_refusal x room) refl
     where
       go : (o : Option Refusal) → cut_refusal x room ≡ o → length r.bursts ≡ row_length
-      go (some q) e = ap length (row_by (some q) e)
-      go none e =
+      go (Some q) e = ap length (row_by (Some q) e)
+      go None e =
           let few : piece_count x ≤ row_length = count_most x ((accepted_exactly x).0 (none-refused x room e).0).legal in
-          ap length (row_by none e)
+          ap length (row_by None e)
           ∙ length-append (pieces x) (drop (length (pieces x)) blank_row)
           ∙ omega (arith, pieces-length, length-drop (length (pieces x)) blank_row)
 
@@ -102,23 +102,23 @@ module _ (x : Burst) (room : ℕ) (r : CutRow) (c : CutAlone x room r) where
   used_most = go (cut_refusal x room) refl
     where
       go : (o : Option Refusal) → cut_refusal x room ≡ o → (used_of r.answer ≤ row_length) × (used_of r.answer ≤ room)
-      go (some q) e = (omega (arith, used_is x room r.answer c.answers (some q) e), omega (arith, used_is x room r.answer c.answers (some q) e))
-      go none e =
+      go (Some q) e = (omega (arith, used_is x room r.answer c.answers (Some q) e), omega (arith, used_is x room r.answer c.answers (Some q) e))
+      go None e =
           let h = none-refused x room e in
           let few : piece_count x ≤ row_length = count_most x ((accepted_exactly x).0 h.0).legal in
-          (omega (arith, used_is x room r.answer c.answers none e), omega (arith, used_is x room r.answer c.answers none e, h.1))
+          (omega (arith, used_is x room r.answer c.answers None e), omega (arith, used_is x room r.answer c.answers None e, h.1))
 
   laid_by : (row : List ℕ) (o : Option Refusal) → cut_refusal x room ≡ o
       → laid r.bursts (used_of r.answer) row ≡ row_for o (joined (map numbers_of (pieces x))) row
   unfolding laid joined
-  laid_by row (some q) e = ap (λ n. laid r.bursts n row) (used_is x room r.answer c.answers (some q) e)
-  laid_by row none e =
+  laid_by row (Some q) e = ap (λ n. laid r.bursts n row) (used_is x room r.answer c.answers (Some q) e)
+  laid_by row None e =
       let written : List ℕ = joined (map numbers_of (pieces x)) in
       let long : length written ≡ numbers_each * piece_count x = numbers-length (pieces x) ∙ ap (λ n. numbers_each * n) pieces-length in
       let front : take (piece_count x) r.bursts ≡ pieces x =
-      ap (take (piece_count x)) (row_by none e) ∙ take_at (pieces x) (drop (length (pieces x)) blank_row) (piece_count x) pieces-length
+      ap (take (piece_count x)) (row_by None e) ∙ take_at (pieces x) (drop (length (pieces x)) blank_row) (piece_count x) pieces-length
       in
-      ap (λ n. laid r.bursts n row) (used_is x room r.answer c.answers none e)
+      ap (λ n. laid r.bursts n row) (used_is x room r.answer c.answers None e)
       ∙ ap₂ (λ ys n. joined (map numbers_of ys) ++ drop n row) front (sym long)
 
   pub laid-all : (row : List ℕ) → numbers_room row ≡ room → laid r.bursts (used_of r.answer) row ≡ numbers_after x row

@@ -1,6 +1,6 @@
 -- A row of bursts while a cut is written to it, and when it is written. Assumes nothing.
+use Rattle.std.specs.Prelude.{Option, None, Some}
 use mathlib.Core.List.{List, ◌∷◌, ◌++◌}
-use mathlib.Core.Option.{Option, none, some}
 use mathlib.Core.Path.{◌≡◌, refl, sym, ap, ◌∙◌}
 use Prim.Native.Nat.{ℕ, suc, ◌+◌, ◌≤◌, ◌<◌}
 use native.Mathlib.Numerals.{add-one}
@@ -56,10 +56,10 @@ module _ (x : Burst) (row : List Burst) where
   written r a j h = go (cut_refusal x (length row)) refl
     where
       go : (o : Option Refusal) → cut_refusal x (length row) ≡ o → Written j
-      go (some q) e = absurd (omega (arith, used_is x (length row) r a (some q) e))
-      go none e =
+      go (Some q) e = absurd (omega (arith, used_is x (length row) r a (Some q) e))
+      go None e =
           let f = none-refused x (length row) e in
-          let counted : j < piece_count x = omega (arith, used_is x (length row) r a none e) in
+          let counted : j < piece_count x = omega (arith, used_is x (length row) r a None e) in
           record { accepted = (accepted_exactly x).0 f.0; counted = counted; below = omega (arith, f.1) }
 
   -- and there is room for all of them
@@ -67,13 +67,13 @@ module _ (x : Burst) (row : List Burst) where
   written-most r a = go (cut_refusal x (length row)) refl
     where
       go : (o : Option Refusal) → cut_refusal x (length row) ≡ o → used_of r ≤ length row
-      go (some q) e = omega (arith, used_is x (length row) r a (some q) e)
-      go none e = omega (arith, used_is x (length row) r a none e, (none-refused x (length row) e).1)
+      go (Some q) e = omega (arith, used_is x (length row) r a (Some q) e)
+      go None e = omega (arith, used_is x (length row) r a None e, (none-refused x (length row) e).1)
 
   filled_by : (o : Option Refusal) → filled x (used_of (cut_for o (piece_count x))) row ≡ row_for o (pieces x) row
   unfolding filled
-  filled_by (some q) = filled_none
-  filled_by none = ap (λ n. pieces x ++ drop n row) (sym (run_length (piece x) 0 (piece_count x)))
+  filled_by (Some q) = filled_none
+  filled_by None = ap (λ n. pieces x ++ drop n row) (sym (run_length (piece x) 0 (piece_count x)))
 
   -- when all that the answer counts is written, the row is as defined
   pub filled-all : (r : CutAnswer) → Answered x (length row) r → filled x (used_of r) row ≡ cut_after x row

@@ -1,6 +1,6 @@
 -- When a cut is refused and with what, and that an answer shows the paper's numbers. Assumes nothing.
+use Rattle.std.specs.Prelude.{Option, None, Some}
 use mathlib.Core.List.{List, [], ◌∷◌}
-use mathlib.Core.Option.{Option, none, some}
 use mathlib.Core.Path.{◌≡◌, refl, sym, ap, ◌∙◌}
 use Prim.Native.Nat.{ℕ, ◌≤◌, ◌<◌}
 use native.Mathlib.Omega.{arith}
@@ -23,8 +23,8 @@ use Rattle.axi3_spec.specs.Answers.{cut_refusal, cut_for, cut_answer, cut_values
 use Rattle.axi3_spec.specs.Promises.{IsAccepted}
 
 cut-shows : (o : Option Refusal) (n : ℕ) → cut_values (cut_for o n) ≡ values_for o n
-cut-shows (some r) n = refl
-cut-shows none n = refl
+cut-shows (Some r) n = refl
+cut-shows None n = refl
 
 -- an answer that is the defined one shows the paper's numbers
 pub answered : (x : Burst) (room : ℕ) (r : CutAnswer) → r ≡ cut_answer x room → Answered x room r
@@ -36,20 +36,20 @@ module _ (x : Burst) (room : ℕ) where
 
   -- ---- the three cases, from how the burst was judged
 
-  pub refusal_judged : (r : Refusal) → judgement x ≡ judged.Refused r → cut_refusal x room ≡ some r
+  pub refusal_judged : (r : Refusal) → judgement x ≡ judged.Refused r → cut_refusal x room ≡ Some r
   refusal_judged r e = append-found (checks x) room_checks r (refused-some (first (checks x)) r e)
 
-  pub refusal-room : IsAccepted x → room < piece_count x → cut_refusal x room ≡ some Room
+  pub refusal-room : IsAccepted x → room < piece_count x → cut_refusal x room ≡ Some Room
   refusal-room e h = append-passed (checks x) room_checks (accepted-none (first (checks x)) e) ∙ rw (lt-ltb room (piece_count x) h)
 
-  pub refusal-none : IsAccepted x → piece_count x ≤ room → cut_refusal x room ≡ none
+  pub refusal-none : IsAccepted x → piece_count x ≤ room → cut_refusal x room ≡ None
   refusal-none e h = append-passed (checks x) room_checks (accepted-none (first (checks x)) e) ∙ rw (le-ltb room (piece_count x) h)
 
   -- a cut that is not refused: the burst is accepted, and the row is long enough
-  pub none-refused : cut_refusal x room ≡ none → IsAccepted x × (piece_count x ≤ room)
+  pub none-refused : cut_refusal x room ≡ None → IsAccepted x × (piece_count x ≤ room)
   none-refused e =
       let h = append-none (checks x) room_checks e in
-      (ap judgement_for h.0, ltb-false room (piece_count x) (cond-none (ltb room (piece_count x)) Room none h.1).0)
+      (ap judgement_for h.0, ltb-false room (piece_count x) (cond-none (ltb room (piece_count x)) Room None h.1).0)
 
   -- ---- the answer in each case
 
@@ -65,16 +65,16 @@ module _ (x : Burst) (room : ℕ) where
       answered x room (Bursts n) (ap Bursts f ∙ sym (ap (λ o. cut_for o (piece_count x)) (refusal-none e few)))
 
   -- an answer of n bursts was not refused
-  pub bursts-none : (n : ℕ) → Bursts n ≡ cut_answer x room → (cut_refusal x room ≡ none) × (n ≡ piece_count x)
+  pub bursts-none : (n : ℕ) → Bursts n ≡ cut_answer x room → (cut_refusal x room ≡ None) × (n ≡ piece_count x)
   bursts-none n e = go (cut_refusal x room) refl e
     where
-      go : (o : Option Refusal) → cut_refusal x room ≡ o → Bursts n ≡ cut_for o (piece_count x) → (cut_refusal x room ≡ none) × (n ≡ piece_count x)
-      go (some r) h f = absurd (clash cc)
-      go none h f = (h, cc)
+      go : (o : Option Refusal) → cut_refusal x room ≡ o → Bursts n ≡ cut_for o (piece_count x) → (cut_refusal x room ≡ None) × (n ≡ piece_count x)
+      go (Some r) h f = absurd (clash cc)
+      go None h f = (h, cc)
 
-  pub refused-is : (r : Refusal) → Refused r ≡ cut_answer x room → cut_refusal x room ≡ some r
+  pub refused-is : (r : Refusal) → Refused r ≡ cut_answer x room → cut_refusal x room ≡ Some r
   refused-is r e = go (cut_refusal x room) refl e
     where
-      go : (o : Option Refusal) → cut_refusal x room ≡ o → Refused r ≡ cut_for o (piece_count x) → cut_refusal x room ≡ some r
-      go (some q) h f = let same : q ≡ r = cc in h ∙ ap some same
-      go none h f = absurd (clash cc)
+      go : (o : Option Refusal) → cut_refusal x room ≡ o → Refused r ≡ cut_for o (piece_count x) → cut_refusal x room ≡ Some r
+      go (Some q) h f = let same : q ≡ r = cc in h ∙ ap Some same
+      go None h f = absurd (clash cc)

@@ -1,8 +1,8 @@
 -- Each statement of specs/Promises, from the laws below it. Assumes nothing.
+use Rattle.std.specs.Prelude.{Option, None, Some}
 use mathlib.Core.Bool.{Bool, true, false}
 use mathlib.Core.List.{List, [], ◌∷◌, ◌++◌, map}
 use mathlib.Core.Logic.{◌⊎◌, inl, inr, ◌≢◌}
-use mathlib.Core.Option.{Option, none, some}
 use mathlib.Core.Path.{◌≡◌, refl, sym, ap, ap₂, subst, ◌∙◌}
 use Prim.Native.Nat.{ℕ, suc, ◌+◌, ◌-◌, ◌*◌, ◌^◌, ◌≤◌, ◌<◌}
 use native.Mathlib.Nat.{zero-add, suc-add}
@@ -51,7 +51,7 @@ all_accepted x e =
 in_sixteens : (x : Burst) → Legal x → (c : ℕ) → piece_count x ≡ suc c → InSixteens (beats x) (pieces x)
 in_sixteens x l c e =
     let last : beats (piece x c) ≡ piece_beats (beats x) c = beats_are x l c (omega arith) in
-    let some : beats_most * c < beats x = first-beat x l c (omega arith) in
+    let Some : beats_most * c < beats x = first-beat x l c (omega arith) in
     record {
       before = c;
       last = beats (piece x c);
@@ -60,7 +60,7 @@ in_sixteens x l c e =
           ∙ ap (run (λ j. beats (piece x j)) 0) e
           ∙ run-last (λ j. beats (piece x j)) c
           ∙ ap (λ ns. ns ++ (beats (piece x c) ∷ [])) (run_constant (λ j. beats (piece x j)) 16 0 c full);
-      some = omega arith;
+      Some = omega arith;
       most = omega arith;
       number = run_length (piece x) 0 (piece_count x) ∙ count-is x l;
     }
@@ -130,21 +130,21 @@ pub refused_as_judged : RefusedAsJudged
 refused_as_judged x room r e = ap (λ o. cut_for o (piece_count x)) (refusal_judged x room r e)
 
 -- no burst is judged ROOM: its own refusals are 7 and on
-never_room : (x : Burst) → first (checks x) ≢ some Room
+never_room : (x : Burst) → first (checks x) ≢ Some Room
 never_room x e = let h = own-number x Room e in omega arith
 
 pub room_exactly : RoomExactly
 room_exactly x room = (λ e. there (first (checks x)) refl (refused-is x room Room (sym e)), back)
   where
-    short : IsAccepted x → (t : Bool) → ltb room (piece_count x) ≡ t → cut_refusal x room ≡ some Room → room < piece_count x
+    short : IsAccepted x → (t : Bool) → ltb room (piece_count x) ≡ t → cut_refusal x room ≡ Some Room → room < piece_count x
     short a true f e = ltb-true room (piece_count x) f
-    short a false f e = absurd (let g : none ≡ some Room = sym (refusal-none x room a (ltb-false room (piece_count x) f)) ∙ e in clash cc)
+    short a false f e = absurd (let g : None ≡ Some Room = sym (refusal-none x room a (ltb-false room (piece_count x) f)) ∙ e in clash cc)
 
-    there : (o : Option Refusal) → first (checks x) ≡ o → cut_refusal x room ≡ some Room → IsAccepted x × (room < sixteens (beats x))
-    there (some r) f e =
-        let g : some r ≡ some Room = sym (refusal_judged x room r (ap judgement_for f)) ∙ e in
+    there : (o : Option Refusal) → first (checks x) ≡ o → cut_refusal x room ≡ Some Room → IsAccepted x × (room < sixteens (beats x))
+    there (Some r) f e =
+        let g : Some r ≡ Some Room = sym (refusal_judged x room r (ap judgement_for f)) ∙ e in
         absurd (never_room x (f ∙ g))
-    there none f e =
+    there None f e =
         let a : IsAccepted x = ap judgement_for f in
         (a, omega (arith, short a (ltb room (piece_count x)) refl e, count-is x (accepts x a).legal))
 
@@ -172,7 +172,7 @@ cut_exactly x room n = (there, back)
 pub row_stands : RowStands
 row_stands x row n after c = stood (bursts-none x (length row) n c.answers.is)
   where
-    stood : (cut_refusal x (length row) ≡ none) × (n ≡ piece_count x) → Stands x row n after
+    stood : (cut_refusal x (length row) ≡ None) × (n ≡ piece_count x) → Stands x row n after
     stood h =
         let f = none-refused x (length row) h.0 in
         let many : length (pieces x) ≡ n = run_length (piece x) 0 (piece_count x) ∙ sym h.1 in
@@ -197,7 +197,7 @@ row_kept x row r after c = c.leaves ∙ ap (λ o. row_for o (pieces x) row) (ref
 pub row_of_numbers_stands : RowOfNumbersStands
 row_of_numbers_stands x row n after c = stood (bursts-none x (numbers_room row) n c.answers.is)
   where
-    stood : (cut_refusal x (numbers_room row) ≡ none) × (n ≡ piece_count x) → NumbersStand x row n after
+    stood : (cut_refusal x (numbers_room row) ≡ None) × (n ≡ piece_count x) → NumbersStand x row n after
     stood h =
         let f = none-refused x (numbers_room row) h.0 in
         let written : List ℕ = joined (map numbers_of (pieces x)) in

@@ -1,7 +1,6 @@
 -- What the calls that cut a burst answer, over all their arguments, and every description and number of lent memory
 -- afterwards; and the numbers of paper 01 that each answer shows.
-use Rattle.std.specs.Prelude.{List, [], ◌∷◌, ◌++◌, map, ◌≡◌, ℕ, ◌/◌, ltb, length, drop, replicate}
-use Rattle.std.proofs.Math.Option.{Option, none, some}
+use Rattle.std.specs.Prelude.{List, [], ◌∷◌, ◌++◌, map, ◌≡◌, ℕ, ◌/◌, ltb, length, drop, replicate, Option, None, Some}
 use Rattle.refusal.specs.Checks.{Check, check, first}
 use Rattle.refusal.specs.Code.{code_of}
 use Rattle.refusal.specs.declared.Refusal.{Refusal}
@@ -26,13 +25,13 @@ cut_refusal x room = first (cut_checks x room)
 
 -- "The answer is the number used"
 abbrev pub cut_for : Option Refusal → ℕ → CutAnswer
-cut_for (some r) n = Refused r
-cut_for none n = Bursts n
+cut_for (Some r) n = Refused r
+cut_for None n = Bursts n
 
 -- "descriptions beyond are untouched"; refused, lent memory keeps its content
 abbrev pub row_for : {A : Type 0} → Option Refusal → List A → List A → List A
-row_for (some r) written lent = lent
-row_for none written lent = written ++ drop (length written) lent
+row_for (Some r) written lent = lent
+row_for None written lent = written ++ drop (length written) lent
 
 -- a description that says nothing
 abbrev pub blank : Burst
@@ -103,8 +102,8 @@ cut_values (Refused r) = refusal_values r
 -- are said through the checks and not through the answer, so that a wrong line of `cut_values` breaks the contract itself.
 
 abbrev pub values_for : Option Refusal → ℕ → Values
-values_for (some r) n = refusal_values r
-values_for none n = count_values n
+values_for (Some r) n = refusal_values r
+values_for None n = count_values n
 
 pub record Answered (x : Burst) (room : ℕ) (r : CutAnswer) : Type 0 where
   pub is : r ≡ cut_answer x room

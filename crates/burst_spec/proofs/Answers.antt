@@ -1,8 +1,8 @@
 -- When a burst is accepted, and that an answer shows the paper's numbers. Assumes nothing.
+use Rattle.std.specs.Prelude.{Option, None, Some}
 use mathlib.Core.Bool.{Bool, true, false, cond}
 use mathlib.Core.List.{List, [], ◌∷◌}
 use mathlib.Core.Logic.{◌↔◌}
-use mathlib.Core.Option.{Option, none, some}
 use mathlib.Core.Path.{◌≡◌, refl, sym, ap, ◌∙◌, subst}
 use Prim.Native.Nat.{ℕ, zero, suc, ◌+◌, ◌≤◌, ◌<◌}
 use native.Mathlib.Numerals.{add-one}
@@ -33,25 +33,25 @@ use Rattle.burst_spec.proofs.Known.{clash}
 
 -- ---- an answer, and the first refusal that it is made of
 
-pub accepted-none : (o : Option Refusal) → judgement_for o ≡ judged.Accepted → o ≡ none
-accepted-none (some r) e = absurd (clash cc)
-accepted-none none e = refl
+pub accepted-none : (o : Option Refusal) → judgement_for o ≡ judged.Accepted → o ≡ None
+accepted-none (Some r) e = absurd (clash cc)
+accepted-none None e = refl
 
-pub refused-some : (o : Option Refusal) (r : Refusal) → judgement_for o ≡ judged.Refused r → o ≡ some r
-refused-some (some q) r e = cc
-refused-some none r e = absurd (clash cc)
+pub refused-some : (o : Option Refusal) (r : Refusal) → judgement_for o ≡ judged.Refused r → o ≡ Some r
+refused-some (Some q) r e = cc
+refused-some None r e = absurd (clash cc)
 
 judgement-shows : (o : Option Refusal) → judgement_values (judgement_for o) ≡ values_for o (judgement_values judged.Accepted)
-judgement-shows (some r) = refl
-judgement-shows none = refl
+judgement-shows (Some r) = refl
+judgement-shows None = refl
 
 beat-shows : (o : Option Refusal) (y : Beat) → beat_values (beat_for o y) ≡ values_for o (beat_values (beat.At y))
-beat-shows (some r) y = refl
-beat-shows none y = refl
+beat-shows (Some r) y = refl
+beat-shows None y = refl
 
 step-shows : (o : Option Refusal) (d : ℤ) → step_values (step_for o d) ≡ values_for o (step_values (step.By d))
-step-shows (some r) d = refl
-step-shows none d = refl
+step-shows (Some r) d = refl
+step-shows None d = refl
 
 -- an answer that is the defined one shows the paper's numbers
 pub judged_is : (x : Burst) (r : Judgement) → r ≡ judgement x → Judged x r
@@ -66,10 +66,10 @@ step_is x k r e = record { is = e; shows = ap step_values e ∙ step-shows (firs
 -- ---- which bursts are accepted
 
 -- 7 to 12 find nothing exactly where none of them holds
-none_exactly : (x : Burst) → (first (checks x) ≡ none) ↔ Accepted x
+none_exactly : (x : Burst) → (first (checks x) ≡ None) ↔ Accepted x
 none_exactly x = (there, back)
   where
-    there : first (checks x) ≡ none → Accepted x
+    there : first (checks x) ≡ None → Accepted x
     there e =
         let p1 = cond-none _ _ _ e in
         let p2 = cond-none _ _ _ p1.1 in
@@ -82,7 +82,7 @@ none_exactly x = (there, back)
           inside = p6.0;
         }
 
-    back : Accepted x → first (checks x) ≡ none
+    back : Accepted x → first (checks x) ≡ None
     back y =
         rw (y.legal.bus, y.legal.size, y.legal.kind, y.legal.count, y.legal.start, y.inside)
 
@@ -98,11 +98,11 @@ pub boundary_exactly : (x : Burst) → (judgement x ≡ judged.Refused Boundary)
 boundary_exactly x = (there, back)
   where
     earlier : (t : Bool) (r : Refusal) (y : Option Refusal) → (r ≡ Boundary → ⊥)
-        → cond t (some r) y ≡ some Boundary → (t ≡ false) × (y ≡ some Boundary)
+        → cond t (Some r) y ≡ Some Boundary → (t ≡ false) × (y ≡ Some Boundary)
     earlier true r y h e = absurd (h cc)
     earlier false r y h e = (refl, e)
 
-    last : (t : Bool) → cond t (some Boundary) none ≡ some Boundary → t ≡ true
+    last : (t : Bool) → cond t (Some Boundary) None ≡ Some Boundary → t ≡ true
     last true e = refl
     last false e = absurd (clash cc)
 
@@ -125,15 +125,15 @@ abbrev FromSeven : List (Check Refusal) → Type 0
 FromSeven [] = Unit
 FromSeven (c ∷ cs) = (7 ≤ (code_of c.gives).0) × FromSeven cs
 
-given_seven : (cs : List (Check Refusal)) (r : Refusal) → FromSeven cs → first cs ≡ some r → 7 ≤ (code_of r).0
+given_seven : (cs : List (Check Refusal)) (r : Refusal) → FromSeven cs → first cs ≡ Some r → 7 ≤ (code_of r).0
 given_seven [] r h e = absurd (clash cc)
 given_seven (c ∷ cs) r h e = go c.found (given_seven cs r h.1) e
   where
-    go : (t : Bool) → (first cs ≡ some r → 7 ≤ (code_of r).0) → cond t (some c.gives) (first cs) ≡ some r → 7 ≤ (code_of r).0
+    go : (t : Bool) → (first cs ≡ Some r → 7 ≤ (code_of r).0) → cond t (Some c.gives) (first cs) ≡ Some r → 7 ≤ (code_of r).0
     go true rest f = let same : c.gives ≡ r = cc in subst (λ (q : Refusal). 7 ≤ (code_of q).0) same h.0
     go false rest f = rest f
 
-pub own-number : (x : Burst) (r : Refusal) → first (checks x) ≡ some r → 7 ≤ (code_of r).0
+pub own-number : (x : Burst) (r : Refusal) → first (checks x) ≡ Some r → 7 ≤ (code_of r).0
 own-number x r =
     given_seven (checks x) r (omega arith, (omega arith, (omega arith, (omega arith, (omega arith, (omega arith, tt))))))
 
@@ -153,17 +153,17 @@ module _ (x : Burst) (missing : Bool) where
       ap judgement_for (sym (append-found (checks x) (check missing Index ∷ []) r (refused-some (first (checks x)) r e)))
 
   pub index_last : (t : Bool) → judgement x ≡ judged.Accepted → missing ≡ t
-      → judgement_for (cond t (some Index) none) ≡ judgement_for (first (indexed_checks x missing))
+      → judgement_for (cond t (Some Index) None) ≡ judgement_for (first (indexed_checks x missing))
   index_last t e m =
       sym
       (ap judgement_for
       (append-passed (checks x) (check missing Index ∷ []) (accepted-none (first (checks x)) e)
-      ∙ ap (λ u. cond u (some Index) none) m))
+      ∙ ap (λ u. cond u (Some Index) None) m))
 
-  accepted_there : first (indexed_checks x missing) ≡ none → Accepted x × (missing ≡ false)
+  accepted_there : first (indexed_checks x missing) ≡ None → Accepted x × (missing ≡ false)
   accepted_there e =
       let h = append-none (checks x) (check missing Index ∷ []) e in
-      ((none_exactly x).0 h.0, (cond-none missing Index none h.1).0)
+      ((none_exactly x).0 h.0, (cond-none missing Index None h.1).0)
 
 -- what the calls answer for beat k, and for the step from it, by how the burst and the index were judged
 module _ (x : Burst) (k : ℕ) where
@@ -221,8 +221,8 @@ module _ (x : Burst) (k : ℕ) where
   answered-step d e = go (first (checks_of_step x k)) refl e
     where
       go : (o : Option Refusal) → first (checks_of_step x k) ≡ o → step.By d ≡ step_for o (beat_step x k) → (d ≡ beat_step x k) × Accepted x
-      go (some r) h f = absurd (clash cc)
-      go none h f = (cc, (accepted_there x (leb (beats x) (k + 1)) h).0)
+      go (Some r) h f = absurd (clash cc)
+      go None h f = (cc, (accepted_there x (leb (beats x) (k + 1)) h).0)
 
 -- the numbers from 3 on are the reserved kind, and no others
 pub reserved_exactly : (n : ℕ) → (kind_of n ≡ Reserved) ↔ (3 ≤ n)

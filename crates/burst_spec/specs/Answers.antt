@@ -1,6 +1,5 @@
 -- What each burst call answers, over all its arguments; and the numbers of paper 01 that each answer shows.
-use Rattle.std.specs.Prelude.{ℕ, zero, suc, ℤ, pos, ◌≡◌}
-use Rattle.std.proofs.Math.Option.{Option, none, some}
+use Rattle.std.specs.Prelude.{ℕ, zero, suc, ℤ, pos, ◌≡◌, Option, None, Some}
 use Rattle.refusal.specs.declared.Refusal.{Refusal}
 use Rattle.refusal.specs.Checks.{first}
 use Rattle.refusal.specs.Code.{code_of}
@@ -32,16 +31,16 @@ burst_of start len size kind bus =
 -- ---- how an answer is made of the first refusal, if there is one
 
 abbrev pub judgement_for : Option Refusal → Judgement
-judgement_for (some r) = judged.Refused r
-judgement_for none = judged.Accepted
+judgement_for (Some r) = judged.Refused r
+judgement_for None = judged.Accepted
 
 abbrev pub beat_for : Option Refusal → Beat → BeatAnswer
-beat_for (some r) y = beat.Refused r
-beat_for none y = beat.At y
+beat_for (Some r) y = beat.Refused r
+beat_for None y = beat.At y
 
 abbrev pub step_for : Option Refusal → ℤ → StepAnswer
-step_for (some r) d = step.Refused r
-step_for none d = step.By d
+step_for (Some r) d = step.Refused r
+step_for None d = step.By d
 
 -- ---- the calls
 
@@ -91,8 +90,8 @@ step_values (step.Refused r) = refusal_values r
 -- checks and not through the answer, so that a wrong line of `beat_values` and its like breaks the contract itself.
 
 abbrev pub values_for : Option Refusal → Values → Values
-values_for (some r) accepted = refusal_values r
-values_for none accepted = accepted
+values_for (Some r) accepted = refusal_values r
+values_for None accepted = accepted
 
 pub record Judged (x : Burst) (r : Judgement) : Type 0 where
   pub is : r ≡ judgement x

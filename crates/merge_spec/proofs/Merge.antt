@@ -1,8 +1,8 @@
 -- The merged list of two lists that a call accepts: its records, their number, each port's share, its order, and that it is a legal
 -- stream. Assumes nothing.
+use Rattle.std.specs.Prelude.{None}
 use mathlib.Core.Bool.{Bool, true, false}
 use mathlib.Core.List.{List, [], ◌∷◌, ◌++◌, map}
-use mathlib.Core.Option.{none}
 use mathlib.Core.Path.{◌≡◌, refl, sym, ap, ap₂, ◌∙◌}
 use Prim.Native.Nat.{ℕ, ◌+◌, ◌-◌, ◌*◌, ◌%◌}
 use native.Mathlib.Nat.{mul-mod_left, add-mul}
@@ -29,7 +29,7 @@ use Rattle.merge_spec.proofs.Order.{goes, goes_only, over_both, fair_both, cut-f
 -- what an accepted call knows of a list
 pub record Taken (s : Shape) (xs : List ℕ) : Type 0 where
   pub passed : Passed s xs
-  pub faultless : first (transfer_checks s 0 (records s xs)) ≡ none
+  pub faultless : first (transfer_checks s 0 (records s xs)) ≡ None
   pub low : AllLow (records s xs)
 
 pub taken-first : (s : Shape) (xs ys : List ℕ) (room : ℕ) → Accepts s xs ys room → Taken s xs

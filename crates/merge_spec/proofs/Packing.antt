@@ -1,9 +1,9 @@
 -- The packed form of a merged list: turns are packed apart, so each port's share of it is that port's own packed form, and another TID
 -- changes nothing else in it. Assumes nothing.
+use Rattle.std.specs.Prelude.{Option, None, Some}
 use mathlib.Core.Bool.{Bool, true, false, not, ◌&&◌}
 use mathlib.Core.List.{List, [], ◌∷◌, ◌++◌, map, head?, get_last?, append_assoc, append-nil}
 use mathlib.Core.Logic.{◌⊎◌, inl, inr}
-use mathlib.Core.Option.{Option, none, some}
 use mathlib.Core.Path.{◌≡◌, refl, sym, ap, ap₂, ◌∙◌}
 use Prim.Native.Nat.{ℕ, zero, suc, ◌+◌, ◌-◌, ◌/◌}
 use native.Mathlib.Omega.{arith}
@@ -54,17 +54,17 @@ item-pair port (byte p a) is h = h.0.0
 item-pair port (end p) is h = h.0
 
 last_apart : (port : Bool) (is : List (Item Kept)) (j : Item Kept) → EachItem (Of port) Any is → Of (not port) (item_pair j)
-    → apart (get_last? is) (some j) ≡ true
+    → apart (get_last? is) (Some j) ≡ true
 last_apart port [] j h k = refl
 last_apart port (end p ∷ []) j h k = refl
 last_apart port (byte p a ∷ []) j h k = rw (pairs_differ port p (item_pair j) h.0.0 k) refl
 last_apart port (i ∷ i' ∷ is) j h k = last_apart port (i' ∷ is) j h.1 k
 
 -- anything before nothing
-none_after : (o : Option (Item Kept)) → apart o none ≡ true
-none_after none = refl
-none_after (some (byte p a)) = refl
-none_after (some (end p)) = refl
+none_after : (o : Option (Item Kept)) → apart o None ≡ true
+none_after None = refl
+none_after (Some (byte p a)) = refl
+none_after (Some (end p)) = refl
 
 -- items of one port before items of the other
 ports_parted : (port : Bool) (is js : List (Item Kept)) → EachItem (Of port) Any is → EachItem (Of (not port)) Any js → parted is js ≡ true
@@ -75,9 +75,9 @@ ports_parted port is (j ∷ js) h k = last_apart port is j h (item-pair (not por
 ended-parted : (is : List (Item Kept)) (p : Pair) (js : List (Item Kept)) → parted (is ++ end p ∷ []) js ≡ true
 ended-parted is p js = rw (last-append is (end p) []) (ends (head? js))
   where
-    ends : (o : Option (Item Kept)) → apart (some (end p)) o ≡ true
-    ends none = refl
-    ends (some j) = refl
+    ends : (o : Option (Item Kept)) → apart (Some (end p)) o ≡ true
+    ends None = refl
+    ends (Some j) = refl
 
 last_end : (t : Transfer Kept) → t.last ≡ true → transfer_items t ≡ map (byte t.pair) (kept t.lanes) ++ end t.pair ∷ []
 last_end t e = rw e refl
@@ -97,8 +97,8 @@ turn-parted before final js e =
 
 any_lanes : (port : Bool) (ls : List (Option Kept)) → EachLane (Of port) Any ls
 any_lanes port [] = tt
-any_lanes port (none ∷ ls) = any_lanes port ls
-any_lanes port (some k ∷ ls) = (tt, any_lanes port ls)
+any_lanes port (None ∷ ls) = any_lanes port ls
+any_lanes port (Some k ∷ ls) = (tt, any_lanes port ls)
 
 transfers_of : (port : Bool) (ts : List (Transfer Kept)) → All high_one port ts → EachTransfer (Of port) Any ts
 transfers_of port [] h = tt
@@ -296,7 +296,7 @@ stretches_raised : (v : ℕ) (ss : List (Stretch Kept)) → pack_stretches v (ma
 stretches_raised v [] = refl
 stretches_raised v (s ∷ ss) =
     ap₂ (λ (a b : List (Transfer Kept)). a ++ b)
-    (spread-raised ((length s.bytes - 1) / v) v s.pair (map some s.bytes) s.ended) (stretches_raised v ss)
+    (spread-raised ((length s.bytes - 1) / v) v s.pair (map Some s.bytes) s.ended) (stretches_raised v ss)
     ∙ sym (map-append raise_transfer (pack_stretch v s) (pack_stretches v ss))
 
 pub pack-raised : (v : ℕ) (ts : List (Transfer Kept)) → pack v (items (map raise_transfer ts)) ≡ map raise_transfer (pack v (items ts))

@@ -1,6 +1,6 @@
 -- The statements of specs/Promises, proved: each by a law about what it speaks of. Assumes nothing.
+use Rattle.std.specs.Prelude.{None}
 use mathlib.Core.List.{List}
-use mathlib.Core.Option.{none}
 use mathlib.Core.Path.{◌≡◌, refl, sym, ap, ◌∙◌}
 use Prim.Native.Nat.{ℕ, ◌+◌, ◌*◌}
 use native.Mathlib.Omega.{arith}
@@ -68,7 +68,7 @@ tags_exactly s xs ys room port k = (
 -- ---- an accepted call
 
 module _ (s : Shape) (xs ys : List ℕ) (room n : ℕ) (e : merge_answer s xs ys room ≡ Records n) where
-  none-refused : merge_refusal s xs ys room ≡ none
+  none-refused : merge_refusal s xs ys room ≡ None
   none-refused = (answer-taken s xs ys room n e).0
 
   accepted : Accepts s xs ys room

@@ -1,8 +1,8 @@
 -- The list of merging's checks, part by part, and the answer that each gives. Which records have a fault is in Faults. Assumes nothing.
+use Rattle.std.specs.Prelude.{Option, None, Some}
 use mathlib.Core.Bool.{Bool, true, false}
 use mathlib.Core.List.{List, [], ◌∷◌, ◌++◌}
 use mathlib.Core.Logic.{◌⊎◌, inl, inr, ◌↔◌}
-use mathlib.Core.Option.{Option, none, some}
 use mathlib.Core.Path.{◌≡◌, refl, sym, ap, ◌∙◌}
 use Prim.Native.Nat.{ℕ, ◌≤◌}
 use native.Mathlib.Omega.{arith}
@@ -26,8 +26,8 @@ abbrev pub named : ℕ → Refusal → Named
 named port r = record { port = port; refusal = r }
 
 abbrev pub named_by : ℕ → Option Refusal → Option Named
-named_by port none = none
-named_by port (some r) = some (named port r)
+named_by port None = None
+named_by port (Some r) = Some (named port r)
 
 pub naming-first : (port : ℕ) (cs : List (Check Refusal)) → first (naming port cs) ≡ named_by port (first cs)
 naming-first port [] = refl
@@ -38,30 +38,30 @@ naming-first port (c ∷ cs) = go c.found refl (naming-first port cs)
     go true e ih = rw e refl
     go false e ih = rw e ih
 
-named_none : (port : ℕ) (o : Option Refusal) → named_by port o ≡ none → o ≡ none
-named_none port none e = refl
-named_none port (some r) e = clash cc
+named_none : (port : ℕ) (o : Option Refusal) → named_by port o ≡ None → o ≡ None
+named_none port None e = refl
+named_none port (Some r) e = clash cc
 
-pub named_some : (port q : ℕ) (r : Refusal) (o : Option Refusal) → named_by port o ≡ some (named q r) → (q ≡ port) × (o ≡ some r)
-named_some port q r none e = clash cc
-named_some port q r (some p) e =
+pub named_some : (port q : ℕ) (r : Refusal) (o : Option Refusal) → named_by port o ≡ Some (named q r) → (q ≡ port) × (o ≡ Some r)
+named_some port q r None e = clash cc
+named_some port q r (Some p) e =
     let same : named port p ≡ named q r = cc in
-    (sym (ap (λ (f : Named). f.port) same), ap (λ (f : Named). some f.refusal) same)
+    (sym (ap (λ (f : Named). f.port) same), ap (λ (f : Named). Some f.refusal) same)
 
-pub naming-none : (port : ℕ) (cs : List (Check Refusal)) → first (naming port cs) ≡ none → first cs ≡ none
+pub naming-none : (port : ℕ) (cs : List (Check Refusal)) → first (naming port cs) ≡ None → first cs ≡ None
 naming-none port cs e = named_none port (first cs) (sym (naming-first port cs) ∙ e)
 
-none-naming : (port : ℕ) (cs : List (Check Refusal)) → first cs ≡ none → first (naming port cs) ≡ none
+none-naming : (port : ℕ) (cs : List (Check Refusal)) → first cs ≡ None → first (naming port cs) ≡ None
 none-naming port cs e = naming-first port cs ∙ ap (named_by port) e
 
 -- the first of two lists of checks
-pub append-some : {X : Type 0} (cs ds : List (Check X)) (x : X) → first (cs ++ ds) ≡ some x
-    → (first cs ≡ some x) ⊎ ((first cs ≡ none) × (first ds ≡ some x))
+pub append-some : {X : Type 0} (cs ds : List (Check X)) (x : X) → first (cs ++ ds) ≡ Some x
+    → (first cs ≡ Some x) ⊎ ((first cs ≡ None) × (first ds ≡ Some x))
 append-some cs ds x e = go (first cs) refl
   where
-    go : (o : Option _) → first cs ≡ o → (first cs ≡ some x) ⊎ ((first cs ≡ none) × (first ds ≡ some x))
-    go (some y) h = inl (h ∙ sym (append-found cs ds y h) ∙ e)
-    go none h = inr (h, sym (append-passed cs ds h) ∙ e)
+    go : (o : Option _) → first cs ≡ o → (first cs ≡ Some x) ⊎ ((first cs ≡ None) × (first ds ≡ Some x))
+    go (Some y) h = inl (h ∙ sym (append-found cs ds y h) ∙ e)
+    go None h = inr (h, sym (append-passed cs ds h) ∙ e)
 
 -- ---- the list of checks, part by part
 
@@ -81,13 +81,13 @@ module _ (s : Shape) (xs ys : List ℕ) (room : ℕ) where
 
   -- nothing is found
   pub record Accepts : Type 0 where
-    pub take : first (take_checks s xs) ≡ none
-    pub other : first (length_check s ys ∷ []) ≡ none
-    pub firsts : first (port_checks s xs) ≡ none
-    pub seconds : first (port_checks s ys) ≡ none
+    pub take : first (take_checks s xs) ≡ None
+    pub other : first (length_check s ys ∷ []) ≡ None
+    pub firsts : first (port_checks s xs) ≡ None
+    pub seconds : first (port_checks s ys) ≡ None
     pub fits : length (merged s xs ys) ≤ room
 
-  pub accepts_of : merge_refusal s xs ys room ≡ none → Accepts
+  pub accepts_of : merge_refusal s xs ys room ≡ None → Accepts
   accepts_of e =
       let a = append-none (naming 0 (take_checks s xs)) second e in
       let b = append-none (naming 1 (length_check s ys ∷ [])) third a.1 in
@@ -103,72 +103,72 @@ module _ (s : Shape) (xs ys : List ℕ) (room : ℕ) where
       }
 
   -- so far the call is not refused
-  module _ (take : first (take_checks s xs) ≡ none) where
+  module _ (take : first (take_checks s xs) ≡ None) where
     pub after-take : merge_refusal s xs ys room ≡ first second
     after-take = append-passed (naming 0 (take_checks s xs)) second (none-naming 0 (take_checks s xs) take)
 
-    module _ (other : first (length_check s ys ∷ []) ≡ none) where
+    module _ (other : first (length_check s ys ∷ []) ≡ None) where
       pub after-other : merge_refusal s xs ys room ≡ first third
       after-other = after-take ∙ append-passed (naming 1 (length_check s ys ∷ [])) third (none-naming 1 (length_check s ys ∷ []) other)
 
-      module _ (firsts : first (port_checks s xs) ≡ none) where
+      module _ (firsts : first (port_checks s xs) ≡ None) where
         pub after-firsts : merge_refusal s xs ys room ≡ first fourth
         after-firsts = after-other ∙ append-passed (naming 0 (port_checks s xs)) fourth (none-naming 0 (port_checks s xs) firsts)
 
-        module _ (seconds : first (port_checks s ys) ≡ none) where
+        module _ (seconds : first (port_checks s ys) ≡ None) where
           pub after_seconds : merge_refusal s xs ys room ≡ first roomed
           after_seconds = after-firsts ∙ append-passed (naming 1 (port_checks s ys)) roomed (none-naming 1 (port_checks s ys) seconds)
 
-          pub after-all : length (merged s xs ys) ≤ room → merge_refusal s xs ys room ≡ none
+          pub after-all : length (merged s xs ys) ≤ room → merge_refusal s xs ys room ≡ None
           after-all h = after_seconds ∙ rw (le-ltb room (length (merged s xs ys)) h) refl
 
-  pub of_accepts : Accepts → merge_refusal s xs ys room ≡ none
+  pub of_accepts : Accepts → merge_refusal s xs ys room ≡ None
   of_accepts a = after-all a.take a.other a.firsts a.seconds a.fits
 
 -- ---- the answer
 
 -- an accepted call answers the number of records
 pub answer-taken : (s : Shape) (xs ys : List ℕ) (room n : ℕ) → merge_answer s xs ys room ≡ Records n
-    → (merge_refusal s xs ys room ≡ none) × (n ≡ length (merged_records s xs ys))
+    → (merge_refusal s xs ys room ≡ None) × (n ≡ length (merged_records s xs ys))
 unfolding merge_answer
 answer-taken s xs ys room n e = go (merge_refusal s xs ys room) refl e
   where
     go : (o : Option Named) → merge_refusal s xs ys room ≡ o → merged_by o (length (merged_records s xs ys)) ≡ Records n
-        → (merge_refusal s xs ys room ≡ none) × (n ≡ length (merged_records s xs ys))
-    go (some f) h k = clash cc
-    go none h k = (h, cc)
+        → (merge_refusal s xs ys room ≡ None) × (n ≡ length (merged_records s xs ys))
+    go (Some f) h k = clash cc
+    go None h k = (h, cc)
 
-pub taken-answer : (s : Shape) (xs ys : List ℕ) (room : ℕ) → merge_refusal s xs ys room ≡ none
+pub taken-answer : (s : Shape) (xs ys : List ℕ) (room : ℕ) → merge_refusal s xs ys room ≡ None
     → merge_answer s xs ys room ≡ Records (length (merged_records s xs ys))
 unfolding merge_answer
 taken-answer s xs ys room e = rw e refl
 
 pub answer-refused : (s : Shape) (xs ys : List ℕ) (room port : ℕ) (r : Refusal)
-    → (merge_answer s xs ys room ≡ Refused port r) ↔ (merge_refusal s xs ys room ≡ some (named port r))
+    → (merge_answer s xs ys room ≡ Refused port r) ↔ (merge_refusal s xs ys room ≡ Some (named port r))
 unfolding merge_answer
 answer-refused s xs ys room port r = (λ e. go (merge_refusal s xs ys room) refl e, λ e. rw e refl)
   where
     go : (o : Option Named) → merge_refusal s xs ys room ≡ o → merged_by o (length (merged_records s xs ys)) ≡ Refused port r
-        → merge_refusal s xs ys room ≡ some (named port r)
-    go none h k = clash cc
-    go (some f) h k =
+        → merge_refusal s xs ys room ≡ Some (named port r)
+    go None h k = clash cc
+    go (Some f) h k =
         let p : f.port ≡ port = cc in
         let q : f.refusal ≡ r = cc in
-        h ∙ (λ i. some (record { port = p i; refusal = q i }))
+        h ∙ (λ i. Some (record { port = p i; refusal = q i }))
 
 -- an answer that is the defined one shows the paper's numbers
 shown : (o : Option Named) (n : ℕ) → merged_values (merged_by o n) ≡ values_for o n
-shown (some f) n = refl
-shown none n = refl
+shown (Some f) n = refl
+shown None n = refl
 
 module _ (s : Shape) (xs ys before : List ℕ) where
-  pub merged-refused : (port : ℕ) (r : Refusal) → merge_refusal s xs ys (length before) ≡ some (named port r)
+  pub merged-refused : (port : ℕ) (r : Refusal) → merge_refusal s xs ys (length before) ≡ Some (named port r)
       → PortsMerged s xs ys before before (Refused port r)
   unfolding merge_answer merge_after
   merged-refused port r e = record { is = rw e refl; shows = rw e refl; leaves = rw e refl }
 
-  pub merged-written : merge_refusal s xs ys (length before) ≡ none → (n : ℕ) → n ≡ length (merged_records s xs ys)
-      → (after : List ℕ) → after ≡ lent_by none (merged s xs ys) before → PortsMerged s xs ys before after (Records n)
+  pub merged-written : merge_refusal s xs ys (length before) ≡ None → (n : ℕ) → n ≡ length (merged_records s xs ys)
+      → (after : List ℕ) → after ≡ lent_by None (merged s xs ys) before → PortsMerged s xs ys before after (Records n)
   unfolding merge_answer merge_after
   merged-written e n q after f =
       record { is = rw (e, q) refl; shows = rw (e, q) refl; leaves = rw e f }

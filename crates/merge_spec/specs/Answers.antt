@@ -1,7 +1,6 @@
 -- What merging two takes answers, over all its arguments, what it leaves in lent memory, and the numbers that it shows (paper 02, T-08;
 -- paper 01, 'How much each answer must say'). The contract of the call cites these definitions.
-use Rattle.std.specs.Prelude.{List, [], ◌∷◌, ◌++◌, map, ◌≡◌, ℕ, length}
-use Rattle.std.proofs.Math.Option.{Option, none, some}
+use Rattle.std.specs.Prelude.{List, [], ◌∷◌, ◌++◌, map, ◌≡◌, ℕ, length, Option, None, Some}
 use Rattle.refusal.specs.Checks.{Check, check, first}
 use Rattle.refusal.specs.Code.{code_of}
 use Rattle.refusal.specs.declared.Refusal.{Refusal}
@@ -45,12 +44,12 @@ merge_refusal s xs ys room =
 -- "An accepted writing call answers the number of records and leaves the output after them unchanged"; refused, "lent memory keeps its
 -- content" (01).
 abbrev pub merged_by : Option Named → ℕ → Merged
-merged_by (some f) n = Refused f.port f.refusal
-merged_by none n = Records n
+merged_by (Some f) n = Refused f.port f.refusal
+merged_by None n = Records n
 
 abbrev pub lent_by : Option Named → List ℕ → List ℕ → List ℕ
-lent_by (some f) result lent = lent
-lent_by none result lent = in_front result lent
+lent_by (Some f) result lent = lent
+lent_by None result lent = in_front result lent
 
 unfoldable pub merge_answer : Shape → List ℕ → List ℕ → ℕ → Merged
 merge_answer s xs ys room = merged_by (merge_refusal s xs ys room) (length (merged_records s xs ys))
@@ -76,8 +75,8 @@ merged_values (Refused port r) = values (code_of r).0 port (code_of r).1 0
 
 -- the same of the first refusal
 abbrev pub values_for : Option Named → ℕ → Values
-values_for (some f) n = values (code_of f.refusal).0 f.port (code_of f.refusal).1 0
-values_for none n = values 0 0 0 n
+values_for (Some f) n = values (code_of f.refusal).0 f.port (code_of f.refusal).1 0
+values_for None n = values 0 0 0 n
 
 -- ---- the contract of the call: the answer is the definition's, with these numbers, and so is every octet of lent memory afterwards. The
 -- numbers are said through the checks and not through the answer, so that a wrong line of `merged_values` breaks the contract itself.

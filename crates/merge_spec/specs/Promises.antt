@@ -1,7 +1,6 @@
 -- What is proved of merging, a statement each. Words in quotes are T-08's (paper 02). The proofs are in proofs/Promises.
-use Rattle.std.specs.Prelude.{Bool, true, false, not, ◌||◌, cond, List, [], ◌∷◌, ◌++◌, map, ◌⊎◌, ◌↔◌, ◌≢◌, ◌≡◌, ℕ, ◌+◌, ◌*◌, ◌%◌, ◌≤◌, ◌<◌, length, get_or, take, drop}
+use Rattle.std.specs.Prelude.{Bool, true, false, not, ◌||◌, cond, List, [], ◌∷◌, ◌++◌, map, ◌⊎◌, ◌↔◌, ◌≢◌, ◌≡◌, ℕ, ◌+◌, ◌*◌, ◌%◌, ◌≤◌, ◌<◌, length, get_or, take, drop, None, Some}
 use Rattle.std.specs.Bool.{beq}
-use Rattle.std.proofs.Math.Option.{none, some}
 use Rattle.refusal.specs.Checks.{first}
 use Rattle.refusal.specs.declared.Refusal.{Refusal}
 use Rattle.refusal.specs.declared.Refusal.TheVariants.{Room, Tags}
@@ -53,10 +52,10 @@ NothingRefused =
 -- that it names. A line for each: the port, what has passed before it, and what gives the refusal.
 abbrev pub RefusedBy : Shape → List ℕ → List ℕ → ℕ → ℕ → Refusal → Type 0
 RefusedBy s xs ys room port r =
-    ((port ≡ 0) × (first (take_checks s xs) ≡ some r))
-    ⊎ ((port ≡ 1) × (first (take_checks s xs) ≡ none) × (first (length_check s ys ∷ []) ≡ some r))
-    ⊎ ((port ≡ 0) × Readable s xs ys × (first (port_checks s xs) ≡ some r))
-    ⊎ ((port ≡ 1) × Readable s xs ys × AllSound s xs × (first (port_checks s ys) ≡ some r))
+    ((port ≡ 0) × (first (take_checks s xs) ≡ Some r))
+    ⊎ ((port ≡ 1) × (first (take_checks s xs) ≡ None) × (first (length_check s ys ∷ []) ≡ Some r))
+    ⊎ ((port ≡ 0) × Readable s xs ys × (first (port_checks s xs) ≡ Some r))
+    ⊎ ((port ≡ 1) × Readable s xs ys × AllSound s xs × (first (port_checks s ys) ≡ Some r))
     ⊎ ((port ≡ 0) × Readable s xs ys × AllSound s xs × AllSound s ys × (room < length xs + length ys) × (r ≡ Room))
 
 abbrev pub RefusedInOrder : Type 0

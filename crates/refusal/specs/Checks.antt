@@ -1,7 +1,6 @@
 -- A fault as a check: whether it is there, and what it gives. A call lists its checks in paper 01's order, and what it answers
 -- is the first fault that is there. Streams, bursts and the report share these; which checks a call has is in their definitions.
-use Rattle.std.specs.Prelude.{◌≡◌, Bool, true, cond, List, [], ◌∷◌, ◌++◌, ◌↔◌}
-use Rattle.std.proofs.Math.Option.{Option, none, some}
+use Rattle.std.specs.Prelude.{◌≡◌, Bool, true, cond, List, [], ◌∷◌, ◌++◌, ◌↔◌, Option, None, Some}
 
 pub record Check (X : Type 0) : Type 0 where
   pub found : Bool
@@ -12,8 +11,8 @@ check found gives = record { found = found; gives = gives }
 
 -- the first of the checks, in their order, that finds something
 abbrev pub first : {X : Type 0} → List (Check X) → Option X
-first [] = none
-first (c ∷ cs) = cond c.found (some c.gives) (first cs)
+first [] = None
+first (c ∷ cs) = cond c.found (Some c.gives) (first cs)
 
 -- what a list of checks gives, and its place in the list: nothing before it is found
 pub record FoundAt (X : Type 0) (cs : List (Check X)) (x : X) : Type 0 where
@@ -23,8 +22,8 @@ pub record FoundAt (X : Type 0) (cs : List (Check X)) (x : X) : Type 0 where
   pub is : cs ≡ before ++ at ∷ after
   pub found : at.found ≡ true
   pub gives : at.gives ≡ x
-  pub earlier : first before ≡ none
+  pub earlier : first before ≡ None
 
 -- Demand 1: "given exactly when that fault is the first in the stated order"
 abbrev pub FirstInOrder : Type 1
-FirstInOrder = (X : Type 0) (cs : List (Check X)) (x : X) → (first cs ≡ some x) ↔ FoundAt X cs x
+FirstInOrder = (X : Type 0) (cs : List (Check X)) (x : X) → (first cs ≡ Some x) ↔ FoundAt X cs x

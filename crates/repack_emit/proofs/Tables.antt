@@ -1,11 +1,11 @@
 -- A table, stretch by stretch: the octets of its packed form, with any number m of user bits to a byte, and how many records they
 -- are. Assumes nothing.
+use Rattle.std.specs.Prelude.{Some}
 use lib.Dec.{eqb}
 use borrow.Author.Tests.{eqb-true, eqb-false}
 use mathlib.Core.Path.{◌≡◌, refl, sym, ap, ◌∙◌}
 use mathlib.Core.Bool.{Bool, true, false}
 use mathlib.Core.List.{List, [], ◌∷◌, ◌++◌, map, append_assoc, append-nil}
-use mathlib.Core.Option.{some}
 use Prim.Native.Nat.{ℕ, suc, ◌+◌, ◌-◌, ◌/◌, ◌≤◌, ◌<◌}
 use native.Mathlib.Nat.{div-le_self}
 use native.Mathlib.Numerals.{add-one}
@@ -42,7 +42,7 @@ pub wide_stretches : (v : ℕ) (ss : List (Stretch Kept)) → Wide v (pack_stret
 wide_stretches v [] = tt
 wide_stretches v (s ∷ ss) =
     wide-append v (pack_stretch v s) (pack_stretches v ss)
-    (wide-spread ((length s.bytes - 1) / v) v s.pair (map some s.bytes) s.ended) (wide_stretches v ss)
+    (wide-spread ((length s.bytes - 1) / v) v s.pair (map Some s.bytes) s.ended) (wide_stretches v ss)
 
 pub count-is : (v : ℕ) (es codes : List ℕ) → total es ≤ length codes → count_of v es ≡ length (pack_stretches v (stretches_of es codes))
 count-is v [] codes h = refl
@@ -52,7 +52,7 @@ count-is v (e ∷ es) codes h =
     sym
     (length-append (pack_stretch v (stretch_of e (take (entry_count e) codes))) (pack_stretches v (stretches_of es (drop (entry_count e) codes)))
     ∙ rw (
-      length-spread ((length (map kept_of (take (entry_count e) codes)) - 1) / v) v (pair_from (entry_pair e)) (map some (map kept_of (take (entry_count e) codes))) (odd (entry_last e)),
+      length-spread ((length (map kept_of (take (entry_count e) codes)) - 1) / v) v (pair_from (entry_pair e)) (map Some (map kept_of (take (entry_count e) codes))) (odd (entry_last e)),
       long,
       ← count-is v es (drop (entry_count e) codes) (rw (length-drop (entry_count e) codes) (omega arith)),
     ) (omega arith))

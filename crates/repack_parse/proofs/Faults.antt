@@ -1,9 +1,9 @@
 -- What a header tells of its record's fault: all of it where there are no user bits, and a record of data lanes then has none where
 -- the fields of its head are as they should be. Assumes nothing.
+use Rattle.std.specs.Prelude.{None}
 use mathlib.Core.Path.{◌≡◌, refl, ◌∙◌}
 use mathlib.Core.Bool.{Bool, true, false, ◌||◌}
 use mathlib.Core.List.{List}
-use mathlib.Core.Option.{none}
 use Prim.Native.Nat.{ℕ, zero, suc, ◌/◌}
 use Rattle.refusal.specs.Checks.{first}
 use Rattle.stream_spec.specs.Layout.{of_width, odd, lane_type, types_of, is_reserved, any_reserved, flags, pair_of, tkeep, tstrb}
@@ -38,7 +38,7 @@ reserved-none (suc w) k = go (reserved-none w (k / 2)) (odd k) refl
 
 -- so a record of data lanes whose fields are as they should be has no fault
 pub data_faultless : (w : ℕ) (rec : List ℕ) (k : ℕ) → HeadFits transfer_flags (of_width w) (flags rec) (pair_of rec).tdest (tkeep rec) (tstrb rec)
-    → tkeep rec ≡ tstrb rec → first (transfer_faults (of_width w) k rec) ≡ none
+    → tkeep rec ≡ tstrb rec → first (transfer_faults (of_width w) k rec) ≡ None
 data_faultless w rec k f e =
     let field : field_fault transfer_flags (of_width w) rec ≡ false =
     bare_field transfer_flags w rec ∙ fits_head transfer_flags (of_width w) (flags rec) (pair_of rec).tdest (tkeep rec) (tstrb rec) f in

@@ -1,9 +1,9 @@
 -- What is known while the fast reader reads a take, record by record: the invariant of Take, of items that are held in octets and
 -- marks. Assumes nothing.
+use Rattle.std.specs.Prelude.{Some}
 use mathlib.Core.Path.{◌≡◌, refl, sym, ◌∙◌}
 use mathlib.Core.Bool.{Bool, true, false}
 use mathlib.Core.List.{List}
-use mathlib.Core.Option.{some}
 use Prim.Native.Nat.{ℕ, ◌+◌, ◌*◌, ◌/◌, ◌≤◌, ◌<◌}
 use native.Mathlib.Omega.{arith}
 use lib.ListN.{length}
@@ -111,8 +111,8 @@ module _ (w : ℕ) (transfers octets marks table : List ℕ) (st : Open) (at : �
     parsing_marks = sym (length-marks marks) ∙ q.holding.long
 
     -- its fault is the take's
-    pub parsing_refused : (f : Refusal) → first (transfer_faults (of_width w) (at / size (of_width w)) (record_at transfers at z)) ≡ some f
-        → first (transfer_checks (of_width w) 0 (records (of_width w) transfers)) ≡ some f
+    pub parsing_refused : (f : Refusal) → first (transfer_faults (of_width w) (at / size (of_width w)) (record_at transfers at z)) ≡ Some f
+        → first (transfer_checks (of_width w) 0 (records (of_width w) transfers)) ≡ Some f
     parsing_refused f h = reading-refused (of_width w) transfers octets table st at q.reading more (record_at transfers at z) f is_here h
 
     -- it is read

@@ -1,8 +1,8 @@
 -- The usual record: what its two words tell of it, that it has no fault, and that adding it is a step of reading. Assumes
 -- nothing.
+use Rattle.std.specs.Prelude.{None}
 use mathlib.Core.Path.{◌≡◌, refl, sym, ap, ◌∙◌}
 use mathlib.Core.List.{List, [], ◌∷◌, ◌++◌}
-use mathlib.Core.Option.{none}
 use Prim.Native.Nat.{ℕ, zero, suc, ◌+◌, ◌-◌, ◌/◌, ◌%◌, ◌^◌, ◌≤◌, ◌<◌}
 use native.Mathlib.Omega.{arith}
 use native.Mathlib.Nat.{add-zero}
@@ -102,7 +102,7 @@ module _ (w : ℕ) (transfers octets table : List ℕ) (st : Open) (at full : �
         strb = omega (arith, told.within);
       }
 
-  pub usual_faultless : (k : ℕ) → first (transfer_faults (of_width w) k rec) ≡ none
+  pub usual_faultless : (k : ℕ) → first (transfer_faults (of_width w) k rec) ≡ None
   usual_faultless k = data_faultless w rec k usual_fields (told.keep ∙ sym told.strb)
 
   pub usual_added : (octets1 table1 : List ℕ) (r : Open) (n lo hi : ℕ) → lo ≡ word_at 4 transfers at → hi ≡ word_at 4 transfers (at + 3)
@@ -123,7 +123,7 @@ skimmed_none w transfers octets table st from r = record { on = omega arith; rea
 
 module _ (w : ℕ) (transfers octets table : List ℕ) (st : Open) (from : ℕ) (octets1 table1 : List ℕ) (st1 : Open) (at : ℕ)
     (k : Skimmed w transfers octets table st from octets1 table1 st1 at) where
-  pub skimmed_next : (octets2 table2 : List ℕ) (st2 : Open) → at < length transfers → first (transfer_faults (of_width w) (at / size (of_width w)) (record_from (of_width w) transfers at)) ≡ none
+  pub skimmed_next : (octets2 table2 : List ℕ) (st2 : Open) → at < length transfers → first (transfer_faults (of_width w) (at / size (of_width w)) (record_from (of_width w) transfers at)) ≡ None
       → AddedData w (record_from (of_width w) transfers at) octets1 table1 st1 octets2 table2 st2
       → Skimmed w transfers octets table st from octets2 table2 st2 (at + size (of_width w))
   skimmed_next octets2 table2 st2 more sound a =

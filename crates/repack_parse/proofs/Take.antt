@@ -1,8 +1,8 @@
 -- The invariant of reading a take, record by record: where it starts, what a record more does to it, and what it says at the
 -- end, for records of any shape and items held as codes. How records follow each other is stream_spec's Walk. Assumes nothing.
+use Rattle.std.specs.Prelude.{None, Some}
 use mathlib.Core.Path.{◌≡◌, refl, ap, ◌∙◌, subst}
 use mathlib.Core.List.{List, [], ◌∷◌, ◌++◌}
-use mathlib.Core.Option.{none, some}
 use Prim.Native.Nat.{ℕ, ◌+◌, ◌/◌, ◌≤◌, ◌<◌}
 use native.Mathlib.Nat.{zero-div}
 use native.Mathlib.Numerals.{add-one}
@@ -84,8 +84,8 @@ module _ (s : Shape) (transfers items table : List ℕ) (st : Open) (at : ℕ) (
 
     -- a record's fault is the take's
     pub reading-refused : (rec : List ℕ) (f : Refusal) → rec ≡ record_from s transfers at
-        → first (transfer_faults s (at / size s) rec) ≡ some f
-        → first (transfer_checks s 0 (records s transfers)) ≡ some f
+        → first (transfer_faults s (at / size s) rec) ≡ Some f
+        → first (transfer_checks s 0 (records s transfers)) ≡ Some f
     reading-refused rec f e h =
         faults_here
         ∙ each-found (transfer_faults s) (at / size s) (record_from s transfers at)
@@ -96,7 +96,7 @@ module _ (s : Shape) (transfers items table : List ℕ) (st : Open) (at : ℕ) (
     next_place = place-next s transfers at r.left more (size s) refl
 
     module _ (rec codes codes' table' : List ℕ) (st' : Open) (e : rec ≡ record_from s transfers at) (a : Added s rec codes table st codes' table' st') where
-      pub reading-next : (items' : List ℕ) → first (transfer_faults s (at / size s) rec) ≡ none → length items' ≡ length items
+      pub reading-next : (items' : List ℕ) → first (transfer_faults s (at / size s) rec) ≡ None → length items' ≡ length items
           → Reading s transfers items' table' st' (at + size s)
       reading-next items' sound l =
           let long : 7 + s.width ≤ size s = size_holds s in
@@ -129,7 +129,7 @@ module _ (s : Shape) (transfers items table : List ℕ) (st : Open) (at : ℕ) (
   -- ---- nothing is left
 
   module _ (done : length transfers ≤ at) where
-    reading-faultless : first (transfer_checks s 0 (records s transfers)) ≡ none
+    reading-faultless : first (transfer_checks s 0 (records s transfers)) ≡ None
     reading-faultless = r.faults ∙ rw (no-records s transfers at done) refl
 
     stands_done : (codes : List ℕ) → StandsAt s transfers codes table st at

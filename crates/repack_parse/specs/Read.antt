@@ -1,7 +1,6 @@
 -- What each step of reading a take does to the held items, to the table of stretches and to the state: for records of any shape
 -- and items held as codes, and for the fast reader, which knows records without user bits by their width w and holds octets and marks.
-use Rattle.std.specs.Prelude.{◌≡◌, Bool, true, cond, List, [], ◌∷◌, ◌++◌, ℕ, ◌+◌, ◌*◌, ◌/◌, ◌≤◌, ◌<◌, length, take}
-use Rattle.std.proofs.Math.Option.{none, some}
+use Rattle.std.specs.Prelude.{◌≡◌, Bool, true, cond, List, [], ◌∷◌, ◌++◌, ℕ, ◌+◌, ◌*◌, ◌/◌, ◌≤◌, ◌<◌, length, take, None, Some}
 use Rattle.refusal.specs.Checks.{first}
 use Rattle.stream_spec.specs.declared.Shape.{Shape}
 use Rattle.stream_spec.specs.Items.{Item, end, item_pair, transfer_items}
@@ -98,7 +97,7 @@ FinishIs table st after r =
 
 -- What a take without fault is read to: its stretches, with items of these codes.
 pub record TakenAs (s : Shape) (transfers codes table : List ℕ) (n : ℕ) : Type 0 where
-  pub faultless : first (transfer_checks s 0 (records s transfers)) ≡ none
+  pub faultless : first (transfer_checks s 0 (records s transfers)) ≡ None
   pub finished : Finished n codes table (cut (stream_items s transfers))
 
 -- ---- octets and marks
@@ -122,13 +121,13 @@ AddedBits w rec octets marks table st octetsAfter marksAfter tableAfter r =
 
 -- a record without fault whose place is k, read
 pub record Sounds (w : ℕ) (rec : List ℕ) (k : ℕ) (octets marks table : List ℕ) (st : Open) (octetsAfter marksAfter tableAfter : List ℕ) (r : Open) : Type 0 where
-  pub faultless : first (transfer_faults (of_width w) k rec) ≡ none
+  pub faultless : first (transfer_faults (of_width w) k rec) ≡ None
   pub added : AddedMarked w rec octets marks table st octetsAfter marksAfter tableAfter r
 
 -- what reading the record at octet `at` gives; no mark is touched unless the answer says so
 abbrev pub NextIs : ℕ → List ℕ → ℕ → List ℕ → List ℕ → List ℕ → Open → List ℕ → List ℕ → List ℕ → Next → Type 0
 NextIs w rec at octets marks table st octetsAfter marksAfter tableAfter (NotRead f) =
-    first (transfer_faults (of_width w) (at / size (of_width w)) rec) ≡ some f
+    first (transfer_faults (of_width w) (at / size (of_width w)) rec) ≡ Some f
 NextIs w rec at octets marks table st octetsAfter marksAfter tableAfter (Read r) =
     Sounds w rec (at / size (of_width w)) octets (mark_bits marks) table st octetsAfter (mark_bits marksAfter) tableAfter r
     × (mark_bits marksAfter ≡ mark_bits marks)
@@ -146,5 +145,5 @@ pub record Taken (w : ℕ) (transfers octets marks table : List ℕ) (n : ℕ) (
 
 -- what reading a take gives: the first fault of its records, or its stretches
 abbrev pub ParsedIs : ℕ → List ℕ → List ℕ → List ℕ → List ℕ → Parsed → Type 0
-ParsedIs w transfers octets marks table (Refused f) = first (transfer_checks (of_width w) 0 (records (of_width w) transfers)) ≡ some f
+ParsedIs w transfers octets marks table (Refused f) = first (transfer_checks (of_width w) 0 (records (of_width w) transfers)) ≡ Some f
 ParsedIs w transfers octets marks table (Stretches n plain) = Taken w transfers octets marks table n plain

@@ -1,8 +1,8 @@
 -- The full records of a stretch of data without user bits, each written at its place: the laws of the loops that write them. Assumes nothing.
+use Rattle.std.specs.Prelude.{Some}
 use mathlib.Core.Path.{◌≡◌, refl, sym, ap, ◌∙◌}
 use mathlib.Core.Bool.{Bool, false}
 use mathlib.Core.List.{List, ◌∷◌, ◌++◌, map}
-use mathlib.Core.Option.{some}
 use Prim.Native.Nat.{ℕ, suc, ◌+◌, ◌-◌, ◌*◌, ◌/◌, ◌%◌, ◌≤◌, ◌<◌}
 use native.Mathlib.Omega.{arith}
 use lib.ListN.{length, get_or, take, drop, length-drop, length-map}
@@ -46,9 +46,9 @@ any_last v pair codes last last' = long last ∙ sym (long last')
   where
     long : (b : Bool) → length (stretch_octets 0 v (pair_from pair) codes b) ≡ suc ((length codes - 1) / v) * size (of_width v)
     long b =
-        length-octets (of_width v) (spread ((length codes - 1) / v) v (pair_from pair) (map some (map kept_of codes)) b)
-        (wide-spread ((length codes - 1) / v) v (pair_from pair) (map some (map kept_of codes)) b)
-        ∙ ap (λ (n : ℕ). n * size (of_width v)) (length-spread ((length codes - 1) / v) v (pair_from pair) (map some (map kept_of codes)) b)
+        length-octets (of_width v) (spread ((length codes - 1) / v) v (pair_from pair) (map Some (map kept_of codes)) b)
+        (wide-spread ((length codes - 1) / v) v (pair_from pair) (map Some (map kept_of codes)) b)
+        ∙ ap (λ (n : ℕ). n * size (of_width v)) (length-spread ((length codes - 1) / v) v (pair_from pair) (map Some (map kept_of codes)) b)
 
 -- a stretch that has room, whether or not TLAST is at its end
 pub fitting : (v : ℕ) (pair : ℕ) (octets out : List ℕ) (c : Cursor) (last : Bool) → c.from + c.left + 32 ≤ length octets

@@ -1,8 +1,8 @@
 -- One record's octets: what the items' codes say of its lanes and masks. Assumes nothing.
+use Rattle.std.specs.Prelude.{Some}
 use mathlib.Core.Path.{◌≡◌, refl, sym, ap, ◌∙◌}
 use mathlib.Core.Bool.{Bool}
 use mathlib.Core.List.{List, [], ◌∷◌, ◌++◌, map}
-use mathlib.Core.Option.{some}
 use Prim.Native.Nat.{ℕ, zero, suc, ◌+◌, ◌-◌, ◌*◌, ◌/◌, ◌%◌, ◌^◌, ◌≤◌, ◌<◌}
 use native.Mathlib.Nat.{pow-suc, mul-one}
 use native.Mathlib.Omega.{arith}
@@ -20,27 +20,27 @@ use Rattle.repack_plain.specs.Write.{item_octet, item_strobe}
 
 -- ---- the lanes of a record: its items, then nulls
 
-items-long : (xs : List ℕ) → length (map some (map kept_of xs)) ≡ length xs
-items-long xs = length-map (map kept_of xs) some ∙ length-map xs kept_of
+items-long : (xs : List ℕ) → length (map Some (map kept_of xs)) ≡ length xs
+items-long xs = length-map (map kept_of xs) Some ∙ length-map xs kept_of
 
-items-octets : (xs : List ℕ) → map lane_octet (map some (map kept_of xs)) ≡ map item_octet xs
+items-octets : (xs : List ℕ) → map lane_octet (map Some (map kept_of xs)) ≡ map item_octet xs
 items-octets [] = refl
 items-octets (x ∷ xs) = ap {B = List ℕ} (λ l. item_octet x ∷ l) (items-octets xs)
 
-items-strobes : (xs : List ℕ) → map strb_bit (map some (map kept_of xs)) ≡ map item_strobe xs
+items-strobes : (xs : List ℕ) → map strb_bit (map Some (map kept_of xs)) ≡ map item_strobe xs
 items-strobes [] = refl
 items-strobes (x ∷ xs) = ap {B = List Bool} (λ l. item_strobe x ∷ l) (items-strobes xs)
 
 pub lanes-octets : (v : ℕ) (xs : List ℕ) → length xs ≤ v
-    → map lane_octet (fitted v (map some (map kept_of xs))) ≡ map item_octet xs ++ replicate {A = ℕ} (v - length xs) 0
-lanes-octets v xs h = fitted-octets v (map some (map kept_of xs)) (omega (arith, items-long xs)) ∙ rw (items-octets xs, items-long xs) refl
+    → map lane_octet (fitted v (map Some (map kept_of xs))) ≡ map item_octet xs ++ replicate {A = ℕ} (v - length xs) 0
+lanes-octets v xs h = fitted-octets v (map Some (map kept_of xs)) (omega (arith, items-long xs)) ∙ rw (items-octets xs, items-long xs) refl
 
 pub lanes-strb : (v : ℕ) (xs : List ℕ) → length xs ≤ v
-    → mask_of (map strb_bit (fitted v (map some (map kept_of xs)))) ≡ mask_of (map item_strobe xs)
-lanes-strb v xs h = fitted-strb v (map some (map kept_of xs)) (omega (arith, items-long xs)) ∙ ap mask_of (items-strobes xs)
+    → mask_of (map strb_bit (fitted v (map Some (map kept_of xs)))) ≡ mask_of (map item_strobe xs)
+lanes-strb v xs h = fitted-strb v (map Some (map kept_of xs)) (omega (arith, items-long xs)) ∙ ap mask_of (items-strobes xs)
 
 pub lanes_keep : (v : ℕ) (xs : List ℕ) → length xs ≤ v
-    → mask_of (map keep_bit (fitted v (map some (map kept_of xs)))) ≡ 2 ^ length xs - 1
+    → mask_of (map keep_bit (fitted v (map Some (map kept_of xs)))) ≡ 2 ^ length xs - 1
 lanes_keep v xs h =
     fitted-keep v (map kept_of xs) (omega (arith, length-map xs kept_of)) ∙ ap (λ (n : ℕ). 2 ^ n - 1) (length-map xs kept_of)
 

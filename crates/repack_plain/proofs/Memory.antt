@@ -1,7 +1,7 @@
 -- The octets of one record without user bits, as its parts are written one after the other. Assumes nothing.
+use Rattle.std.specs.Prelude.{Some}
 use mathlib.Core.Path.{◌≡◌, refl, sym, ap, ◌∙◌, subst}
 use mathlib.Core.List.{List, ◌∷◌, ◌++◌, map, append_assoc}
-use mathlib.Core.Option.{some}
 use Prim.Native.Nat.{ℕ, zero, suc, ◌+◌, ◌-◌, ◌/◌, ◌%◌, ◌^◌, ◌≤◌, ◌<◌}
 use native.Mathlib.Omega.{arith}
 use lib.ListN.{length, get_or, take, drop, replicate, length-append, length-map}
@@ -67,7 +67,7 @@ pub record_octets : (v : ℕ) (pair last : ℕ) (codes tail : List ℕ) → leng
     ≡ octets_of 0 (record_of v (pair_from pair) codes (odd last)) ++ tail
 record_octets v pair last codes tail h p l =
     let high : pair / 256 % 256 ≡ pair / 256 = omega arith in
-    rw (bare_octets (fitted v (map some (map kept_of codes))), lanes_keep v codes h, lanes-strb v codes h, lanes-octets v codes h, last_bit last l, high)
+    rw (bare_octets (fitted v (map Some (map kept_of codes))), lanes_keep v codes h, lanes-strb v codes h, lanes-octets v codes h, last_bit last l, high)
     (rw (append_assoc (map item_octet codes) (replicate {A = ℕ} (v - length codes) 0) tail) refl)
 
 -- what the three writes of a record come to

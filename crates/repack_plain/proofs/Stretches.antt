@@ -1,8 +1,8 @@
 -- A stretch, record by record, with any number m of user bits to a byte. Assumes nothing.
+use Rattle.std.specs.Prelude.{Some}
 use mathlib.Core.Path.{◌≡◌, refl, sym, ap, ◌∙◌, subst}
 use mathlib.Core.Bool.{Bool, false}
 use mathlib.Core.List.{List, [], ◌∷◌, ◌++◌, map, append_assoc, append-nil}
-use mathlib.Core.Option.{some}
 use Prim.Native.Nat.{ℕ, zero, suc, ◌+◌, ◌-◌, ◌/◌, ◌≤◌, ◌<◌}
 use native.Mathlib.Nat.{add-div_right, div-eq_of_lt}
 use native.Mathlib.Numerals.{add-one}
@@ -31,10 +31,10 @@ map-drop f zero xs = refl
 map-drop f (suc n) [] = refl
 map-drop f (suc n) (x ∷ xs) = map-drop f n xs
 
-fitted-take : (v : ℕ) (xs : List ℕ) → fitted v (map some (map kept_of xs)) ≡ fitted v (map some (map kept_of (take v xs)))
+fitted-take : (v : ℕ) (xs : List ℕ) → fitted v (map Some (map kept_of xs)) ≡ fitted v (map Some (map kept_of (take v xs)))
 fitted-take zero xs = refl
 fitted-take (suc v) [] = refl
-fitted-take (suc v) (x ∷ xs) = ap (λ l. some (kept_of x) ∷ l) (fitted-take v xs)
+fitted-take (suc v) (x ∷ xs) = ap (λ l. Some (kept_of x) ∷ l) (fitted-take v xs)
 
 -- ---- the records of a stretch
 
@@ -47,17 +47,17 @@ module _ (m v : ℕ) (pair : Pair) (codes : List ℕ) (last : Bool) (pos : 0 < v
       let count : (length codes - 1) / v ≡ suc ((length (drop v codes) - 1) / v) =
       ap (λ (n : ℕ). n / v) less ∙ add-div_right (length (drop v codes) - 1) pos ∙ add-one ((length (drop v codes) - 1) / v) in
       rw count
-      (rw (fitted-take v codes, map-drop some v (map kept_of codes), map-drop kept_of v codes) refl)
+      (rw (fitted-take v codes, map-drop Some v (map kept_of codes), map-drop kept_of v codes) refl)
 
   -- the last record
   pub last_record : length codes ≤ v → stretch_octets m v pair codes last ≡ octets_of m (record_of v pair codes last) ++ []
   last_record h =
-      let none : (length codes - 1) / v ≡ 0 = div-eq_of_lt (omega arith) in
-      rw none refl
+      let None : (length codes - 1) / v ≡ 0 = div-eq_of_lt (omega arith) in
+      rw None refl
 
 pub record_long : (m v : ℕ) (pair : Pair) (codes : List ℕ) (last : Bool) → length (octets_of m (record_of v pair codes last)) ≡ size (shaped v m)
 record_long m v pair codes last =
-    (octets_sized (shaped v m) (record_of v pair codes last ∷ []) (length-fitted v (map some (map kept_of codes)), tt)).0
+    (octets_sized (shaped v m) (record_of v pair codes last ∷ []) (length-fitted v (map Some (map kept_of codes)), tt)).0
 
 -- ---- the loop over a stretch's records
 

@@ -1,6 +1,5 @@
 -- What is written of a stretch that is held as codes, and what holds while it is written, stated by what remains.
-use Rattle.std.specs.Prelude.{◌≡◌, Bool, List, ◌++◌, map, ℕ, ◌+◌, ◌-◌, ◌/◌, ◌≤◌, ◌<◌, length, take, drop}
-use Rattle.std.proofs.Math.Option.{some}
+use Rattle.std.specs.Prelude.{◌≡◌, Bool, List, ◌++◌, map, ℕ, ◌+◌, ◌-◌, ◌/◌, ◌≤◌, ◌<◌, length, take, drop, Some}
 use Rattle.stream_spec.specs.Items.{Pair, Transfer}
 use Rattle.stream_spec.specs.Packed.{fitted, spread}
 use Rattle.stream_spec.specs.Layout.{size, shaped, odd, Kept, strb_bit, lane_octet, octets_of, octets}
@@ -13,14 +12,14 @@ use Rattle.repack_plain.specs.declared.Head.{Head}
 
 -- the data octet and the strobe of an item
 abbrev pub item_octet : ℕ → ℕ
-item_octet x = lane_octet (some (kept_of x))
+item_octet x = lane_octet (Some (kept_of x))
 
 abbrev pub item_strobe : ℕ → Bool
-item_strobe x = strb_bit (some (kept_of x))
+item_strobe x = strb_bit (Some (kept_of x))
 
 -- one record with the items of these codes from lane 0 up
 abbrev pub record_of : ℕ → Pair → List ℕ → Bool → Transfer Kept
-record_of v pair codes last = record { pair = pair; lanes = fitted v (map some (map kept_of codes)); last = last }
+record_of v pair codes last = record { pair = pair; lanes = fitted v (map Some (map kept_of codes)); last = last }
 
 -- the octets of one with n items, from item `from` on, and m user bits to a byte
 abbrev pub record_at : ℕ → ℕ → ℕ → ℕ → List ℕ → ℕ → ℕ → List ℕ
@@ -28,7 +27,7 @@ record_at m v pair last codes from n = octets_of m (record_of v (pair_from pair)
 
 -- the octets of a stretch with the items of these codes
 abbrev pub stretch_octets : ℕ → ℕ → Pair → List ℕ → Bool → List ℕ
-stretch_octets m v pair codes last = octets m (spread ((length codes - 1) / v) v pair (map some (map kept_of codes)) last)
+stretch_octets m v pair codes last = octets m (spread ((length codes - 1) / v) v pair (map Some (map kept_of codes)) last)
 
 -- of what is left of a stretch at a cursor
 abbrev pub left_octets : ℕ → ℕ → Head → List ℕ → Cursor → List ℕ

@@ -1,8 +1,8 @@
 -- What the codes of items say of a record's lanes, masks and user bits; null lanes add nothing to them. Assumes nothing.
+use Rattle.std.specs.Prelude.{Option, Some}
 use mathlib.Core.Path.{◌≡◌, refl, ap, ◌∙◌}
 use mathlib.Core.Bool.{Bool, true, false, cond}
 use mathlib.Core.List.{List, [], ◌∷◌, ◌++◌, map}
-use mathlib.Core.Option.{Option, some}
 use Prim.Native.Nat.{ℕ, zero, suc, ◌-◌, ◌*◌, ◌/◌, ◌%◌, ◌^◌, ◌≤◌, ◌<◌}
 use native.Mathlib.Nat.{pow-suc, mul-zero}
 use native.Mathlib.Omega.{arith}
@@ -17,12 +17,12 @@ use Rattle.repack_scratch.specs.Codes.{kept_of}
 
 -- ---- an item
 
-pub octet-is : (x : ℕ) → x % 256 * (x / 256 % 2) ≡ lane_octet (some (kept_of x))
+pub octet-is : (x : ℕ) → x % 256 * (x / 256 % 2) ≡ lane_octet (Some (kept_of x))
 unfolding kept_of
 octet-is x = go (eqb (x / 256 % 2) 1) refl
   where
     go : (b : Bool) → eqb (x / 256 % 2) 1 ≡ b
-        → x % 256 * (x / 256 % 2) ≡ lane_octet (some (cond (eqb (x / 256 % 2) 1) (octet (x % 256) (x / 512)) (position (x / 512))))
+        → x % 256 * (x / 256 % 2) ≡ lane_octet (Some (cond (eqb (x / 256 % 2) 1) (octet (x % 256) (x / 512)) (position (x / 512))))
     go true e = rw e (let one : x / 256 % 2 ≡ 1 = eqb-true (x / 256 % 2) 1 e in rw one (omega arith))
     go false e =
         rw e
@@ -30,21 +30,21 @@ octet-is x = go (eqb (x / 256 % 2) 1) refl
         let zero : x / 256 % 2 ≡ 0 = omega arith in
         rw zero (omega arith))
 
-pub strobe-is : (x : ℕ) → x / 256 % 2 ≡ bit_of (strb_bit (some (kept_of x)))
+pub strobe-is : (x : ℕ) → x / 256 % 2 ≡ bit_of (strb_bit (Some (kept_of x)))
 unfolding kept_of
 strobe-is x = go (eqb (x / 256 % 2) 1) refl
   where
     go : (b : Bool) → eqb (x / 256 % 2) 1 ≡ b
-        → x / 256 % 2 ≡ bit_of (strb_bit (some (cond (eqb (x / 256 % 2) 1) (octet (x % 256) (x / 512)) (position (x / 512)))))
+        → x / 256 % 2 ≡ bit_of (strb_bit (Some (cond (eqb (x / 256 % 2) 1) (octet (x % 256) (x / 512)) (position (x / 512)))))
     go true e = rw e (eqb-true (x / 256 % 2) 1 e)
     go false e = rw e (let low : x / 256 % 2 ≡ 1 → ⊥ = eqb-false (x / 256 % 2) 1 e in omega arith)
 
-pub user-is : (x : ℕ) → x / 512 ≡ lane_user (some (kept_of x))
+pub user-is : (x : ℕ) → x / 512 ≡ lane_user (Some (kept_of x))
 unfolding kept_of
 user-is x = go (eqb (x / 256 % 2) 1) refl
   where
     go : (b : Bool) → eqb (x / 256 % 2) 1 ≡ b
-        → x / 512 ≡ lane_user (some (cond (eqb (x / 256 % 2) 1) (octet (x % 256) (x / 512)) (position (x / 512))))
+        → x / 512 ≡ lane_user (Some (cond (eqb (x / 256 % 2) 1) (octet (x % 256) (x / 512)) (position (x / 512))))
     go true e = rw e refl
     go false e = rw e refl
 
@@ -93,7 +93,7 @@ fitted_users m zero (l ∷ ls) h = absurd (omega arith)
 fitted_users m (suc v) (l ∷ ls) h = rw (fitted_users m v ls (omega arith)) refl
 
 -- each item's lane is kept
-pub fitted-keep : (v : ℕ) (ks : List Kept) → length ks ≤ v → mask_of (map keep_bit (fitted v (map some ks))) ≡ 2 ^ length ks - 1
+pub fitted-keep : (v : ℕ) (ks : List Kept) → length ks ≤ v → mask_of (map keep_bit (fitted v (map Some ks))) ≡ 2 ^ length ks - 1
 fitted-keep v [] h = nulls-keep v
 fitted-keep zero (k ∷ ks) h = absurd (omega arith)
 fitted-keep (suc v) (k ∷ ks) h = rw (fitted-keep v ks (omega arith)) (omega (arith, pow-suc 2 (length ks), pow_pos (length ks)))

@@ -1,8 +1,8 @@
 -- What is known while a take of records with user bits is read, record by record: the invariant of repack_parse's Take, of items
 -- that are held as codes. Assumes nothing.
+use Rattle.std.specs.Prelude.{None, Some}
 use mathlib.Core.Path.{◌≡◌, refl}
 use mathlib.Core.List.{List}
-use mathlib.Core.Option.{none, some}
 use Prim.Native.Nat.{ℕ, ◌+◌, ◌/◌, ◌≤◌, ◌<◌}
 use lib.ListN.{length, get_or, take}
 use Rattle.refusal.specs.declared.Refusal.{Refusal}
@@ -78,13 +78,13 @@ module _ (s : Shape) (transfers items table : List ℕ) (st : Open) (at : ℕ) (
     parsing_needs = (record_long s transfers at q.reading.left more z e, reading_ready s transfers items table st at q.reading more)
 
     -- its fault is the take's
-    pub parsing_refused : (f : Refusal) → first (transfer_faults s (at / size s) (record_at transfers at z)) ≡ some f
-        → first (transfer_checks s 0 (records s transfers)) ≡ some f
+    pub parsing_refused : (f : Refusal) → first (transfer_faults s (at / size s) (record_at transfers at z)) ≡ Some f
+        → first (transfer_checks s 0 (records s transfers)) ≡ Some f
     parsing_refused f h = reading-refused s transfers items table st at q.reading more (record_at transfers at z) f is_here h
 
     -- it is read
     pub parsing_next : (items' table' : List ℕ) (st' : Open) → length items' ≡ length items
-        → (first (transfer_faults s (at / size s) (record_at transfers at z)) ≡ none) × Added s (record_at transfers at z) items table st items' table' st'
+        → (first (transfer_faults s (at / size s) (record_at transfers at z)) ≡ None) × Added s (record_at transfers at z) items table st items' table' st'
         → Parsing s transfers items' table' st' (at + z)
     parsing_next items' table' st' l n =
         rw e

@@ -1,6 +1,6 @@
 -- Codes whose user bits fit: parts of them, and what they stand for. Assumes nothing.
+use Rattle.std.specs.Prelude.{Some}
 use mathlib.Core.List.{List, [], ◌∷◌, ◌++◌, map}
-use mathlib.Core.Option.{some}
 use Prim.Native.Nat.{ℕ, zero, suc, ◌+◌, ◌≤◌}
 use native.Mathlib.Omega.{arith}
 use lib.ListN.{take, drop}
@@ -12,7 +12,7 @@ use Rattle.repack_tags.specs.Tags.{TagsFit}
 
 -- ---- bits that fit
 
-pub lanes_fit : (m : ℕ) (xs : List ℕ) → TagsFit m xs → LanesTagged m (map some (map kept_of xs))
+pub lanes_fit : (m : ℕ) (xs : List ℕ) → TagsFit m xs → LanesTagged m (map Some (map kept_of xs))
 lanes_fit m [] h = tt
 lanes_fit m (x ∷ xs) h = (bits_fit m x h.0, lanes_fit m xs h.1)
 

@@ -1,8 +1,8 @@
 -- A record's octets as its parts are written: the items from the last one down, and all parts one after the other. Assumes nothing.
+use Rattle.std.specs.Prelude.{Option, Some}
 use mathlib.Core.Path.{◌≡◌, refl, sym, ap, ◌∙◌}
 use mathlib.Core.Bool.{Bool, true, false}
 use mathlib.Core.List.{List, [], ◌∷◌, ◌++◌, map}
-use mathlib.Core.Option.{Option, some}
 use Prim.Native.Nat.{ℕ, suc, ◌+◌, ◌-◌, ◌*◌, ◌/◌, ◌%◌, ◌^◌, ◌≤◌, ◌<◌}
 use native.Mathlib.Nat.{mul_comm, mul-le-mul, mod-eq_of_lt}
 use native.Mathlib.Omega.{arith}
@@ -33,10 +33,10 @@ use Rattle.repack_tags.proofs.Lanes.{lanes_fit, fit_drop}
 
 -- what lanes with the items of these codes carry
 abbrev lanes_with : List ℕ → List (Option Kept)
-lanes_with codes = map some (map kept_of codes)
+lanes_with codes = map Some (map kept_of codes)
 
 length-lanes : (codes : List ℕ) → length (lanes_with codes) ≡ length codes
-length-lanes codes = length-map (map kept_of codes) some ∙ length-map codes kept_of
+length-lanes codes = length-map (map kept_of codes) Some ∙ length-map codes kept_of
 
 length_octs : (codes : List ℕ) → length (map lane_octet (lanes_with codes)) ≡ length codes
 length_octs codes = length-map (lanes_with codes) lane_octet ∙ length-lanes codes
@@ -76,13 +76,13 @@ module _ (m : ℕ) (items : List ℕ) (from n : ℕ) (before : List ℕ) (held :
 
   pub putting_starts : Putting m n codes before before 0 0 n
   putting_starts =
-      let none : drop n codes ≡ [] = ap (λ (k : ℕ). drop k codes) (sym long) ∙ drop-length codes in
+      let None : drop n codes ≡ [] = ap (λ (k : ℕ). drop k codes) (sym long) ∙ drop-length codes in
       record {
         low = omega arith;
         same = refl;
-        strb = rw none refl;
-        user = rw none refl;
-        is = rw none (sym (take-append-drop (head_octets + n) before));
+        strb = rw None refl;
+        user = rw None refl;
+        is = rw None (sym (take-append-drop (head_octets + n) before));
       }
 
   module _ (out : List ℕ) (t u j : ℕ) (p : Putting m n codes before out t u j) where
@@ -90,7 +90,7 @@ module _ (m : ℕ) (items : List ℕ) (from n : ℕ) (before : List ℕ) (held :
     strb-small few = omega (arith, p.strb, strobes-small (drop j codes) (omega (arith, long, length-drop j codes)))
 
     -- the next item down, x
-    module _ (some : 0 < j) where
+    module _ (Some : 0 < j) where
       abbrev i : ℕ
       i = j - 1
 

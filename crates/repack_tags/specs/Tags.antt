@@ -1,6 +1,5 @@
 -- Items with user bits: what is gathered of one record's lanes, and what is written of one record.
-use Rattle.std.specs.Prelude.{List, [], ◌∷◌, map, ℕ, ◌+◌, ◌/◌, ◌^◌, ◌≤◌, ◌<◌, length, take, drop}
-use Rattle.std.proofs.Math.Option.{Option, some}
+use Rattle.std.specs.Prelude.{List, [], ◌∷◌, map, ℕ, ◌+◌, ◌/◌, ◌^◌, ◌≤◌, ◌<◌, length, take, drop, Option, Some}
 use Rattle.stream_spec.specs.Layout.{mask_of, Kept, strb_bit, users_of}
 use Rattle.repack_scratch.specs.Codes.{kept_of, tagged}
 use Rattle.repack_scratch.specs.Stands.{Gathered}
@@ -22,7 +21,7 @@ TagsFit m (x ∷ xs) = (x / 0x200 < 2 ^ m) × TagsFit m xs
 
 -- what n lanes carry: the items of these codes, from item `from` on
 abbrev pub item_lanes : List ℕ → ℕ → ℕ → List (Option Kept)
-item_lanes codes from n = map some (map kept_of (take n (drop from codes)))
+item_lanes codes from n = map Some (map kept_of (take n (drop from codes)))
 
 -- TSTRB and the user bits of lanes
 abbrev pub tags_of : ℕ → List (Option Kept) → Tags

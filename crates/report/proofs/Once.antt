@@ -1,8 +1,8 @@
 -- What the program asks before it prints leaves one text, that of the verdict; and what it asks before it saves is a clean
 -- report's result. A field that says nothing breaks one of these proofs. Assumes nothing.
+use Rattle.std.specs.Prelude.{Option}
 use mathlib.Core.Bool.{true}
 use mathlib.Core.List.{List}
-use mathlib.Core.Option.{Option}
 use mathlib.Core.Path.{◌≡◌, refl, sym, ap, ◌∙◌}
 use Prim.Native.Nat.{ℕ}
 use Rattle.report_spec.specs.declared.Summary.{Summary}

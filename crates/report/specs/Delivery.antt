@@ -1,7 +1,6 @@
 -- What the program hands on: what it knows of a file, the report that a summary and its buffers are of, and what may be saved
 -- and printed. Words in quotes are paper 01's.
-use Rattle.std.specs.Prelude.{◌≡◌, true, List, ℕ, take}
-use Rattle.std.proofs.Math.Option.{Option}
+use Rattle.std.specs.Prelude.{◌≡◌, true, List, ℕ, take, Option}
 use Rattle.report.specs.Counts.{IsPrefixLen}
 use Rattle.report_spec.specs.declared.Summary.{Summary}
 use Rattle.report_spec.specs.Report.{contents, Whole, report_of}

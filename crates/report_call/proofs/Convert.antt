@@ -1,7 +1,7 @@
 -- Converting the harvested transfers: what the call of either mode leaves, and the two ways that the code ends. Assumes nothing.
+use Rattle.std.specs.Prelude.{Option, None, Some}
 use mathlib.Core.Path.{◌≡◌, refl, sym, ap, ap₂, ◌∙◌, subst}
 use mathlib.Core.List.{List}
-use mathlib.Core.Option.{Option, none, some}
 use Prim.Native.Nat.{ℕ, ◌*◌, ◌≤◌}
 use native.Mathlib.Omega.{arith}
 use lib.ListN.{length}
@@ -60,7 +60,7 @@ module _ (u : Setup) (count : ℕ) (ts out after : List ℕ) (w : Written) (t : 
       → Came (converted_transfers u ts (length out) count) out after f
   room-short r e f a b =
       let found = not_written refusal (convert_count u.mode s v ts) r (sym e ∙ said) in
-      came f (NotWritten r) e (record { is = a; result_length = b; leaves = left (some r) found })
+      came f (NotWritten r) e (record { is = a; result_length = b; leaves = left (Some r) found })
 
   module _ (n : ℕ) (e : w ≡ Records n) where
     wrote : IsWritten refusal n (convert_count u.mode s v ts)
@@ -81,7 +81,7 @@ module _ (u : Setup) (count : ℕ) (ts out after : List ℕ) (w : Written) (t : 
           (record {
             is = ap (λ (x : ℕ). Clean (tally count x n)) (h ∙ ap (λ (x : Shape). packet_count x ts) same);
             result_length = long-is;
-            leaves = left none wrote.accepted;
+            leaves = left None wrote.accepted;
           })
 
 -- ---- the call of each mode

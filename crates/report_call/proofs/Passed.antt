@@ -1,7 +1,7 @@
 -- The numbers of a sheet: their tests in code, the shapes first and then the ratio. Assumes nothing.
+use Rattle.std.specs.Prelude.{Option, None, Some}
 use mathlib.Core.Path.{◌≡◌, refl, sym, ap, ◌∙◌}
 use mathlib.Core.List.{[], ◌∷◌}
-use mathlib.Core.Option.{Option, none, some}
 use Prim.Native.Nat.{◌%◌, ◌<◌}
 use borrow.Author.Tests.{eq-eqb, ne_eqb}
 use Rattle.refusal.specs.declared.Refusal.{Refusal}
@@ -38,10 +38,10 @@ module _ (u : Setup) where
   by_mode m e o h = h ∙ sym (ap (λ (k : Mode). first (ratio_checks k (shape_of u) u.width_out)) e)
 
   pub pack_passes : u.mode ≡ Pack → checked_of Passed ≡ first (ratio_checks u.mode (shape_of u) u.width_out)
-  pack_passes e = by_mode Pack e none refl
+  pack_passes e = by_mode Pack e None refl
 
   pub bad-ratio : u.mode ≡ Lanes → (u.width_in % u.width_out ≡ 0 → ⊥) → checked_of (Refused Ratio) ≡ first (ratio_checks u.mode (shape_of u) u.width_out)
-  bad-ratio e h = by_mode Lanes e (some Ratio) (rw (ne_eqb (u.width_in % u.width_out) 0 h) refl)
+  bad-ratio e h = by_mode Lanes e (Some Ratio) (rw (ne_eqb (u.width_in % u.width_out) 0 h) refl)
 
   pub lanes_pass : u.mode ≡ Lanes → u.width_in % u.width_out ≡ 0 → checked_of Passed ≡ first (ratio_checks u.mode (shape_of u) u.width_out)
-  lanes_pass e h = by_mode Lanes e none (rw (eq-eqb (u.width_in % u.width_out) 0 h) refl)
+  lanes_pass e h = by_mode Lanes e None (rw (eq-eqb (u.width_in % u.width_out) 0 h) refl)

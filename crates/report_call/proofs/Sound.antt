@@ -1,7 +1,7 @@
 -- A clean take: harvesting it into an array as long as a take leaves its transfers in front. Assumes nothing.
+use Rattle.std.specs.Prelude.{Option, None}
 use mathlib.Core.Path.{◌≡◌, sym, ap, ap₂, ◌∙◌, subst}
 use mathlib.Core.List.{List}
-use mathlib.Core.Option.{Option, none}
 use Prim.Native.Nat.{ℕ, ◌*◌, ◌%◌, ◌≤◌}
 use native.Mathlib.Nat.{mul-mod_left}
 use native.Mathlib.Omega.{arith}
@@ -43,7 +43,7 @@ module _ (s : Shape) (xs : List ℕ) (n : ℕ) (clean : judge_answer s xs ≡ Cl
     whole = ap (λ (k : ℕ). k % size s) (harvested-long s xs) ∙ mul-mod_left (transfer_count s xs) (size s)
 
     module _ (before after : List ℕ) (room : length before ≡ capture_most) (r : Written) (h : Harvested t xs before after r) where
-      accepted : harvest_refusal s xs (length before) ≡ none
+      accepted : harvest_refusal s xs (length before) ≡ None
       accepted = clean-harvested s xs n clean (length before) (omega (arith, few, room))
 
       left : after ≡ in_front (harvested s xs) before

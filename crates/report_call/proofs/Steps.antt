@@ -1,8 +1,8 @@
 -- The steps of the report, from the cycles up to the sheet: a law for each way that the code ends. Assumes nothing.
+use Rattle.std.specs.Prelude.{Option, None, Some}
 use mathlib.Core.Path.{◌≡◌, refl, sym, ap, ◌∙◌, subst}
 use mathlib.Core.Bool.{Bool, true, false, cond}
 use mathlib.Core.List.{List, [], ◌∷◌, ◌++◌}
-use mathlib.Core.Option.{Option, none, some}
 use Prim.Native.Nat.{ℕ, ◌≤◌}
 use native.Mathlib.Omega.{arith}
 use lib.ListN.{length, take, drop, length-append}
@@ -99,7 +99,7 @@ module _ (u : Setup) (capture zeros cycles : List ℕ) (n : ℕ) (p : Put 0 capt
 
 -- ---- of_setup
 
-found_alone : (b : Bool) (q r : Refusal) → cond b (some q) none ≡ some r → (b ≡ true) × (q ≡ r)
+found_alone : (b : Bool) (q r : Refusal) → cond b (Some q) None ≡ Some r → (b ≡ true) × (q ≡ r)
 found_alone true q r e = (refl, cc)
 found_alone false q r e = let z : ◌≡◌ {A = ℕ} 0 1 = cc in absurd (omega arith)
 
@@ -152,7 +152,7 @@ module _ (u : Setup) (out : List ℕ) (x : Checked) (e : checked_of x ≡ first 
           → Came (setup_outcome u (contents read capture) (length out)) out out f
       setup_unread h f a b =
           subst (λ (b : Bool). Came (setup_outcome u (contents b capture) (length out)) out out f) (sym h)
-          (setup_passed none out f (came_refused Length out f a b))
+          (setup_passed None out f (came_refused Length out f a b))
 
       pub setup_ill : read ≡ true → (r : Refusal) → ((length_check (shape_of u) capture).found ≡ true) × (Length ≡ r)
           → (f : Ending) → f.verdict ≡ Refused r → f.octets ≡ 0 → Came (setup_outcome u (contents read capture) (length out)) out out f
@@ -164,13 +164,13 @@ module _ (u : Setup) (out : List ℕ) (x : Checked) (e : checked_of x ≡ first 
           let no : judge_answer (shape_of u) (cycles_of u capture) ≡ NotJudged Length =
           ap (judge_answer (shape_of u)) (ill_filled (shape_of u) capture w m l u.tlast) ∙ ill_after_judging (shape_of u) capture w m l in
           subst (λ (b : Bool). Came (setup_outcome u (contents b capture) (length out)) out out f) (sym h)
-          (setup_passed (some capture) out f
+          (setup_passed (Some capture) out f
           (subst (λ (j : Judgement). Came (after_judging j (converted_transfers u (transfers_of u capture) (length out))) out out f) (sym no) (came_refused Length out f told b)))
 
-      pub setup_read : read ≡ true → (out' : List ℕ) (f : Ending) → Came (capture_outcome u (some capture) (length out)) out out' f
+      pub setup_read : read ≡ true → (out' : List ℕ) (f : Ending) → Came (capture_outcome u (Some capture) (length out)) out out' f
           → Came (setup_outcome u (contents read capture) (length out)) out out' f
       setup_read h out' f c =
-          subst (λ (b : Bool). Came (setup_outcome u (contents b capture) (length out)) out out' f) (sym h) (setup_passed (some capture) out' f c)
+          subst (λ (b : Bool). Came (setup_outcome u (contents b capture) (length out)) out out' f) (sym h) (setup_passed (Some capture) out' f c)
 
 -- ---- of_sheet
 

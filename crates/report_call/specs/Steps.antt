@@ -1,7 +1,6 @@
 -- What the steps of the report's code answer (src/outcome, src/lines), each by a definition of report_spec's Report. Nothing here
 -- is read by a user of the report.
-use Rattle.std.specs.Prelude.{◌≡◌, Bool, List, ◌++◌, ℕ, ◌≤◌, length}
-use Rattle.std.proofs.Math.Option.{some}
+use Rattle.std.specs.Prelude.{◌≡◌, Bool, List, ◌++◌, ℕ, ◌≤◌, length, Some}
 use Rattle.stream_spec.specs.declared.Shape.{Shape}
 use Rattle.stream_spec.specs.declared.Written.{Written}
 use Rattle.stream_spec.specs.Memory.{in_front}
@@ -30,7 +29,7 @@ abbrev pub OfSetup : Setup → Bool → List ℕ → List ℕ → List ℕ → E
 OfSetup u captureRead capture before after f = Came (setup_outcome u (contents captureRead capture) (length before)) before after f
 
 abbrev pub OfCapture : Setup → List ℕ → List ℕ → List ℕ → Ending → Type 0
-OfCapture u capture before after f = Came (capture_outcome u (some capture) (length before)) before after f
+OfCapture u capture before after f = Came (capture_outcome u (Some capture) (length before)) before after f
 
 abbrev pub OfCycles : Setup → List ℕ → List ℕ → List ℕ → Ending → Type 0
 OfCycles u cycles before after f =

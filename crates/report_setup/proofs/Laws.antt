@@ -1,8 +1,8 @@
 -- The grammar, as the code walks it: the first line by the place of its LF, a key octet by octet, what each reader's answer makes
 -- of a line, and one line after the other. Which of its words a line holds is in Words. Assumes nothing.
+use Rattle.std.specs.Prelude.{Option, None, Some}
 use mathlib.Core.Bool.{Bool, true, false, cond}
 use mathlib.Core.List.{List, [], ◌∷◌}
-use mathlib.Core.Option.{Option, none, some}
 use mathlib.Core.Path.{◌≡◌, refl, sym, ap, ap₂, ◌∙◌, subst}
 use Prim.Native.Nat.{ℕ, zero, suc, ◌+◌, ◌-◌, ◌/◌, ◌%◌, ◌≤◌, ◌<◌}
 use native.Mathlib.Nat.{le_of_suc-le-suc, zero-add, suc-add}
@@ -36,13 +36,13 @@ tail_none : (x : ℕ) (xs : List ℕ) (n : ℕ) → NoneBefore (x ∷ xs) (suc n
 tail_none x xs n h k l e = h (suc k) (omega arith) e
 
 pub line-ended : (xs : List ℕ) (n : ℕ) → n < length xs → NoneBefore xs n → get_or xs n 0 ≡ 10
-    → first_line xs ≡ some (line (take n xs) (drop (suc n) xs))
+    → first_line xs ≡ Some (line (take n xs) (drop (suc n) xs))
 line-ended [] n l h e = absurd (omega arith)
 line-ended (x ∷ xs) zero l h e = rw (eq-eqb x 10 e)
 line-ended (x ∷ xs) (suc n) l h e =
     rw (ne_eqb x 10 (h 0 (omega arith)), line-ended xs n (le_of_suc-le-suc l) (tail_none x xs n h) e)
 
-pub line-unended : (xs : List ℕ) → NoneBefore xs (length xs) → first_line xs ≡ none
+pub line-unended : (xs : List ℕ) → NoneBefore xs (length xs) → first_line xs ≡ None
 line-unended [] h = refl
 line-unended (x ∷ xs) h = rw (ne_eqb x 10 (h 0 (omega arith)), line-unended xs (tail_none x xs (length xs) h))
 
@@ -50,7 +50,7 @@ pub found-end : (xs : List ℕ) (n : ℕ) → n < length xs → NoneBefore xs n 
 found-end xs n l h e =
     record {
       within = omega arith;
-      ended = λ k. line-ended xs n l h e ∙ ap (λ (m : ℕ). some (line (take n xs) (drop m xs))) (sym (add-one n));
+      ended = λ k. line-ended xs n l h e ∙ ap (λ (m : ℕ). Some (line (take n xs) (drop m xs))) (sym (add-one n));
       unended = λ k. absurd (omega arith);
     }
 
@@ -62,13 +62,13 @@ unended-end xs n l m h =
 -- ---- a word in front of a text
 
 abbrev either : Bool → Option (List ℕ) → Option (List ℕ)
-either b o = cond b o none
+either b o = cond b o None
 
-either_none : (b : Bool) (o : Option (List ℕ)) → o ≡ none → either b o ≡ none
+either_none : (b : Bool) (o : Option (List ℕ)) → o ≡ None → either b o ≡ None
 either_none true o e = e
 either_none false o e = refl
 
-after-short : (word xs : List ℕ) → length xs < length word → after word xs ≡ none
+after-short : (word xs : List ℕ) → length xs < length word → after word xs ≡ None
 after-short [] xs l = absurd (omega arith)
 after-short (w ∷ word) [] l = refl
 after-short (w ∷ word) (x ∷ xs) l = either_none (eqb w x) (after word xs) (after-short word xs (le_of_suc-le-suc l))
@@ -87,7 +87,7 @@ module _ (word xs : List ℕ) (i : ℕ) (l : i < length word) (m : length word �
   at-text : drop i xs ≡ get_or xs i 0 ∷ drop (suc i) xs
   at-text = drop-cons xs i 0 (omega arith)
 
-  step : cond (eqb (get_or word i 0) (get_or xs i 0)) (after (drop (suc i) word) (drop (suc i) xs)) none ≡ after word xs
+  step : cond (eqb (get_or word i 0) (get_or xs i 0)) (after (drop (suc i) word) (drop (suc i) xs)) None ≡ after word xs
   step = sym (ap (λ (ys : List ℕ). after ys (get_or xs i 0 ∷ drop (suc i) xs)) at-word) ∙ sym (ap (λ (ys : List ℕ). after (drop i word) ys) at-text) ∙ h
 
   pub left_more : get_or word i 0 ≡ get_or xs i 0 → Left word xs (i + 1)
@@ -99,20 +99,20 @@ module _ (word xs : List ℕ) (i : ℕ) (l : i < length word) (m : length word �
 pub left-none : (word xs : List ℕ) (i : ℕ) → length word ≤ length xs → i ≤ length word → length word ≤ i → Left word xs i → Begins word xs true
 left-none word xs i m l k h =
     let e : i ≡ length word = omega arith in
-    yes m (sym h ∙ ap (λ (ys : List ℕ). after ys (drop i xs)) (drop_of_length-le word k) ∙ ap (λ (n : ℕ). some (drop n xs)) e)
+    yes m (sym h ∙ ap (λ (ys : List ℕ). after ys (drop i xs)) (drop_of_length-le word k) ∙ ap (λ (n : ℕ). Some (drop n xs)) e)
 
 -- ---- a word that is a whole value
 
-nothing_left_lem : (xs : List ℕ) (n : ℕ) → length xs ≡ n → nothing_left (some (drop n xs)) ≡ true
+nothing_left_lem : (xs : List ℕ) (n : ℕ) → length xs ≡ n → nothing_left (Some (drop n xs)) ≡ true
 nothing_left_lem xs n e =
     let l : length xs ≤ n = omega arith in
     let gone : drop n xs ≡ [] = drop_of_length-le xs l in
     rw gone
 
-something_left : (xs : List ℕ) (n : ℕ) → n < length xs → nothing_left (some (drop n xs)) ≡ false
+something_left : (xs : List ℕ) (n : ℕ) → n < length xs → nothing_left (Some (drop n xs)) ≡ false
 something_left xs n l = rw (drop-cons xs n 0 l)
 
-module _ (spelt value : List ℕ) (l : length spelt ≤ length value) (f : after spelt value ≡ some (drop (length spelt) value)) where
+module _ (spelt value : List ℕ) (l : length spelt ≤ length value) (f : after spelt value ≡ Some (drop (length spelt) value)) where
   same_length : (b : Bool) → eqb (length value) (length spelt) ≡ b → b ≡ is_word spelt value
   same_length true e = sym (ap nothing_left f ∙ nothing_left_lem value (length spelt) (eqb-true (length value) (length spelt) e))
   same_length false e =
@@ -141,13 +141,13 @@ drop-take (suc k) m [] = ap (drop (suc k)) (take-nil (suc k + m)) ∙ sym (take-
 drop-take (suc k) m (y ∷ ys) = ap (λ (n : ℕ). drop (suc k) (take n (y ∷ ys))) (suc-add k m) ∙ drop-take k m ys
 
 module _ (key ys : List ℕ) where
-  entry-unended : first_line ys ≡ none → entry key ys ≡ none
+  entry-unended : first_line ys ≡ None → entry key ys ≡ None
   entry-unended e = rw e
 
-  entry-differs : (v r : List ℕ) → first_line ys ≡ some (line v r) → after key v ≡ none → entry key ys ≡ none
+  entry-differs : (v r : List ℕ) → first_line ys ≡ Some (line v r) → after key v ≡ None → entry key ys ≡ None
   entry-differs v r e f = rw (e, f)
 
-  entry_found : (v r w : List ℕ) → first_line ys ≡ some (line v r) → after key v ≡ some w → entry key ys ≡ some (line w r)
+  entry_found : (v r w : List ℕ) → first_line ys ≡ Some (line v r) → after key v ≡ Some w → entry key ys ≡ Some (line w r)
   entry_found v r w e f = rw (e, f)
 
 module _ (key xs : List ℕ) (from : ℕ) (l : from ≤ length xs) (n : ℕ) (h : LineEnd (take (length xs - from) (drop from xs)) n) where
@@ -161,7 +161,7 @@ module _ (key xs : List ℕ) (from : ℕ) (l : from ≤ length xs) (n : ℕ) (h 
   rest-length = ap length rest-is ∙ length-drop from xs
 
   pub no_line : n ≡ length rest → EndSays key xs from Missing
-  no_line e = no_end (subst (λ (ys : List ℕ). entry key ys ≡ none) rest-is (entry-unended key rest (h.unended e)))
+  no_line e = no_end (subst (λ (ys : List ℕ). entry key ys ≡ None) rest-is (entry-unended key rest (h.unended e)))
 
   module _ (m : n ≡ length rest → ⊥) where
     inside : n < length rest
@@ -173,7 +173,7 @@ module _ (key xs : List ℕ) (from : ℕ) (l : from ≤ length xs) (n : ℕ) (h 
     other-start : Begins key (take n rest) false → EndSays key xs from Missing
     other-start (no f) =
         no_end
-        (subst (λ (ys : List ℕ). entry key ys ≡ none) rest-is
+        (subst (λ (ys : List ℕ). entry key ys ≡ None) rest-is
         (entry-differs key rest (take n rest) (drop (n + 1) rest) (h.ended inside) f))
 
     pub other_key : {b : Bool} → b ≡ false → Begins key (take n rest) b → EndSays key xs from Missing
@@ -201,9 +201,9 @@ module _ (key xs : List ℕ) (from : ℕ) (l : from ≤ length xs) (n : ℕ) (h 
           fits = omega arith;
           inside = omega (arith, inside, rest-length);
           is =
-              subst (λ (ys : List ℕ). entry key ys ≡ some (line (take (from + n - (from + length key)) (drop (from + length key) xs)) (drop (from + n + 1) xs))) rest-is
+              subst (λ (ys : List ℕ). entry key ys ≡ Some (line (take (from + n - (from + length key)) (drop (from + length key) xs)) (drop (from + n + 1) xs))) rest-is
               (entry_found key rest (take n rest) (drop (n + 1) rest) (drop (length key) (take n rest)) (h.ended inside) f
-              ∙ ap₂ (λ (v r : List ℕ). some (line v r)) (value k) next);
+              ∙ ap₂ (λ (v r : List ℕ). Some (line v r)) (value k) next);
         })
 
     pub line-found : {b : Bool} → b ≡ true → Begins key (take n rest) b → EndSays key xs from (Is (from + n))
@@ -211,20 +211,20 @@ module _ (key xs : List ℕ) (from : ℕ) (l : from ≤ length xs) (n : ℕ) (h 
 
 -- ---- a number, or none
 
-pub told_is : (o : Option ℕ) {n : ℕ} → Is n ≡ told o → o ≡ some n
-told_is none e = let z : ◌≡◌ {A = ℕ} 0 1 = cc in absurd (omega arith)
-told_is (some m) e = cc
+pub told_is : (o : Option ℕ) {n : ℕ} → Is n ≡ told o → o ≡ Some n
+told_is None e = let z : ◌≡◌ {A = ℕ} 0 1 = cc in absurd (omega arith)
+told_is (Some m) e = cc
 
-pub told_missing : (o : Option ℕ) → Missing ≡ told o → o ≡ none
-told_missing none e = refl
-told_missing (some m) e = let z : ◌≡◌ {A = ℕ} 0 1 = cc in absurd (omega arith)
+pub told_missing : (o : Option ℕ) → Missing ≡ told o → o ≡ None
+told_missing None e = refl
+told_missing (Some m) e = let z : ◌≡◌ {A = ℕ} 0 1 = cc in absurd (omega arith)
 
 -- ---- what a reader makes of the line at a place: `at` is what `value_end` answered
 
 end_of : {key xs : List ℕ} {from n : ℕ} → EndSays key xs from (Is n) → Ended key xs from n
 end_of (ends h) = h
 
-missing_of : {key xs : List ℕ} {from : ℕ} → EndSays key xs from Missing → entry key (drop from xs) ≡ none
+missing_of : {key xs : List ℕ} {from : ℕ} → EndSays key xs from Missing → entry key (drop from xs) ≡ None
 missing_of (no_end h) = h
 
 pub has_end : {key xs : List ℕ} {from : ℕ} {at : Value} {n : ℕ} → at ≡ Is n → EndSays key xs from at → Ended key xs from n
@@ -273,8 +273,8 @@ other_length (x ∷ y ∷ z ∷ v) e f = refl
 -- ---- one digit: a number up to 9
 
 abbrev up_to9 : Option ℕ → Option ℕ
-up_to9 none = none
-up_to9 (some n) = cond (leb n 9) (some n) none
+up_to9 None = None
+up_to9 (Some n) = cond (leb n 9) (Some n) None
 
 two_over_9 : (x y n : ℕ) → x ∷ y ∷ [] ≡ numeral n → 9 < n
 two_over_9 x y n e = go (ltb n 10) refl e
@@ -288,54 +288,54 @@ digit-is [] = refl
 digit-is (x ∷ []) = go (digit (x ∷ [])) refl
   where
     go : (o : Option ℕ) → digit (x ∷ []) ≡ o → o ≡ up_to9 o
-    go none p = refl
-    go (some n) p = rw (le-leb n 9 (digits_exactly.only (x ∷ []) n p).0)
+    go None p = refl
+    go (Some n) p = rw (le-leb n 9 (digits_exactly.only (x ∷ []) n p).0)
 digit-is (x ∷ y ∷ []) = go (number (x ∷ y ∷ [])) refl
   where
-    go : (o : Option ℕ) → number (x ∷ y ∷ []) ≡ o → none ≡ up_to9 o
-    go none p = refl
-    go (some n) p = rw (lt-leb n 9 (two_over_9 x y n (numbers_exactly.only (x ∷ y ∷ []) n p).1))
+    go : (o : Option ℕ) → number (x ∷ y ∷ []) ≡ o → None ≡ up_to9 o
+    go None p = refl
+    go (Some n) p = rw (lt-leb n 9 (two_over_9 x y n (numbers_exactly.only (x ∷ y ∷ []) n p).1))
 digit-is (x ∷ y ∷ z ∷ v) = refl
 
 abbrev line_up_to9 : Option (Held ℕ) → Option (Held ℕ)
-line_up_to9 none = none
-line_up_to9 (some l) = cond (leb l.value 9) (some l) none
+line_up_to9 None = None
+line_up_to9 (Some l) = cond (leb l.value 9) (Some l) None
 
 digit-line-is : (key ys : List ℕ) → line_of key digit ys ≡ line_up_to9 (line_of key number ys)
 digit-line-is key ys = at_entry (entry key ys)
   where
-    at_value : (o : Option ℕ) (r : List ℕ) → on (up_to9 o) (λ (n : ℕ). some (line n r)) ≡ line_up_to9 (on o (λ (n : ℕ). some (line n r)))
-    at_value none r = refl
-    at_value (some n) r = at_test (leb n 9)
+    at_value : (o : Option ℕ) (r : List ℕ) → on (up_to9 o) (λ (n : ℕ). Some (line n r)) ≡ line_up_to9 (on o (λ (n : ℕ). Some (line n r)))
+    at_value None r = refl
+    at_value (Some n) r = at_test (leb n 9)
       where
-        at_test : (b : Bool) → on (cond b (some n) none) (λ (m : ℕ). some (line m r)) ≡ cond b (some (line n r)) none
+        at_test : (b : Bool) → on (cond b (Some n) None) (λ (m : ℕ). Some (line m r)) ≡ cond b (Some (line n r)) None
         at_test true = refl
         at_test false = refl
 
     at_entry : (o : Option (Held (List ℕ)))
-        → on o (λ (l : Held (List ℕ)). on (digit l.value) (λ (n : ℕ). some (line n l.rest)))
-        ≡ line_up_to9 (on o (λ (l : Held (List ℕ)). on (number l.value) (λ (n : ℕ). some (line n l.rest))))
-    at_entry none = refl
-    at_entry (some l) = rw (digit-is l.value) (at_value (number l.value) l.rest)
+        → on o (λ (l : Held (List ℕ)). on (digit l.value) (λ (n : ℕ). Some (line n l.rest)))
+        ≡ line_up_to9 (on o (λ (l : Held (List ℕ)). on (number l.value) (λ (n : ℕ). Some (line n l.rest))))
+    at_entry None = refl
+    at_entry (Some l) = rw (digit-is l.value) (at_value (number l.value) l.rest)
 
 -- ---- the sheet, line by line
 
 reads_of : {found : Option (Held ℕ)} {xs : List ℕ} {v n : ℕ} → LineSays found xs (Line-as-Read v n) → Reads found xs v n
 reads_of (line_read h) = h
 
-refused_of : {found : Option (Held ℕ)} {xs : List ℕ} → LineSays found xs Line-as-Refused → found ≡ none
+refused_of : {found : Option (Held ℕ)} {xs : List ℕ} → LineSays found xs Line-as-Refused → found ≡ None
 refused_of (line_refused h) = h
 
 module _ {found : Option (Held ℕ)} {xs : List ℕ} {l : Line} where
   pub read : {v n : ℕ} → l ≡ Line-as-Read v n → LineSays found xs l → Reads found xs v n
   read p h = reads_of (subst (LineSays found xs) p h)
 
-  pub refused : l ≡ Line-as-Refused → LineSays found xs l → found ≡ none
+  pub refused : l ≡ Line-as-Refused → LineSays found xs l → found ≡ None
   refused p h = refused_of (subst (LineSays found xs) p h)
 
 -- what `number_line` answered of a line with one digit
 module _ (key ys xs : List ℕ) where
-  pub digit-refused : line_of key number ys ≡ none → LineSays (line_of key digit ys) xs Line-as-Refused
+  pub digit-refused : line_of key number ys ≡ None → LineSays (line_of key digit ys) xs Line-as-Refused
   digit-refused e = line_refused (digit-line-is key ys ∙ ap line_up_to9 e)
 
   module _ (v n : ℕ) (h : Reads (line_of key number ys) xs v n) where
@@ -346,27 +346,27 @@ module _ (key ys xs : List ℕ) where
     digit-read l =
         line_read {v = v} {n = n} (record { within = h.within; is = digit-line-is key ys ∙ ap line_up_to9 h.is ∙ rw (le-leb v 9 l) })
 
-pub first-refused : (xs : List ℕ) → line_of (text "width_in=") number xs ≡ none → Refused ≡ sheet_of xs
+pub first-refused : (xs : List ℕ) → line_of (text "width_in=") number xs ≡ None → Refused ≡ sheet_of xs
 unfolding sheet_of
 first-refused xs e = rw e
 
 module _ {xs : List ℕ} {a second : ℕ} (p : Reads (line_of (text "width_in=") number xs) xs a second) where
-  pub second-refused : line_of (text "width_out=") number (drop second xs) ≡ none → Refused ≡ sheet_of xs
+  pub second-refused : line_of (text "width_out=") number (drop second xs) ≡ None → Refused ≡ sheet_of xs
   unfolding sheet_of
   second-refused e = rw (p.is, e)
 
   module _ {b third : ℕ} (q : Reads (line_of (text "width_out=") number (drop second xs)) xs b third) where
-    pub third_refused : line_of (text "mode=") (one_of modes) (drop third xs) ≡ none → Refused ≡ sheet_of xs
+    pub third_refused : line_of (text "mode=") (one_of modes) (drop third xs) ≡ None → Refused ≡ sheet_of xs
     unfolding sheet_of
     third_refused e = rw (p.is, q.is, e)
 
     module _ {m : Mode} {fourth : ℕ} (r : Reads (line_of (text "mode=") (one_of modes) (drop third xs)) xs m fourth) where
-      pub fourth_refused : line_of (text "tlast=") (one_of tlasts) (drop fourth xs) ≡ none → Refused ≡ sheet_of xs
+      pub fourth_refused : line_of (text "tlast=") (one_of tlasts) (drop fourth xs) ≡ None → Refused ≡ sheet_of xs
       unfolding sheet_of
       fourth_refused e = rw (p.is, q.is, r.is, e)
 
       module _ {t : Tlast} {fifth : ℕ} (s : Reads (line_of (text "tlast=") (one_of tlasts) (drop fourth xs)) xs t fifth) where
-        pub fifth_refused : line_of (text "user=") digit (drop fifth xs) ≡ none → Refused ≡ sheet_of xs
+        pub fifth_refused : line_of (text "user=") digit (drop fifth xs) ≡ None → Refused ≡ sheet_of xs
         unfolding sheet_of
         fifth_refused e = rw (p.is, q.is, r.is, s.is, e)
 

@@ -1,8 +1,8 @@
 -- The words of a line, as the code has them: one text, in which a LF ends each. Which word a value is, by the words that are
 -- left; and what the word at that place means is what the grammar reads. Assumes nothing.
+use Rattle.std.specs.Prelude.{Option, None, Some}
 use mathlib.Core.Bool.{Bool, true, false, cond}
 use mathlib.Core.List.{List, [], ◌∷◌, map}
-use mathlib.Core.Option.{Option, none, some}
 use mathlib.Core.Path.{◌≡◌, refl, sym, ap, ap₂, ◌∙◌, subst}
 use Prim.Native.Nat.{ℕ, zero, suc, ◌+◌, ◌-◌, ◌≤◌, ◌<◌}
 use native.Mathlib.Nat.{zero-add}
@@ -19,29 +19,29 @@ use Rattle.report_setup.specs.Reading.{told, LineEnd, Reads, longer, words_of, s
 -- ---- the words of a line
 
 -- the first line is the first word
-words_first : (xs : List ℕ) (l : Held (List ℕ)) → first_line xs ≡ some l → words_of xs ≡ l.value ∷ words_of l.rest
+words_first : (xs : List ℕ) (l : Held (List ℕ)) → first_line xs ≡ Some l → words_of xs ≡ l.value ∷ words_of l.rest
 words_first [] l e = let z : ◌≡◌ {A = ℕ} 0 1 = cc in absurd (omega arith)
 words_first (x ∷ xs) l e = go (eqb x 10) (first_line xs) (λ m p. words_first xs m p) e
   where
-    go : (b : Bool) (o : Option (Held (List ℕ))) → ((m : Held (List ℕ)) → o ≡ some m → words_of xs ≡ m.value ∷ words_of m.rest)
-        → cond b (some (line [] xs)) (on o (λ (m : Held (List ℕ)). some (longerLine x m))) ≡ some l
+    go : (b : Bool) (o : Option (Held (List ℕ))) → ((m : Held (List ℕ)) → o ≡ Some m → words_of xs ≡ m.value ∷ words_of m.rest)
+        → cond b (Some (line [] xs)) (on o (λ (m : Held (List ℕ)). Some (longerLine x m))) ≡ Some l
         → cond b ([] ∷ words_of xs) (longer x (words_of xs)) ≡ l.value ∷ words_of l.rest
     go true o h p = let same : line [] xs ≡ l = cc in ap (λ (m : Held (List ℕ)). m.value ∷ words_of m.rest) same
-    go false none h p = let z : ◌≡◌ {A = ℕ} 0 1 = cc in absurd (omega arith)
-    go false (some m) h p =
+    go false None h p = let z : ◌≡◌ {A = ℕ} 0 1 = cc in absurd (omega arith)
+    go false (Some m) h p =
         let same : longerLine x m ≡ l = cc in
         ap (longer x) (h m refl) ∙ ap (λ (k : Held (List ℕ)). k.value ∷ words_of k.rest) same
 
-words_none : (xs : List ℕ) → first_line xs ≡ none → words_of xs ≡ []
+words_none : (xs : List ℕ) → first_line xs ≡ None → words_of xs ≡ []
 words_none [] e = refl
 words_none (x ∷ xs) e = go (eqb x 10) (first_line xs) (λ p. words_none xs p) e
   where
-    go : (b : Bool) (o : Option (Held (List ℕ))) → (o ≡ none → words_of xs ≡ [])
-        → cond b (some (line [] xs)) (on o (λ (m : Held (List ℕ)). some (longerLine x m))) ≡ none
+    go : (b : Bool) (o : Option (Held (List ℕ))) → (o ≡ None → words_of xs ≡ [])
+        → cond b (Some (line [] xs)) (on o (λ (m : Held (List ℕ)). Some (longerLine x m))) ≡ None
         → cond b ([] ∷ words_of xs) (longer x (words_of xs)) ≡ []
     go true o h p = let z : ◌≡◌ {A = ℕ} 0 1 = cc in absurd (omega arith)
-    go false none h p = ap (longer x) (h refl)
-    go false (some m) h p = let z : ◌≡◌ {A = ℕ} 0 1 = cc in absurd (omega arith)
+    go false None h p = ap (longer x) (h refl)
+    go false (Some m) h p = let z : ◌≡◌ {A = ℕ} 0 1 = cc in absurd (omega arith)
 
 -- no word in front of place `at` is the value, and there are k of them
 pub record Passing (value words : List ℕ) (at k : ℕ) : Type 0 where
@@ -50,12 +50,12 @@ pub record Passing (value words : List ℕ) (at k : ℕ) : Type 0 where
   pub same : shift k (place (words_of (drop at words)) value) ≡ place (words_of words) value
 
 shift_0 : (o : Option ℕ) → shift 0 o ≡ o
-shift_0 none = refl
-shift_0 (some n) = ap some (zero-add n)
+shift_0 None = refl
+shift_0 (Some n) = ap Some (zero-add n)
 
 shift_1 : (k : ℕ) (o : Option ℕ) → shift k (shift 1 o) ≡ shift (k + 1) o
-shift_1 k none = refl
-shift_1 k (some n) = let e : k + (1 + n) ≡ k + 1 + n = omega arith in ap some e
+shift_1 k None = refl
+shift_1 k (Some n) = let e : k + (1 + n) ≡ k + 1 + n = omega arith in ap Some e
 
 pub passing_none : (value words : List ℕ) → Passing value words 0 0
 passing_none value words = record { within = omega arith; few = omega arith; same = shift_0 (place (words_of words) value) }
@@ -99,12 +99,12 @@ module _ (value words : List ℕ) (at k : ℕ) (c : Passing value words at k) wh
           ∙ words_first left (line (take n left) (drop (n + 1) left)) (h.ended inside)
           ∙ ap (λ (ys : List ℕ). take n left ∷ words_of ys) after-word
 
-      step : shift k (cond (is_word (take n left) value) (some 0) (shift 1 (place (words_of (drop (at + (n + 1)) words)) value))) ≡ place (words_of words) value
+      step : shift k (cond (is_word (take n left) value) (Some 0) (shift 1 (place (words_of (drop (at + (n + 1)) words)) value))) ≡ place (words_of words) value
       step = sym (ap (λ (ws : List (List ℕ)). shift k (place ws value)) here) ∙ c.same
 
       pub word_here : is_word (take n left) value ≡ true → Is k ≡ told (place (words_of words) value)
       word_here e =
-          let found : shift k (some 0) ≡ place (words_of words) value = rw e at step in
+          let found : shift k (Some 0) ≡ place (words_of words) value = rw e at step in
           let same : k + 0 ≡ k = omega arith in
           ap Is (sym same) ∙ ap told found
 
@@ -125,34 +125,34 @@ spelt {A} ws = map (λ (w : Word A). w.spelt) ws
 -- a place among the words is that of what one of them means
 record Meant {A : Type 0} (ws : List (Word A)) (value : List ℕ) (k : ℕ) : Type 0 where
   what : A
-  means : meaning ws k ≡ some what
-  is : one_of ws value ≡ some what
+  means : meaning ws k ≡ Some what
+  is : one_of ws value ≡ Some what
 
-word-found : {A : Type 0} (ws : List (Word A)) (value : List ℕ) (k : ℕ) → place (spelt ws) value ≡ some k → Meant ws value k
+word-found : {A : Type 0} (ws : List (Word A)) (value : List ℕ) (k : ℕ) → place (spelt ws) value ≡ Some k → Meant ws value k
 word-found [] value k e = let z : ◌≡◌ {A = ℕ} 0 1 = cc in absurd (omega arith)
 word-found {A} (w ∷ ws) value k e = go (is_word w.spelt value) refl (place (spelt ws) value) (λ j p. word-found ws value j p) e
   where
-    go : (b : Bool) → is_word w.spelt value ≡ b → (o : Option ℕ) → ((j : ℕ) → o ≡ some j → Meant ws value j)
-        → cond b (some 0) (shift 1 o) ≡ some k → Meant (w ∷ ws) value k
+    go : (b : Bool) → is_word w.spelt value ≡ b → (o : Option ℕ) → ((j : ℕ) → o ≡ Some j → Meant ws value j)
+        → cond b (Some 0) (shift 1 o) ≡ Some k → Meant (w ∷ ws) value k
     go true p o h q =
         let same : 0 ≡ k = cc in
         subst (Meant (w ∷ ws) value) same (record { what = w.means; means = refl; is = rw p refl })
-    go false p none h q = let z : ◌≡◌ {A = ℕ} 0 1 = cc in absurd (omega arith)
-    go false p (some j) h q =
+    go false p None h q = let z : ◌≡◌ {A = ℕ} 0 1 = cc in absurd (omega arith)
+    go false p (Some j) h q =
         let later : Meant ws value j = h j refl in
         let next : 1 + j ≡ k = cc in
         let same : suc j ≡ k = omega (arith, next) in
         subst (Meant (w ∷ ws) value) same (record { what = later.what; means = later.means; is = rw p later.is })
 
-word_missing : {A : Type 0} (ws : List (Word A)) (value : List ℕ) → place (spelt ws) value ≡ none → one_of ws value ≡ none
+word_missing : {A : Type 0} (ws : List (Word A)) (value : List ℕ) → place (spelt ws) value ≡ None → one_of ws value ≡ None
 word_missing [] value e = refl
 word_missing {A} (w ∷ ws) value e = go (is_word w.spelt value) refl (place (spelt ws) value) (λ p. word_missing ws value p) e
   where
-    go : (b : Bool) → is_word w.spelt value ≡ b → (o : Option ℕ) → (o ≡ none → one_of ws value ≡ none)
-        → cond b (some 0) (shift 1 o) ≡ none → one_of (w ∷ ws) value ≡ none
+    go : (b : Bool) → is_word w.spelt value ≡ b → (o : Option ℕ) → (o ≡ None → one_of ws value ≡ None)
+        → cond b (Some 0) (shift 1 o) ≡ None → one_of (w ∷ ws) value ≡ None
     go true p o h q = let z : ◌≡◌ {A = ℕ} 0 1 = cc in absurd (omega arith)
-    go false p none h q = rw p (h refl)
-    go false p (some j) h q = let z : ◌≡◌ {A = ℕ} 0 1 = cc in absurd (omega arith)
+    go false p None h q = rw p (h refl)
+    go false p (Some j) h q = let z : ◌≡◌ {A = ℕ} 0 1 = cc in absurd (omega arith)
 
 -- what the first word means, what a later one does, and what the only one left does
 module _ {A : Type 0} (v : Word A) where
@@ -170,37 +170,37 @@ module _ {A : Type 0} (v : Word A) where
 
 -- the same of a line with words, by what they mean
 abbrev taken : {A : Type 0} → (List ℕ → Option A) → Held (List ℕ) → Option (Held A)
-taken {A} reader l = on (reader l.value) (λ (a : A). some (line a l.rest))
+taken {A} reader l = on (reader l.value) (λ (a : A). Some (line a l.rest))
 
 module _ {A : Type 0} (ws : List (Word A)) where
   value-refused : (l : Held (List ℕ)) (o : Option ℕ) → place (spelt ws) l.value ≡ o
-      → on o (λ (k : ℕ). some (line k l.rest)) ≡ none → taken (one_of ws) l ≡ none
-  value-refused l none p e = rw (word_missing ws l.value p)
-  value-refused l (some k) p e = let z : ◌≡◌ {A = ℕ} 0 1 = cc in absurd (omega arith)
+      → on o (λ (k : ℕ). Some (line k l.rest)) ≡ None → taken (one_of ws) l ≡ None
+  value-refused l None p e = rw (word_missing ws l.value p)
+  value-refused l (Some k) p e = let z : ◌≡◌ {A = ℕ} 0 1 = cc in absurd (omega arith)
 
-  entry-refused : (o : Option (Held (List ℕ))) → on o (taken (place (spelt ws))) ≡ none → on o (taken (one_of ws)) ≡ none
-  entry-refused none e = refl
-  entry-refused (some l) e = value-refused l (place (spelt ws) l.value) refl e
+  entry-refused : (o : Option (Held (List ℕ))) → on o (taken (place (spelt ws))) ≡ None → on o (taken (one_of ws)) ≡ None
+  entry-refused None e = refl
+  entry-refused (Some l) e = value-refused l (place (spelt ws) l.value) refl e
 
   module _ (k : ℕ) (m : A) (means : Means ws k m) (r : List ℕ) where
     value_read : (l : Held (List ℕ)) (o : Option ℕ) → place (spelt ws) l.value ≡ o
-        → on o (λ (j : ℕ). some (line j l.rest)) ≡ some (line k r) → taken (one_of ws) l ≡ some (line m r)
-    value_read l none p e = let z : ◌≡◌ {A = ℕ} 0 1 = cc in absurd (omega arith)
-    value_read l (some j) p e =
+        → on o (λ (j : ℕ). Some (line j l.rest)) ≡ Some (line k r) → taken (one_of ws) l ≡ Some (line m r)
+    value_read l None p e = let z : ◌≡◌ {A = ℕ} 0 1 = cc in absurd (omega arith)
+    value_read l (Some j) p e =
         let same : line j l.rest ≡ line k r = cc in
-        let here : place (spelt ws) l.value ≡ some k = p ∙ ap (λ (h : Held ℕ). some h.value) same in
+        let here : place (spelt ws) l.value ≡ Some k = p ∙ ap (λ (h : Held ℕ). Some h.value) same in
         by_meaning l (ap (λ (h : Held ℕ). h.rest) same) (word-found ws l.value k here)
       where
-        by_meaning : (h : Held (List ℕ)) → h.rest ≡ r → Meant ws h.value k → taken (one_of ws) h ≡ some (line m r)
-        by_meaning h e w = rw w.is (ap₂ (λ (a : A) (ys : List ℕ). some (line a ys)) (sym (means w.what w.means)) e)
+        by_meaning : (h : Held (List ℕ)) → h.rest ≡ r → Meant ws h.value k → taken (one_of ws) h ≡ Some (line m r)
+        by_meaning h e w = rw w.is (ap₂ (λ (a : A) (ys : List ℕ). Some (line a ys)) (sym (means w.what w.means)) e)
 
-    entry_read : (o : Option (Held (List ℕ))) → on o (taken (place (spelt ws))) ≡ some (line k r) → on o (taken (one_of ws)) ≡ some (line m r)
-    entry_read none e = let z : ◌≡◌ {A = ℕ} 0 1 = cc in absurd (omega arith)
-    entry_read (some l) e = value_read l (place (spelt ws) l.value) refl e
+    entry_read : (o : Option (Held (List ℕ))) → on o (taken (place (spelt ws))) ≡ Some (line k r) → on o (taken (one_of ws)) ≡ Some (line m r)
+    entry_read None e = let z : ◌≡◌ {A = ℕ} 0 1 = cc in absurd (omega arith)
+    entry_read (Some l) e = value_read l (place (spelt ws) l.value) refl e
 
   -- the code's words are those of the grammar
   module _ (words : List ℕ) (same : words_of words ≡ spelt ws) (key ys : List ℕ) where
-    pub words_refused : line_of key (place (words_of words)) ys ≡ none → line_of key (one_of ws) ys ≡ none
+    pub words_refused : line_of key (place (words_of words)) ys ≡ None → line_of key (one_of ws) ys ≡ None
     words_refused e = entry-refused (entry key ys) (rw same at e)
 
     pub words_read : (xs : List ℕ) (k n : ℕ) (m : A) → Reads (line_of key (place (words_of words)) ys) xs k n → Means ws k m
@@ -209,8 +209,8 @@ module _ {A : Type 0} (ws : List (Word A)) where
         record { within = h.within; is = entry_read k m means (drop n xs) (entry key ys) (rw same at h).is }
 
 -- the two lines that have words: the code's words are the grammar's, by computing both
-pub mode-refused : (xs : List ℕ) (from : ℕ) → line_of (text "mode=") (place (words_of (text "pack\nlanes\n"))) (drop from xs) ≡ none
-    → line_of (text "mode=") (one_of modes) (drop from xs) ≡ none
+pub mode-refused : (xs : List ℕ) (from : ℕ) → line_of (text "mode=") (place (words_of (text "pack\nlanes\n"))) (drop from xs) ≡ None
+    → line_of (text "mode=") (one_of modes) (drop from xs) ≡ None
 mode-refused xs from = words_refused modes (text "pack\nlanes\n") refl (text "mode=") (drop from xs)
 
 pub mode-read : (xs : List ℕ) (from k n : ℕ) (m : Mode) → Means modes k m
@@ -218,8 +218,8 @@ pub mode-read : (xs : List ℕ) (from k n : ℕ) (m : Mode) → Means modes k m
     → Reads (line_of (text "mode=") (one_of modes) (drop from xs)) xs m n
 mode-read xs from k n m h r = words_read modes (text "pack\nlanes\n") refl (text "mode=") (drop from xs) xs k n m r h
 
-pub tlast-refused : (xs : List ℕ) (from : ℕ) → line_of (text "tlast=") (place (words_of (text "wired\nnone\nlow\n"))) (drop from xs) ≡ none
-    → line_of (text "tlast=") (one_of tlasts) (drop from xs) ≡ none
+pub tlast-refused : (xs : List ℕ) (from : ℕ) → line_of (text "tlast=") (place (words_of (text "wired\nnone\nlow\n"))) (drop from xs) ≡ None
+    → line_of (text "tlast=") (one_of tlasts) (drop from xs) ≡ None
 tlast-refused xs from = words_refused tlasts (text "wired\nnone\nlow\n") refl (text "tlast=") (drop from xs)
 
 pub tlast-read : (xs : List ℕ) (from k n : ℕ) (t : Tlast) → Means tlasts k t

@@ -1,8 +1,8 @@
 -- The statements of specs/Promises at examples, typed by hand: both ends of the range are in it, and what is beside a numeral
 -- or behind a sheet is not read. A premise that is narrowed, or a conclusion that is dropped, breaks one. Assumes nothing.
+use Rattle.std.specs.Prelude.{None, Some}
 use mathlib.Core.List.{List}
 use mathlib.Core.Logic.{◌≢◌}
-use mathlib.Core.Option.{none, some}
 use mathlib.Core.Path.{◌≡◌, refl, sym, ◌∙◌}
 use Prim.Native.Nat.{ℕ, ◌≤◌}
 use native.Mathlib.Omega.{arith}
@@ -17,47 +17,47 @@ use Rattle.report_setup_spec.proofs.Promises.{digits_exactly, numbers_exactly, w
 
 -- ---- numbers
 
-pub least : number (text "0") ≡ some 0
+pub least : number (text "0") ≡ Some 0
 least = numbers_exactly.each 0 (omega arith)
 
-pub greatest : number (text "99") ≡ some 99
+pub greatest : number (text "99") ≡ Some 99
 greatest = numbers_exactly.each 99 (omega arith)
 
 -- whatever is read is at most 99, and spelt in one way
-pub at_most : (value : List ℕ) (n : ℕ) → number value ≡ some n → n ≤ 99
+pub at_most : (value : List ℕ) (n : ℕ) → number value ≡ Some n → n ≤ 99
 at_most value n e = (numbers_exactly.only value n e).0
 
-pub one_way : (v w : List ℕ) (n : ℕ) → number v ≡ some n → number w ≡ some n → v ≡ w
+pub one_way : (v w : List ℕ) (n : ℕ) → number v ≡ Some n → number w ≡ Some n → v ≡ w
 one_way v w n e f = (numbers_exactly.only v n e).1 ∙ sym (numbers_exactly.only w n f).1
 
 -- ---- one digit
 
-pub no_bits : digit (text "0") ≡ some 0
+pub no_bits : digit (text "0") ≡ Some 0
 no_bits = digits_exactly.each 0 (omega arith)
 
-pub most-bits : digit (text "9") ≡ some 9
+pub most-bits : digit (text "9") ≡ Some 9
 most-bits = digits_exactly.each 9 (omega arith)
 
 -- whatever is read is at most 9, and spelt in one way
-pub at-most_9 : (value : List ℕ) (n : ℕ) → digit value ≡ some n → n ≤ 9
+pub at-most_9 : (value : List ℕ) (n : ℕ) → digit value ≡ Some n → n ≤ 9
 at-most_9 value n e = (digits_exactly.only value n e).0
 
-pub one-digit_way : (v w : List ℕ) (n : ℕ) → digit v ≡ some n → digit w ≡ some n → v ≡ w
+pub one-digit_way : (v w : List ℕ) (n : ℕ) → digit v ≡ Some n → digit w ≡ Some n → v ≡ w
 one-digit_way v w n e f = (digits_exactly.only v n e).1 ∙ sym (digits_exactly.only w n f).1
 
 -- ---- words
 
-pub low_read : one_of tlasts (text "low") ≡ some Low
+pub low_read : one_of tlasts (text "low") ≡ Some Low
 low_read = words_exactly.each Low
 
 pub high-is-no-word : (text "high" ≢ text "wired") × (text "high" ≢ text "none") × (text "high" ≢ text "low")
 high-is-no-word = (words_exactly.refused (text "high")).0 refl
 
-pub high-refused : one_of tlasts (text "high") ≡ none
+pub high-refused : one_of tlasts (text "high") ≡ None
 high-refused = (words_exactly.refused (text "high")).1 high-is-no-word
 
 -- what is read as `none` is that word, and no other
-pub only_none : (value : List ℕ) → one_of tlasts value ≡ some Absent → value ≡ text "none"
+pub only_none : (value : List ℕ) → one_of tlasts value ≡ Some Absent → value ≡ text "none"
 only_none value e = words_exactly.only value Absent e
 
 -- ---- sheets

@@ -4,8 +4,7 @@
 -- no CR, no line less or more, nothing after the fifth LF.
 -- A new word is one line of `modes` or `tlasts`, and what it means; a new line of the sheet is one line of `sheet_of` and one
 -- field of `Setup`.
-use Rattle.std.specs.Prelude.{Bool, true, false, not, ◌&&◌, cond, List, [], ◌∷◌, ℕ, zero, suc, ◌+◌, ◌-◌, ◌*◌, eqb, leb}
-use Rattle.std.proofs.Math.Option.{Option, none, some}
+use Rattle.std.specs.Prelude.{Bool, true, false, not, ◌&&◌, cond, List, [], ◌∷◌, ℕ, zero, suc, ◌+◌, ◌-◌, ◌*◌, eqb, leb, Option, None, Some}
 use Prim.Native.Char.{code}
 use Prim.Native.String.{String, len, char_at}
 use Rattle.report_setup_spec.specs.declared.Mode.{Mode}
@@ -31,8 +30,8 @@ line_feed = 10
 
 -- goes on with what was read, if anything was
 abbrev pub on : {A : Type 0} → {B : Type 0} → Option A → (A → Option B) → Option B
-on none f = none
-on (some a) f = f a
+on None f = None
+on (Some a) f = f a
 
 -- ---- lines
 
@@ -49,24 +48,24 @@ longer x l = line (x ∷ l.value) l.rest
 
 -- the first line, without its LF; none where no LF ends it
 abbrev pub first_line : List ℕ → Option (Line (List ℕ))
-first_line [] = none
-first_line (x ∷ xs) = cond (eqb x line_feed) (some (line [] xs)) (on (first_line xs) (λ (l : Line (List ℕ)). some (longer x l)))
+first_line [] = None
+first_line (x ∷ xs) = cond (eqb x line_feed) (Some (line [] xs)) (on (first_line xs) (λ (l : Line (List ℕ)). Some (longer x l)))
 
 -- what follows a key; none where it does not stand in front
 abbrev pub after : List ℕ → List ℕ → Option (List ℕ)
-after [] xs = some xs
-after (k ∷ ks) [] = none
-after (k ∷ ks) (x ∷ xs) = cond (eqb k x) (after ks xs) none
+after [] xs = Some xs
+after (k ∷ ks) [] = None
+after (k ∷ ks) (x ∷ xs) = cond (eqb k x) (after ks xs) None
 
 -- the first line's text after this key
 abbrev pub entry : List ℕ → List ℕ → Option (Line (List ℕ))
 entry key xs =
-    on (first_line xs) (λ (l : Line (List ℕ)). on (after key l.value) (λ (v : List ℕ). some (line v l.rest)))
+    on (first_line xs) (λ (l : Line (List ℕ)). on (after key l.value) (λ (v : List ℕ). Some (line v l.rest)))
 
 -- the first line, as this key with a value that this reader takes
 abbrev pub line_of : {A : Type 0} → List ℕ → (List ℕ → Option A) → List ℕ → Option (Line A)
 line_of {A} key reader xs =
-    on (entry key xs) (λ (l : Line (List ℕ)). on (reader l.value) (λ (a : A). some (line a l.rest)))
+    on (entry key xs) (λ (l : Line (List ℕ)). on (reader l.value) (λ (a : A). Some (line a l.rest)))
 
 -- ---- values
 
@@ -75,16 +74,16 @@ is_digit x = leb 48 x && leb x 57
 
 -- T-06: "0 to 9": exactly one digit
 abbrev pub digit : List ℕ → Option ℕ
-digit [] = none
-digit (x ∷ []) = cond (is_digit x) (some (x - 48)) none
-digit (x ∷ y ∷ ys) = none
+digit [] = None
+digit (x ∷ []) = cond (is_digit x) (Some (x - 48)) None
+digit (x ∷ y ∷ ys) = None
 
 -- "0 to 99, no leading zeros"
 abbrev pub number : List ℕ → Option ℕ
-number [] = none
+number [] = None
 number (x ∷ []) = digit (x ∷ [])
-number (x ∷ y ∷ []) = cond (not (eqb x 48) && (is_digit x && is_digit y)) (some (10 * (x - 48) + (y - 48))) none
-number (x ∷ y ∷ z ∷ zs) = none
+number (x ∷ y ∷ []) = cond (not (eqb x 48) && (is_digit x && is_digit y)) (Some (10 * (x - 48) + (y - 48))) None
+number (x ∷ y ∷ z ∷ zs) = None
 
 -- a word of the sheet, and what it means
 pub record Word (A : Type 0) : Type 0 where
@@ -95,17 +94,17 @@ abbrev pub word : {A : Type 0} → String → A → Word A
 word spelt means = record { spelt = text spelt; means = means }
 
 abbrev pub nothing_left : Option (List ℕ) → Bool
-nothing_left none = false
-nothing_left (some []) = true
-nothing_left (some (x ∷ xs)) = false
+nothing_left None = false
+nothing_left (Some []) = true
+nothing_left (Some (x ∷ xs)) = false
 
 -- the value is this word, and nothing more
 abbrev pub is_word : List ℕ → List ℕ → Bool
 is_word spelt value = nothing_left (after spelt value)
 
 abbrev pub one_of : {A : Type 0} → List (Word A) → List ℕ → Option A
-one_of [] value = none
-one_of (w ∷ ws) value = cond (is_word w.spelt value) (some w.means) (one_of ws value)
+one_of [] value = None
+one_of (w ∷ ws) value = cond (is_word w.spelt value) (Some w.means) (one_of ws value)
 
 abbrev pub modes : List (Word Mode)
 modes = word "pack" Pack ∷ word "lanes" Lanes ∷ []
@@ -116,8 +115,8 @@ tlasts = word "wired" Wired ∷ word "none" Absent ∷ word "low" Low ∷ []
 -- ---- the sheet
 
 abbrev pub on_line : {A : Type 0} → Option (Line A) → (Line A → Sheet) → Sheet
-on_line none f = Refused
-on_line (some l) f = f l
+on_line None f = Refused
+on_line (Some l) f = f l
 
 -- nothing stands after the last LF
 abbrev pub ending : List ℕ → Sheet → Sheet

@@ -1,6 +1,5 @@
 -- What the grammar's readers take, as statements; proofs/Promises has a proof of each.
-use Rattle.std.specs.Prelude.{cond, List, [], ◌∷◌, ◌++◌, ◌↔◌, ◌≢◌, ◌≡◌, ℕ, ◌+◌, ◌/◌, ◌%◌, ◌≤◌, ltb}
-use Rattle.std.proofs.Math.Option.{none, some}
+use Rattle.std.specs.Prelude.{cond, List, [], ◌∷◌, ◌++◌, ◌↔◌, ◌≢◌, ◌≡◌, ℕ, ◌+◌, ◌/◌, ◌%◌, ◌≤◌, ltb, None, Some}
 use Rattle.report_setup_spec.specs.declared.Tlast.{Tlast}
 use Rattle.report_setup_spec.specs.declared.Setup.{Setup}
 use Rattle.report_setup_spec.specs.declared.Sheet.TheVariants.{Read}
@@ -13,19 +12,19 @@ numeral n = cond (ltb n 10) ((48 + n) ∷ []) ((48 + n / 10) ∷ (48 + n % 10) �
 
 -- "0 to 99, no leading zeros": each number from 0 to 99 is read from its numeral, and nothing else is read
 pub record NumbersExactly : Type 0 where
-  pub each : (n : ℕ) → n ≤ 99 → number (numeral n) ≡ some n
-  pub only : (value : List ℕ) (n : ℕ) → number value ≡ some n → (n ≤ 99) × (value ≡ numeral n)
+  pub each : (n : ℕ) → n ≤ 99 → number (numeral n) ≡ Some n
+  pub only : (value : List ℕ) (n : ℕ) → number value ≡ Some n → (n ≤ 99) × (value ≡ numeral n)
 
 -- T-06: "0 to 9": each number from 0 to 9 is read from its one digit, and nothing else is read
 pub record DigitsExactly : Type 0 where
-  pub each : (n : ℕ) → n ≤ 9 → digit ((48 + n) ∷ []) ≡ some n
-  pub only : (value : List ℕ) (n : ℕ) → digit value ≡ some n → (n ≤ 9) × (value ≡ (48 + n) ∷ [])
+  pub each : (n : ℕ) → n ≤ 9 → digit ((48 + n) ∷ []) ≡ Some n
+  pub only : (value : List ℕ) (n : ℕ) → digit value ≡ Some n → (n ≤ 9) × (value ≡ (48 + n) ∷ [])
 
 -- T-03: "SHEET accepts three words now": each of the three is read, as what it means, and nothing else is read
 pub record WordsExactly : Type 0 where
-  pub each : (t : Tlast) → one_of tlasts (tlast_word t) ≡ some t
-  pub only : (value : List ℕ) (t : Tlast) → one_of tlasts value ≡ some t → value ≡ tlast_word t
-  pub refused : (value : List ℕ) → (one_of tlasts value ≡ none) ↔ ((value ≢ text "wired") × (value ≢ text "none") × (value ≢ text "low"))
+  pub each : (t : Tlast) → one_of tlasts (tlast_word t) ≡ Some t
+  pub only : (value : List ℕ) (t : Tlast) → one_of tlasts value ≡ Some t → value ≡ tlast_word t
+  pub refused : (value : List ℕ) → (one_of tlasts value ≡ None) ↔ ((value ≢ text "wired") × (value ≢ text "none") × (value ≢ text "low"))
 
 -- ---- a setup, written as a sheet
 

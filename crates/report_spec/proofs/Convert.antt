@@ -1,9 +1,9 @@
 -- Converting the harvested transfers, in either mode: what its answer says of the refusal and of the result's length, and the
 -- result of records that all have TLAST.
 -- Assumes nothing.
+use Rattle.std.specs.Prelude.{Option, None, Some}
 use mathlib.Core.Path.{◌≡◌, refl, sym, ap, ap₂, ◌∙◌, subst}
 use mathlib.Core.List.{List, [], ◌∷◌, ◌++◌, map, append-nil}
-use mathlib.Core.Option.{Option, none, some}
 use Prim.Native.Nat.{ℕ, ◌*◌, ◌≤◌}
 use native.Mathlib.Omega.{arith}
 use borrow.Author.Tests.{ltb-false}
@@ -45,7 +45,7 @@ pub result-long : (m : Mode) (s : Shape) (v : ℕ) (xs : List ℕ) → length (c
 result-long Pack s v xs = length-packed s v xs
 result-long Lanes s v xs = length-octets (at_width s v) (sliced_transfers s v xs) (wide-slices s.width v (transfers s xs))
 
-pub result_fits : (m : Mode) (s : Shape) (v : ℕ) (xs : List ℕ) (room : ℕ) → convert_refusal m s v xs room ≡ none → length (convert_result m s v xs) ≤ room
+pub result_fits : (m : Mode) (s : Shape) (v : ℕ) (xs : List ℕ) (room : ℕ) → convert_refusal m s v xs room ≡ None → length (convert_result m s v xs) ≤ room
 result_fits Pack s v xs room e = (repacks_of s v xs room e).fits
 result_fits Lanes s v xs room e =
     let end = room_check (sliced s v xs) room ∷ [] in
@@ -81,14 +81,14 @@ each-converted Lanes s v rs z h =
 
 -- ---- what an answer says
 
-pub not_written : (o : Option Refusal) (n : ℕ) (r : Refusal) → NotWritten r ≡ written o n → o ≡ some r
-not_written none n r e = let z : ◌≡◌ {A = ℕ} 0 1 = cc in absurd (omega arith)
-not_written (some q) n r e = cc
+pub not_written : (o : Option Refusal) (n : ℕ) (r : Refusal) → NotWritten r ≡ written o n → o ≡ Some r
+not_written None n r e = let z : ◌≡◌ {A = ℕ} 0 1 = cc in absurd (omega arith)
+not_written (Some q) n r e = cc
 
 pub record IsWritten (o : Option Refusal) (m n : ℕ) : Type 0 where
-  pub accepted : o ≡ none
+  pub accepted : o ≡ None
   pub count : m ≡ n
 
 pub is-written : (o : Option Refusal) (n m : ℕ) → Records m ≡ written o n → IsWritten o m n
-is-written none n m e = record { accepted = refl; count = cc }
-is-written (some q) n m e = let z : ◌≡◌ {A = ℕ} 0 1 = cc in absurd (omega arith)
+is-written None n m e = record { accepted = refl; count = cc }
+is-written (Some q) n m e = let z : ◌≡◌ {A = ℕ} 0 1 = cc in absurd (omega arith)

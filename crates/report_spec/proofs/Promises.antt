@@ -1,9 +1,9 @@
 -- Every statement of specs/Promises, proved. Assumes nothing.
+use Rattle.std.specs.Prelude.{Option, None, Some}
 use mathlib.Core.Path.{◌≡◌, refl, sym, ap, ◌∙◌, subst}
 use mathlib.Core.Bool.{Bool, true, false, cond}
 use mathlib.Core.Logic.{◌≢◌}
 use mathlib.Core.List.{List, [], ◌∷◌}
-use mathlib.Core.Option.{Option, none, some}
 use Prim.Native.Nat.{ℕ, suc, ◌*◌, ◌/◌, ◌%◌, ◌≤◌}
 use native.Mathlib.Nat.{le_trans, zero-mul, one-mul, mul-div_cancel}
 use native.Mathlib.Omega.{arith}
@@ -69,24 +69,24 @@ quiet_judged (Breaks cycle rule) next h e = refl
 quiet_judged (Sound n) next h e = h n e
 
 quiet_capture : (u : Setup) (capture : Option (List ℕ)) (room : ℕ) → Quiet (capture_outcome u capture room)
-quiet_capture u none room e = refl
-quiet_capture u (some capture) room e =
+quiet_capture u None room e = refl
+quiet_capture u (Some capture) room e =
     quiet_judged (judge_answer (shape_of u) (cycles_of u capture)) (converted_transfers u (transfers_of u capture) room)
     (λ n. quiet_converted (convert_answer u.mode (shape_of u) u.width_out (transfers_of u capture) room) n (packet_count (shape_of u) (transfers_of u capture))
     (convert_result u.mode (shape_of u) u.width_out (transfers_of u capture)))
     e
 
 quiet_unless : (o : Option Refusal) (next : Outcome) → Quiet next → Quiet (unless o next)
-quiet_unless (some r) next h e = refl
-quiet_unless none next h e = h e
+quiet_unless (Some r) next h e = refl
+quiet_unless None next h e = h e
 
 quiet_sheet : (s : Sheet) (capture : Option (List ℕ)) (room : ℕ) → Quiet (sheet_outcome s capture room)
 quiet_sheet NoSheet capture room e = refl
 quiet_sheet (Read u) capture room e = quiet_unless (first (setup_checks u)) (capture_outcome u capture room) (quiet_capture u capture room) e
 
 quiet : (sheet capture : Option (List ℕ)) (room : ℕ) → Quiet (outcome_of sheet capture room)
-quiet none capture room e = refl
-quiet (some sheet) capture room e = quiet_sheet (sheet_of sheet) capture room e
+quiet None capture room e = refl
+quiet (Some sheet) capture room e = quiet_sheet (sheet_of sheet) capture room e
 
 pub only_when_clean : OnlyWhenClean
 unfolding report_of
@@ -116,7 +116,7 @@ module _ (u : Setup) (p : Passes u) (capture : List ℕ) (o : Octets capture) (n
   octets_in = prepared-octets u.tlast s capture o
 
   -- in a room that is just long enough
-  taken : harvest_refusal s (cycles_of u capture) (length ts) ≡ none
+  taken : harvest_refusal s (cycles_of u capture) (length ts) ≡ None
   taken = clean-harvested s (cycles_of u capture) n clean (length ts) (omega arith)
 
   harvest : Legal s ts × (length ts ≤ length (cycles_of u capture))
@@ -138,23 +138,23 @@ module _ (u : Setup) (p : Passes u) (capture : List ℕ) (o : Octets capture) (n
   width_out = ((fits_out u p).low, (fits_out u p).high)
 
   -- in either mode
-  only-room : (m : Mode) → first (ratio_checks m s v) ≡ none → (room : ℕ)
-      → convert_refusal m s v ts room ≡ cond (ltb room (length (convert_result m s v ts))) (some Room) none
+  only-room : (m : Mode) → first (ratio_checks m s v) ≡ None → (room : ℕ)
+      → convert_refusal m s v ts room ≡ cond (ltb room (length (convert_result m s v ts))) (Some Room) None
   only-room Pack h room = harvest_repacks s (cycles_of u capture) (length ts) v room octets_in taken width_out
   only-room Lanes h room =
       let ratio = (first-none (ratio_check s v) [] h).0 in
       rw (sound_in u p, sound_out u p, sound-user u p, ratio, fits-take)
       (append-passed (transfer_checks s 0 (records s ts)) (room_check (sliced s v ts) room ∷ []) legal.faultless)
 
-  divides : first (ratio_checks Lanes s v) ≡ none → s.width % v ≡ 0
+  divides : first (ratio_checks Lanes s v) ≡ None → s.width % v ≡ 0
   divides h =
       eqb-true (s.width % v) 0 (not-false (eqb (s.width % v) 0) (first-none (ratio_check s v) [] h).0)
 
-  items_kept : (m : Mode) → first (ratio_checks m s v) ≡ none → stream_items (out_shape u) (convert_result m s v ts) ≡ stream_items s ts
+  items_kept : (m : Mode) → first (ratio_checks m s v) ≡ None → stream_items (out_shape u) (convert_result m s v ts) ≡ stream_items s ts
   items_kept Pack h = repacking_keeps s v ts width_out
   items_kept Lanes h = (lane_keeping s v ts width_out (divides h) legal).same
 
-  legal_out : (m : Mode) → first (ratio_checks m s v) ≡ none → Legal (out_shape u) (convert_result m s v ts)
+  legal_out : (m : Mode) → first (ratio_checks m s v) ≡ None → Legal (out_shape u) (convert_result m s v ts)
   legal_out Pack h = packed_legal s v ts width_out legal
   legal_out Lanes h = (lane_keeping s v ts width_out (divides h) legal).legal
 
@@ -167,13 +167,13 @@ AllShow m (c ∷ cs) = (may_show m (code_of c.gives).0 ≡ true) × AllShow m cs
 same-refusal : (m : Mode) (q r : Refusal) → Refused q ≡ Refused r → may_show m (code_of q).0 ≡ true → may_show m (code_of r).0 ≡ true
 same-refusal m q r e h = let same : q ≡ r = cc in subst (λ (x : Refusal). may_show m (code_of x).0 ≡ true) same h
 
-first-shows : (m : Mode) (cs : List (Check Refusal)) → AllShow m cs → (r : Refusal) → first cs ≡ some r → may_show m (code_of r).0 ≡ true
+first-shows : (m : Mode) (cs : List (Check Refusal)) → AllShow m cs → (r : Refusal) → first cs ≡ Some r → may_show m (code_of r).0 ≡ true
 first-shows m [] h r e = let z : ◌≡◌ {A = ℕ} 0 1 = cc in absurd (omega arith)
 first-shows m (c ∷ cs) h r e = go c.found refl (first-shows m cs h.1 r)
   where
-    go : (b : Bool) → c.found ≡ b → (first cs ≡ some r → may_show m (code_of r).0 ≡ true) → may_show m (code_of r).0 ≡ true
+    go : (b : Bool) → c.found ≡ b → (first cs ≡ Some r → may_show m (code_of r).0 ≡ true) → may_show m (code_of r).0 ≡ true
     go true k later =
-        let found : some c.gives ≡ some r = rw k at e in
+        let found : Some c.gives ≡ Some r = rw k at e in
         let same : c.gives ≡ r = cc in
         subst (λ (x : Refusal). may_show m (code_of x).0 ≡ true) same h.0
     go false k later = later (rw k at e)
@@ -189,10 +189,10 @@ cycles_show : (m : Mode) (s : Shape) (k : ℕ) (rs : List (List ℕ)) → AllSho
 cycles_show m s k [] = tt
 cycles_show m s k (r ∷ rs) = (refl, cycles_show m s (suc k) rs)
 
-not_judged : (o : Option Refusal) (f : Option Finding) (n : ℕ) (r : Refusal) → verdict o f n ≡ NotJudged r → o ≡ some r
-not_judged (some q) f n r e = cc
-not_judged none (some f) n r e = let z : ◌≡◌ {A = ℕ} 0 1 = cc in absurd (omega arith)
-not_judged none none n r e = let z : ◌≡◌ {A = ℕ} 0 1 = cc in absurd (omega arith)
+not_judged : (o : Option Refusal) (f : Option Finding) (n : ℕ) (r : Refusal) → verdict o f n ≡ NotJudged r → o ≡ Some r
+not_judged (Some q) f n r e = cc
+not_judged None (Some f) n r e = let z : ◌≡◌ {A = ℕ} 0 1 = cc in absurd (omega arith)
+not_judged None None n r e = let z : ◌≡◌ {A = ℕ} 0 1 = cc in absurd (omega arith)
 
 judge-shows : (m : Mode) (s : Shape) (xs : List ℕ) (r : Refusal) → judge_answer s xs ≡ NotJudged r → may_show m (code_of r).0 ≡ true
 unfolding judge_answer
@@ -200,7 +200,7 @@ judge-shows m s xs r e =
     first-shows m (judge_checks s xs) (refl, (refl, (refl, cycles_show m s 0 (records s xs)))) r
     (not_judged (first (judge_checks s xs)) (first_finding s xs) (transfer_count s xs) r e)
 
-room-shows : (m : Mode) (b : Bool) (r : Refusal) → cond b (some Room) none ≡ some r → may_show m (code_of r).0 ≡ true
+room-shows : (m : Mode) (b : Bool) (r : Refusal) → cond b (Some Room) None ≡ Some r → may_show m (code_of r).0 ≡ true
 room-shows m true r e = let same : Room ≡ r = cc in subst (λ (x : Refusal). may_show m (code_of x).0 ≡ true) same refl
 room-shows m false r e = let z : ◌≡◌ {A = ℕ} 0 1 = cc in absurd (omega arith)
 
@@ -229,16 +229,16 @@ module _ (u : Setup) (p : Passes u) (capture : List ℕ) (o : Octets capture) (r
 
 shown-capture : (u : Setup) → Passes u → (capture : Option (List ℕ)) (room : ℕ) (r : Refusal) → OctetsOf capture
     → (capture_outcome u capture room).verdict ≡ Refused r → may_show u.mode (code_of r).0 ≡ true
-shown-capture u p none room r o e = same-refusal u.mode Length r e refl
-shown-capture u p (some capture) room r o e =
+shown-capture u p None room r o e = same-refusal u.mode Length r e refl
+shown-capture u p (Some capture) room r o e =
     shown_judged u p capture o room r (judge_answer (shape_of u) (cycles_of u capture)) refl e
 
 pub refusals_shown : RefusalsShown
 refusals_shown u capture room r o e = go (first (setup_checks u)) refl e
   where
     go : (f : Option Refusal) → first (setup_checks u) ≡ f → (unless f (capture_outcome u capture room)).verdict ≡ Refused r → may_show u.mode (code_of r).0 ≡ true
-    go none k h = shown-capture u k capture room r o h
-    go (some q) k h = same-refusal u.mode q r h (first-shows u.mode (setup_checks u) (setup_shows u) q k)
+    go None k h = shown-capture u k capture room r o h
+    go (Some q) k h = same-refusal u.mode q r h (first-shows u.mode (setup_checks u) (setup_shows u) q k)
 
 -- ---- the numbers that show
 
@@ -271,8 +271,8 @@ never (Read u) capture room r o e =
 
 pub never_reserved_nor_unclean : NeverReservedNorUnclean
 unfolding report_of
-never_reserved_nor_unclean none capture room r o e = bad-sheet r e
-never_reserved_nor_unclean (some sheet) capture room r o e = never (sheet_of sheet) capture room r o e
+never_reserved_nor_unclean None capture room r o e = bad-sheet r e
+never_reserved_nor_unclean (Some sheet) capture room r o e = never (sheet_of sheet) capture room r o e
 
 pub pack_never_ratio : PackNeverRatio
 pack_never_ratio sheet u e m capture room r o h =
@@ -306,20 +306,20 @@ module _ (u : Setup) (capture : List ℕ) (room : ℕ) (t : Tally) (p : Passes u
   reached_judged (Sound n) e h =
       reached_converted n e (convert_answer u.mode (shape_of u) u.width_out (transfers_of u capture) room) refl h
 
-reached : (u : Setup) (capture : List ℕ) (room : ℕ) (t : Tally) → (setup_outcome u (some capture) room).verdict ≡ Clean t → Reached u capture room t
+reached : (u : Setup) (capture : List ℕ) (room : ℕ) (t : Tally) → (setup_outcome u (Some capture) room).verdict ≡ Clean t → Reached u capture room t
 reached u capture room t e = go (first (setup_checks u)) refl e
   where
-    go : (f : Option Refusal) → first (setup_checks u) ≡ f → (unless f (capture_outcome u (some capture) room)).verdict ≡ Clean t → Reached u capture room t
-    go none k h = reached_judged u capture room t k (judge_answer (shape_of u) (cycles_of u capture)) refl h
-    go (some q) k h = let z : ◌≡◌ {A = ℕ} 0 1 = cc in absurd (omega arith)
+    go : (f : Option Refusal) → first (setup_checks u) ≡ f → (unless f (capture_outcome u (Some capture) room)).verdict ≡ Clean t → Reached u capture room t
+    go None k h = reached_judged u capture room t k (judge_answer (shape_of u) (cycles_of u capture)) refl h
+    go (Some q) k h = let z : ◌≡◌ {A = ℕ} 0 1 = cc in absurd (omega arith)
 
 module _ (u : Setup) (capture : List ℕ) (room : ℕ) (t : Tally) (r : Reached u capture room t) where
   abbrev result : List ℕ
   result = convert_result u.mode (shape_of u) u.width_out (transfers_of u capture)
 
-  result-is : (setup_outcome u (some capture) room).result ≡ result
+  result-is : (setup_outcome u (Some capture) room).result ≡ result
   result-is =
-      ap (λ (f : Option Refusal). (unless f (capture_outcome u (some capture) room)).result) r.passes
+      ap (λ (f : Option Refusal). (unless f (capture_outcome u (Some capture) room)).result) r.passes
       ∙ ap (λ (j : Judgement). (after_judging j (converted_transfers u (transfers_of u capture) room)).result) r.clean
       ∙ ap (λ (w : Written). (converted w r.count (packet_count (shape_of u) (transfers_of u capture)) result).result) r.wrote
 
@@ -360,7 +360,7 @@ module _ (u : Setup) (capture : List ℕ) (room : ℕ) (t : Tally) (r : Reached 
 pub clean_tallies : CleanTallies
 clean_tallies u capture room t o e =
     let r = reached u capture room t e in
-    subst (λ (x : Tally). CleanTally u capture room (setup_outcome u (some capture) room).result x) (sym r.is)
+    subst (λ (x : Tally). CleanTally u capture room (setup_outcome u (Some capture) room).result x) (sym r.is)
     (subst (λ (xs : List ℕ). CleanTally u capture room xs (tally r.count (packet_count (shape_of u) (transfers_of u capture)) r.number))
     (sym (result-is u capture room t r)) (tallied u capture room t r o))
 
@@ -389,7 +389,7 @@ module _ (u : Setup) (capture : List ℕ) (room : ℕ) (t : Tally) (level : Bool
   sampled_ends =
       ap (λ (x : Tally). x.packets) r.is ∙ ap lasts records_are ∙ lasts-filled level (handshakes (records (shape_of u) capture))
 
-  sampled_result : (setup_outcome u (some capture) room).result ≡ result_by u (joined sampled)
+  sampled_result : (setup_outcome u (Some capture) room).result ≡ result_by u (joined sampled)
   sampled_result = result-is u capture room t r ∙ ap (result_by u) harvest-is
 
 pub tlast_none : TlastNone
@@ -433,7 +433,7 @@ least_records u capture room t m e ys l same =
 -- ---- archived files
 
 -- an accepted repacking call leaves its result in front
-accepted_front : (s : Shape) (v : ℕ) (xs lent : List ℕ) → repack_refusal s v xs (length lent) ≡ none → repack_after s v xs lent ≡ in_front (packed s v xs) lent
+accepted_front : (s : Shape) (v : ℕ) (xs lent : List ℕ) → repack_refusal s v xs (length lent) ≡ None → repack_after s v xs lent ≡ in_front (packed s v xs) lent
 unfolding repack_after
 accepted_front s v xs lent e = ap (λ (o : Option Refusal). lent_after o (packed s v xs) lent) e
 
@@ -445,9 +445,9 @@ archives_reported u capture room t m o e v w d a =
     let long : length (replicate {A = ℕ} room 0) ≡ room = length-replicate {A = ℕ} room 0 in
     let packs : repack_answer (shape_of u) u.width_out ts room ≡ Records r.number =
     sym (ap (λ (x : Mode). convert_answer x (shape_of u) u.width_out ts room) m) ∙ r.wrote in
-    let accepted : repack_refusal (shape_of u) u.width_out ts room ≡ none =
+    let accepted : repack_refusal (shape_of u) u.width_out ts room ≡ None =
     sym (ap (λ (x : Mode). convert_refusal x (shape_of u) u.width_out ts room) m) ∙ (wrote_is u capture room t r).accepted in
-    let result-packed : (setup_outcome u (some capture) room).result ≡ packed (shape_of u) u.width_out ts =
+    let result-packed : (setup_outcome u (Some capture) room).result ≡ packed (shape_of u) u.width_out ts =
     result-is u capture room t r ∙ ap (λ (x : Mode). convert_result x (shape_of u) u.width_out ts) m in
     record {
       answers =
@@ -465,15 +465,15 @@ archives_reported u capture room t m o e v w d a =
 
 -- what judging leaves to be seen
 settles : (l : Option Refusal) (f : Option Finding) (n : ℕ) (next : ℕ → Outcome) (o : Option Refusal) (t : Tally)
-    → (l ≡ none → f ≡ none → (next n).verdict ≡ in_order none none o t) → (after_judging (verdict l f n) next).verdict ≡ in_order l f o t
-settles (some r) f n next o t h = refl
-settles none (some f) n next o t h = refl
-settles none none n next o t h = h refl refl
+    → (l ≡ None → f ≡ None → (next n).verdict ≡ in_order None None o t) → (after_judging (verdict l f n) next).verdict ≡ in_order l f o t
+settles (Some r) f n next o t h = refl
+settles None (Some f) n next o t h = refl
+settles None None n next o t h = h refl refl
 
 -- what converting leaves to be seen
-ends_in : (o : Option Refusal) (n p m k : ℕ) (result : List ℕ) → m ≡ k → (converted (written o m) n p result).verdict ≡ in_order none none o (tally n p k)
-ends_in (some r) n p m k result e = refl
-ends_in none n p m k result e = ap (λ (x : ℕ). Clean (tally n p x)) e
+ends_in : (o : Option Refusal) (n p m k : ℕ) (result : List ℕ) → m ≡ k → (converted (written o m) n p result).verdict ≡ in_order None None o (tally n p k)
+ends_in (Some r) n p m k result e = refl
+ends_in None n p m k result e = ap (λ (x : ℕ). Clean (tally n p x)) e
 
 result_count : (m : Mode) (s : Shape) (v : ℕ) (xs : List ℕ) → convert_count m s v xs ≡ length (records (at_width s v) (convert_result m s v xs))
 result_count m s v xs =
@@ -497,7 +497,7 @@ module _ (u : Setup) (capture : List ℕ) (o : Octets capture) (room : ℕ) wher
   judge-is p = rw (sound_in u p, sound-user u p) refl
 
   room-last : Passes u → (n : ℕ) → judge_answer (shape_of u) cycles ≡ Sound n
-      → (converted_transfers u (transfers_of u capture) room n).verdict ≡ in_order none none roomy (tally n (packet_count (shape_of u) (transfers_of u capture)) (length (records (out_shape u) (converted_of u capture))))
+      → (converted_transfers u (transfers_of u capture) room n).verdict ≡ in_order None None roomy (tally n (packet_count (shape_of u) (transfers_of u capture)) (length (records (out_shape u) (converted_of u capture))))
   room-last p n clean =
       let ts = transfers_of u capture in
       ap (λ (w : Written). (converted w n (packet_count (shape_of u) ts) (converted_of u capture)).verdict)
@@ -507,14 +507,14 @@ module _ (u : Setup) (capture : List ℕ) (o : Octets capture) (room : ℕ) wher
       (converted_of u capture) (result_count u.mode (shape_of u) u.width_out ts)
 
   in_order_lem : (f : Option Refusal) → first (setup_checks u) ≡ f
-      → (unless f (capture_outcome u (some capture) room)).verdict ≡ in_order (first (ordered_checks u cycles)) (first_finding (shape_of u) cycles) roomy (tally_of u capture)
-  in_order_lem (some r) k = ap (λ (x : Option Refusal). in_order x (first_finding (shape_of u) cycles) roomy (tally_of u capture)) (sym (append-found (setup_checks u) left r k))
-  in_order_lem none k =
+      → (unless f (capture_outcome u (Some capture) room)).verdict ≡ in_order (first (ordered_checks u cycles)) (first_finding (shape_of u) cycles) roomy (tally_of u capture)
+  in_order_lem (Some r) k = ap (λ (x : Option Refusal). in_order x (first_finding (shape_of u) cycles) roomy (tally_of u capture)) (sym (append-found (setup_checks u) left r k))
+  in_order_lem None k =
       ap (λ (j : Judgement). (after_judging j (converted_transfers u (transfers_of u capture) room)).verdict) (judge-is k)
       ∙ settles (first left) (first_finding (shape_of u) cycles) (transfer_count (shape_of u) cycles) (converted_transfers u (transfers_of u capture) room) roomy (tally_of u capture)
       (λ a b. room-last k (transfer_count (shape_of u) cycles)
       (judge-is k ∙ ap (λ (x : Option Refusal). verdict x (first_finding (shape_of u) cycles) (transfer_count (shape_of u) cycles)) a
-      ∙ ap (λ (x : Option Finding). verdict none x (transfer_count (shape_of u) cycles)) b))
+      ∙ ap (λ (x : Option Finding). verdict None x (transfer_count (shape_of u) cycles)) b))
       ∙ ap (λ (x : Option Refusal). in_order x (first_finding (shape_of u) cycles) roomy (tally_of u capture)) (sym (append-passed (setup_checks u) left k))
 
 pub report_in_order : ReportInOrder

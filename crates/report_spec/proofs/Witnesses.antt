@@ -1,11 +1,11 @@
 -- The statements of specs/Promises put to use: truth tables of what they ask, each promise at its widest with its premises
 -- written out, and at examples typed by hand. A premise that is narrowed, or a conclusion that says less, breaks one.
 -- Assumes nothing.
+use Rattle.std.specs.Prelude.{Option, None, Some}
 use mathlib.Core.Path.{◌≡◌, refl, sym, ap, ◌∙◌}
 use mathlib.Core.Bool.{Bool, true, false}
 use mathlib.Core.List.{List, [], ◌∷◌, ◌++◌, map}
 use mathlib.Core.Logic.{◌≢◌}
-use mathlib.Core.Option.{Option, none, some}
 use Prim.Native.Nat.{ℕ, ◌%◌, ◌≤◌}
 use native.Mathlib.Omega.{arith}
 use lib.Dec.{lit≤}
@@ -59,10 +59,10 @@ pack-table = refl
 pub lanes-table : map (may_show Lanes) numbers ≡ shown_table true
 lanes-table = refl
 
-pub unread_octets : OctetsOf none
+pub unread_octets : OctetsOf None
 unread_octets = tt
 
-pub read-octets : (capture : List ℕ) → Octets capture → OctetsOf (some capture)
+pub read-octets : (capture : List ℕ) → Octets capture → OctetsOf (Some capture)
 read-octets capture o = o
 
 -- a sheet that is refused shows the number that the report shows for it
@@ -92,14 +92,14 @@ pub never_hidden : (u : Setup) (capture : Option (List ℕ)) (room : ℕ) (r : R
 never_hidden u capture room r o h e = no (sym h ∙ refusals_shown u capture room r o e)
 
 module _ (sheet : List ℕ) (u : Setup) (e : sheet_of sheet ≡ Read u) (capture : Option (List ℕ)) (room : ℕ) where
-  pub reads_setup : report_of (some sheet) capture room ≡ whole (setup_outcome u capture room)
+  pub reads_setup : report_of (Some sheet) capture room ≡ whole (setup_outcome u capture room)
   reads_setup = reports_setup sheet u e capture room
 
-  pub pack-no-ratio : u.mode ≡ Pack → OctetsOf capture → (report_of (some sheet) capture room).verdict ≡ Refused Ratio → ⊥
+  pub pack-no-ratio : u.mode ≡ Pack → OctetsOf capture → (report_of (Some sheet) capture room).verdict ≡ Refused Ratio → ⊥
   pack-no-ratio m o h = pack_never_ratio sheet u e m capture room Ratio o h refl
 
 -- without a TLAST wire the transfers are those of the take as it was sampled, whatever level is filled in
-module _ (u : Setup) (capture : List ℕ) (room : ℕ) (t : Tally) (clean : (setup_outcome u (some capture) room).verdict ≡ Clean t) where
+module _ (u : Setup) (capture : List ℕ) (room : ℕ) (t : Tally) (clean : (setup_outcome u (Some capture) room).verdict ≡ Clean t) where
   pub none_sampled : u.tlast ≡ Absent → t.packets ≡ transfer_count (shape_of u) capture
   none_sampled e = let p = tlast_none u capture room t e clean in p.packets ∙ p.transfers
 
@@ -117,25 +117,25 @@ module _ (u : Setup) (capture : List ℕ) (room : ℕ) (o : Octets capture) wher
   abbrev roomy : Option Refusal
   roomy = first (room_check (converted_of u capture) room ∷ [])
 
-  pub tests_first : (r : Refusal) → tests ≡ some r → (setup_outcome u (some capture) room).verdict ≡ Refused r
+  pub tests_first : (r : Refusal) → tests ≡ Some r → (setup_outcome u (Some capture) room).verdict ≡ Refused r
   tests_first r e = report_in_order u capture room o ∙ ap (λ (x : Option Refusal). in_order x finding roomy (tally_of u capture)) e
 
-  module _ (e : tests ≡ none) where
-    passed : (setup_outcome u (some capture) room).verdict ≡ in_order none finding roomy (tally_of u capture)
+  module _ (e : tests ≡ None) where
+    passed : (setup_outcome u (Some capture) room).verdict ≡ in_order None finding roomy (tally_of u capture)
     passed = report_in_order u capture room o ∙ ap (λ (x : Option Refusal). in_order x finding roomy (tally_of u capture)) e
 
-    pub then_broken : (f : Finding) → finding ≡ some f → (setup_outcome u (some capture) room).verdict ≡ Broken f.cycle f.rule
-    then_broken f h = passed ∙ ap (λ (x : Option Finding). in_order none x roomy (tally_of u capture)) h
+    pub then_broken : (f : Finding) → finding ≡ Some f → (setup_outcome u (Some capture) room).verdict ≡ Broken f.cycle f.rule
+    then_broken f h = passed ∙ ap (λ (x : Option Finding). in_order None x roomy (tally_of u capture)) h
 
-    module _ (h : finding ≡ none) where
-      sound : (setup_outcome u (some capture) room).verdict ≡ in_order none none roomy (tally_of u capture)
-      sound = passed ∙ ap (λ (x : Option Finding). in_order none x roomy (tally_of u capture)) h
+    module _ (h : finding ≡ None) where
+      sound : (setup_outcome u (Some capture) room).verdict ≡ in_order None None roomy (tally_of u capture)
+      sound = passed ∙ ap (λ (x : Option Finding). in_order None x roomy (tally_of u capture)) h
 
-      pub room-last : (r : Refusal) → roomy ≡ some r → (setup_outcome u (some capture) room).verdict ≡ Refused r
-      room-last r k = sound ∙ ap (λ (x : Option Refusal). in_order none none x (tally_of u capture)) k
+      pub room-last : (r : Refusal) → roomy ≡ Some r → (setup_outcome u (Some capture) room).verdict ≡ Refused r
+      room-last r k = sound ∙ ap (λ (x : Option Refusal). in_order None None x (tally_of u capture)) k
 
-      pub else_clean : roomy ≡ none → (setup_outcome u (some capture) room).verdict ≡ Clean (tally_of u capture)
-      else_clean k = sound ∙ ap (λ (x : Option Refusal). in_order none none x (tally_of u capture)) k
+      pub else_clean : roomy ≡ None → (setup_outcome u (Some capture) room).verdict ≡ Clean (tally_of u capture)
+      else_clean k = sound ∙ ap (λ (x : Option Refusal). in_order None None x (tally_of u capture)) k
 
 -- ---- at examples: P1, a port without a TLAST wire, a take with a reserved lane, the longest text
 
@@ -195,7 +195,7 @@ p1-least = least_records p1 p1_take 18 (tally 1 1 2) refl refl p1_slices ((legal
 -- `LeastRecords` is this statement of `mode=pack`
 abbrev LeastIn : Mode → Type 0
 LeastIn m =
-    (u : Setup) (capture : List ℕ) (room : ℕ) (t : Tally) → u.mode ≡ m → (setup_outcome u (some capture) room).verdict ≡ Clean t
+    (u : Setup) (capture : List ℕ) (room : ℕ) (t : Tally) → u.mode ≡ m → (setup_outcome u (Some capture) room).verdict ≡ Clean t
     → (ys : List ℕ) → Legal (out_shape u) ys → stream_items (out_shape u) ys ≡ stream_items (shape_of u) (transfers_of u capture)
     → t.records ≤ length (records (out_shape u) ys)
 
@@ -238,31 +238,31 @@ tagged_archived =
     (k.answers, k.leaves (replicate {A = ℕ} 20 0xEE) refl)
 
 -- at its widest, of the contract of the call: whatever it answers and leaves for the slices are the `records` and the result of the report
-pub as_reported : (u : Setup) (capture : List ℕ) (room : ℕ) (t : Tally) → u.mode ≡ Pack → Octets capture → (setup_outcome u (some capture) room).verdict ≡ Clean t
+pub as_reported : (u : Setup) (capture : List ℕ) (room : ℕ) (t : Tally) → u.mode ≡ Pack → Octets capture → (setup_outcome u (Some capture) room).verdict ≡ Clean t
     → (v : ℕ) → Width v → u.width_in % v ≡ 0 → length (cut (shape_of u) v (transfers_of u capture)) ≤ capture_most
     → (before after : List ℕ) (r : Written) → length before ≡ room
     → Repacked (at_width (shape_of u) v) u.width_out (cut (shape_of u) v (transfers_of u capture)) before after r
-    → (r ≡ Records t.records) × (after ≡ in_front (setup_outcome u (some capture) room).result before)
+    → (r ≡ Records t.records) × (after ≡ in_front (setup_outcome u (Some capture) room).result before)
 as_reported u capture room t m o e v w d a before after r n p =
     let k = archives_reported u capture room t m o e v w d a in
     (p.is ∙ ap (repack_answer (at_width (shape_of u) v) u.width_out (cut (shape_of u) v (transfers_of u capture))) n ∙ k.answers, p.leaves ∙ k.leaves before n)
 
 -- one octet short
-pub p1_unwritten : (out : List ℕ) → in_front (report_of p1_sheet (some p1_take) 17).result out ≡ out
+pub p1_unwritten : (out : List ℕ) → in_front (report_of p1_sheet (Some p1_take) 17).result out ≡ out
 unfolding report_of sheet_of size judge_answer repack_answer
-p1_unwritten = (only_when_clean p1_sheet (some p1_take) 17 refl).kept
+p1_unwritten = (only_when_clean p1_sheet (Some p1_take) 17 refl).kept
 
 pub p1-room : (◌≢◌ {A = ℕ} 5 4) × (◌≢◌ {A = ℕ} 5 14)
 unfolding report_of sheet_of size judge_answer repack_answer
-p1-room = never_reserved_nor_unclean p1_sheet (some p1_take) 17 Room ((octets_tested p1_take).1 refl) refl
+p1-room = never_reserved_nor_unclean p1_sheet (Some p1_take) 17 Room ((octets_tested p1_take).1 refl) refl
 
 -- the same, of a broken take
 abbrev narrow : Option (List ℕ)
 narrow = says "width_in=1\nwidth_out=1\nmode=pack\ntlast=wired\nuser=0\n"
 
-pub broken_unwritten : (out : List ℕ) → in_front (report_of narrow (some (cycle 0x0E 0 0 1)) 65536).result out ≡ out
+pub broken_unwritten : (out : List ℕ) → in_front (report_of narrow (Some (cycle 0x0E 0 0 1)) 65536).result out ≡ out
 unfolding report_of sheet_of size judge_answer
-broken_unwritten = (only_when_clean narrow (some (cycle 0x0E 0 0 1)) 65536 refl).kept
+broken_unwritten = (only_when_clean narrow (Some (cycle 0x0E 0 0 1)) 65536 refl).kept
 
 abbrev most : ℕ
 most = 18446744073709551615

@@ -1,7 +1,6 @@
 -- What is proved of the report, a statement each. Words in quotes are paper 01's or, where it is said, a request's of paper 02.
 -- The proofs are in proofs/Promises.
-use Rattle.std.specs.Prelude.{◌≡◌, Bool, true, false, ◌||◌, List, [], ◌∷◌, ◌++◌, map, ◌≢◌, ℕ, ◌*◌, ◌%◌, ◌^◌, ◌≤◌, ◌<◌, eqb, length}
-use Rattle.std.proofs.Math.Option.{Option, none, some}
+use Rattle.std.specs.Prelude.{◌≡◌, Bool, true, false, ◌||◌, List, [], ◌∷◌, ◌++◌, map, ◌≢◌, ℕ, ◌*◌, ◌%◌, ◌^◌, ◌≤◌, ◌<◌, eqb, length, Option, None, Some}
 use Rattle.refusal.specs.Code.{code_of}
 use Rattle.refusal.specs.declared.Refusal.{Refusal}
 use Rattle.stream_spec.specs.declared.Written.TheVariants.{Records}
@@ -26,14 +25,14 @@ use Rattle.report_spec.specs.Report.{Word, says_clean, says_broken, says_refused
 
 -- every number of a take that could be read is an octet
 abbrev pub OctetsOf : Option (List ℕ) → Type 0
-OctetsOf none = Unit {0}
-OctetsOf (some octets) = Octets octets
+OctetsOf None = Unit {0}
+OctetsOf (Some octets) = Octets octets
 
 -- what is reported of a sheet that was read
 abbrev pub ReportsSetup : Type 0
 ReportsSetup =
     (sheet : List ℕ) (u : Setup) → sheet_of sheet ≡ Read u → (capture : Option (List ℕ)) (room : ℕ)
-    → report_of (some sheet) capture room ≡ whole (setup_outcome u capture room)
+    → report_of (Some sheet) capture room ≡ whole (setup_outcome u capture room)
 
 -- ---- "`out.bin` is written only when the verdict is clean."
 
@@ -71,8 +70,8 @@ pub record CleanTally (u : Setup) (capture : List ℕ) (room : ℕ) (result : Li
 
 abbrev pub CleanTallies : Type 0
 CleanTallies =
-    (u : Setup) (capture : List ℕ) (room : ℕ) (t : Tally) → Octets capture → (setup_outcome u (some capture) room).verdict ≡ Clean t
-    → CleanTally u capture room (setup_outcome u (some capture) room).result t
+    (u : Setup) (capture : List ℕ) (room : ℕ) (t : Tally) → Octets capture → (setup_outcome u (Some capture) room).verdict ≡ Clean t
+    → CleanTally u capture room (setup_outcome u (Some capture) room).result t
 
 -- ---- T-03: ports without a TLAST wire
 
@@ -93,8 +92,8 @@ pub record OnePacketEach (u : Setup) (capture result : List ℕ) (t : Tally) : T
 
 abbrev pub TlastNone : Type 0
 TlastNone =
-    (u : Setup) (capture : List ℕ) (room : ℕ) (t : Tally) → u.tlast ≡ Absent → (setup_outcome u (some capture) room).verdict ≡ Clean t
-    → OnePacketEach u capture (setup_outcome u (some capture) room).result t
+    (u : Setup) (capture : List ℕ) (room : ℕ) (t : Tally) → u.tlast ≡ Absent → (setup_outcome u (Some capture) room).verdict ≡ Clean t
+    → OnePacketEach u capture (setup_outcome u (Some capture) room).result t
 
 -- ".. count on low and pack across the whole take; they change to the new word `tlast=low`": the transfers are those that were
 -- sampled, no packet ends, and the result is what all transfers become together
@@ -105,15 +104,15 @@ pub record NoPacketEnds (u : Setup) (capture result : List ℕ) (t : Tally) : Ty
 
 abbrev pub TlastLow : Type 0
 TlastLow =
-    (u : Setup) (capture : List ℕ) (room : ℕ) (t : Tally) → u.tlast ≡ Low → (setup_outcome u (some capture) room).verdict ≡ Clean t
-    → NoPacketEnds u capture (setup_outcome u (some capture) room).result t
+    (u : Setup) (capture : List ℕ) (room : ℕ) (t : Tally) → u.tlast ≡ Low → (setup_outcome u (Some capture) room).verdict ≡ Clean t
+    → NoPacketEnds u capture (setup_outcome u (Some capture) room).result t
 
 -- ---- T-07: no shorter stream. With `mode=pack` the number that a report shows as `records` is at most that of every legal stream of
 -- the result's width and user bits which carries the items of the harvested transfers, in their order.
 
 abbrev pub LeastRecords : Type 0
 LeastRecords =
-    (u : Setup) (capture : List ℕ) (room : ℕ) (t : Tally) → u.mode ≡ Pack → (setup_outcome u (some capture) room).verdict ≡ Clean t
+    (u : Setup) (capture : List ℕ) (room : ℕ) (t : Tally) → u.mode ≡ Pack → (setup_outcome u (Some capture) room).verdict ≡ Clean t
     → (ys : List ℕ) → Legal (out_shape u) ys → stream_items (out_shape u) ys ≡ stream_items (shape_of u) (transfers_of u capture)
     → t.records ≤ length (records (out_shape u) ys)
 
@@ -128,9 +127,9 @@ pub record AsReported (u : Setup) (v : ℕ) (archived : List ℕ) (room : ℕ) (
 
 abbrev pub ArchivesReported : Type 0
 ArchivesReported =
-    (u : Setup) (capture : List ℕ) (room : ℕ) (t : Tally) → u.mode ≡ Pack → Octets capture → (setup_outcome u (some capture) room).verdict ≡ Clean t
+    (u : Setup) (capture : List ℕ) (room : ℕ) (t : Tally) → u.mode ≡ Pack → Octets capture → (setup_outcome u (Some capture) room).verdict ≡ Clean t
     → (v : ℕ) → Width v → u.width_in % v ≡ 0 → length (sliced (shape_of u) v (transfers_of u capture)) ≤ 65536
-    → AsReported u v (sliced (shape_of u) v (transfers_of u capture)) room (setup_outcome u (some capture) room).result t
+    → AsReported u v (sliced (shape_of u) v (transfers_of u capture)) room (setup_outcome u (Some capture) room).result t
 
 -- ---- which refusals show once the sheet is read, by their numbers: 1, 2, 3, 5, since T-06 16, and 6 in lanes mode. So 4 and 14
 -- never do: a reserved lane is R4, and a broken take is a verdict of its own.
@@ -162,7 +161,7 @@ NeverReservedNorUnclean =
 abbrev pub PackNeverRatio : Type 0
 PackNeverRatio =
     (sheet : List ℕ) (u : Setup) → sheet_of sheet ≡ Read u → u.mode ≡ Pack
-    → (capture : Option (List ℕ)) (room : ℕ) (r : Refusal) → OctetsOf capture → (report_of (some sheet) capture room).verdict ≡ Refused r → (code_of r).0 ≢ 6
+    → (capture : Option (List ℕ)) (room : ℕ) (r : Refusal) → OctetsOf capture → (report_of (Some sheet) capture room).verdict ≡ Refused r → (code_of r).0 ≢ 6
 
 -- ---- 01's order as one list: "WIDTH of either width, RATIO in lanes mode, LENGTH, FIELD, a broken verdict, and ROOM last",
 -- and T-06's USERBITS "straight after WIDTH". For a sheet and a take that were read, the verdict is the first of these that is there, or else clean.
@@ -180,15 +179,15 @@ tally_of u capture =
     (length (records (out_shape u) (converted_of u capture)))
 
 abbrev pub in_order : Option Refusal → Option Finding → Option Refusal → Tally → Verdict
-in_order (some r) finding room t = Refused r
-in_order none (some f) room t = Broken f.cycle f.rule
-in_order none none (some r) t = Refused r
-in_order none none none t = Clean t
+in_order (Some r) finding room t = Refused r
+in_order None (Some f) room t = Broken f.cycle f.rule
+in_order None None (Some r) t = Refused r
+in_order None None None t = Clean t
 
 abbrev pub ReportInOrder : Type 0
 ReportInOrder =
     (u : Setup) (capture : List ℕ) (room : ℕ) → Octets capture
-    → (setup_outcome u (some capture) room).verdict
+    → (setup_outcome u (Some capture) room).verdict
     ≡ in_order (first (ordered_checks u (cycles_of u capture))) (first_finding (shape_of u) (cycles_of u capture))
     (first (room_check (converted_of u capture) room ∷ [])) (tally_of u capture)
 

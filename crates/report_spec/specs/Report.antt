@@ -1,8 +1,7 @@
 -- The report (paper 01, 'The report program'): from a setup sheet and a take of cycle records to a verdict, the text that is
 -- printed and the octets of the result. Words in quotes are 01's or, where it is said, those of T-03 or T-06 (paper 02). What a sheet says is
 -- report_setup_spec's `sheet_of`; what judging, harvesting, fill-in, repacking and downsizing answer is stream_spec's.
-use Rattle.std.specs.Prelude.{◌≡◌, Bool, true, false, cond, List, [], ◌∷◌, ◌++◌, ℕ, ◌+◌, ◌≤◌, ltb, length}
-use Rattle.std.proofs.Math.Option.{Option, none, some}
+use Rattle.std.specs.Prelude.{◌≡◌, Bool, true, false, cond, List, [], ◌∷◌, ◌++◌, ℕ, ◌+◌, ◌≤◌, ltb, length, Option, None, Some}
 use Rattle.refusal.specs.Code.{code_of}
 use Rattle.refusal.specs.declared.Refusal.{Refusal}
 use Rattle.refusal.specs.declared.Refusal.TheVariants.{Length, Setup as BadSheet}
@@ -33,8 +32,8 @@ use Rattle.report_spec.specs.declared.Summary.{Summary}
 
 -- What is known of a file: its octets, or nothing where it could not be read whole.
 abbrev pub contents : Bool → List ℕ → Option (List ℕ)
-contents true octets = some octets
-contents false octets = none
+contents true octets = Some octets
+contents false octets = None
 
 -- ---- the verdict and the result
 
@@ -104,8 +103,8 @@ after_judging (Sound count) next = next count
 
 -- "A `take.bin` that can't be read counts as over-long."
 abbrev pub capture_outcome : Setup → Option (List ℕ) → ℕ → Outcome
-capture_outcome u none room = refused Length
-capture_outcome u (some capture) room =
+capture_outcome u None room = refused Length
+capture_outcome u (Some capture) room =
     after_judging (judge_answer (shape_of u) (cycles_of u capture)) (converted_transfers u (transfers_of u capture) room)
 
 -- ".. then WIDTH of either width, RATIO in lanes mode .."; T-06: USERBITS "straight after WIDTH"
@@ -118,11 +117,11 @@ setup_checks u = shape_checks (shape_of u) (u.width_out ∷ []) ++ ratio_checks 
 
 -- the sheet's widths, its user bits and its ratio pass their tests
 abbrev pub Passes : Setup → Type 0
-Passes u = first (setup_checks u) ≡ none
+Passes u = first (setup_checks u) ≡ None
 
 abbrev pub unless : Option Refusal → Outcome → Outcome
-unless (some r) next = refused r
-unless none next = next
+unless (Some r) next = refused r
+unless None next = next
 
 abbrev pub setup_outcome : Setup → Option (List ℕ) → ℕ → Outcome
 setup_outcome u capture room = unless (first (setup_checks u)) (capture_outcome u capture room)
@@ -134,8 +133,8 @@ sheet_outcome (Read u) capture room = setup_outcome u capture room
 
 -- `room` is the length of the lent output
 abbrev pub outcome_of : Option (List ℕ) → Option (List ℕ) → ℕ → Outcome
-outcome_of none capture room = refused BadSheet
-outcome_of (some sheet) capture room = sheet_outcome (sheet_of sheet) capture room
+outcome_of None capture room = refused BadSheet
+outcome_of (Some sheet) capture room = sheet_outcome (sheet_of sheet) capture room
 
 -- ---- the numbers and the text of a verdict
 

@@ -1,8 +1,8 @@
 -- The ladder of downsize's refusals, a law for each way the code returns, and the number of slices. Assumes nothing.
+use Rattle.std.specs.Prelude.{None, Some}
 use mathlib.Core.Path.{◌≡◌, refl, sym, ap, ◌∙◌}
 use mathlib.Core.Bool.{true, false}
 use mathlib.Core.List.{List, [], ◌∷◌, ◌++◌}
-use mathlib.Core.Option.{none, some}
 use Prim.Native.Nat.{ℕ, ◌-◌, ◌*◌, ◌/◌, ◌%◌, ◌≤◌, ◌<◌}
 use native.Mathlib.Nat.{suc-mul, zero-mul, mul-le-mul, div-le_self}
 use native.Mathlib.Omega.{arith}
@@ -38,7 +38,7 @@ module _ (s : Shape) (v : ℕ) (xs : List ℕ) (t : Tested s v xs) where
   pub cuts_of : Cuts s (at_width s v)
   cuts_of =
       let f = shapes_fit s v t.shapes in
-      record { high = f.0.high; low = f.0.low; small = f.1.high; some = f.1.low; whole = ratio-fits s v t.ratio; user = f.0.user; same = refl }
+      record { high = f.0.high; low = f.0.low; small = f.1.high; Some = f.1.low; whole = ratio-fits s v t.ratio; user = f.0.user; same = refl }
 
   pub passed_of : Passed s xs
   passed_of = take-passed s xs (shapes_fit s v t.shapes).0 t.length
@@ -79,11 +79,11 @@ module _ (s : Shape) (v : ℕ) (xs : List ℕ) (c : Cuts s (at_width s v)) (z : 
 -- ---- the answers
 
 module _ (s : Shape) (v : ℕ) (xs out : List ℕ) where
-  refused : (f : Refusal) → downsize_refusal s v xs (length out) ≡ some f → Downsized s v xs out out (Refused f)
+  refused : (f : Refusal) → downsize_refusal s v xs (length out) ≡ Some f → Downsized s v xs out out (Refused f)
   unfolding downsize_answer downsize_after
   refused f e = record { is = rw e refl; shows = rw e refl; leaves = rw e refl }
 
-  accepted : (n : ℕ) (after : List ℕ) → downsize_refusal s v xs (length out) ≡ none → n ≡ length (sliced_transfers s v xs)
+  accepted : (n : ℕ) (after : List ℕ) → downsize_refusal s v xs (length out) ≡ None → n ≡ length (sliced_transfers s v xs)
       → after ≡ in_front (sliced s v xs) out → Downsized s v xs out after (Records n)
   unfolding downsize_answer downsize_after
   accepted n after e f g = record { is = rw (e, f) refl; shows = rw (e, f) refl; leaves = rw e g }
@@ -95,17 +95,17 @@ module _ (s : Shape) (v : ℕ) (xs out : List ℕ) where
   abbrev later-checks : List (Check Refusal)
   later-checks = ratio_check s v ∷ length_check s xs ∷ last-checks
 
-  pub bad-shapes : (f : Refusal) → first (shape_checks s (v ∷ [])) ≡ some f → Downsized s v xs out out (Refused f)
+  pub bad-shapes : (f : Refusal) → first (shape_checks s (v ∷ [])) ≡ Some f → Downsized s v xs out out (Refused f)
   bad-shapes f h = refused f (append-found (shape_checks s (v ∷ [])) later-checks f h)
 
-  module _ (w : first (shape_checks s (v ∷ [])) ≡ none) where
+  module _ (w : first (shape_checks s (v ∷ [])) ≡ None) where
     behind-shapes : downsize_refusal s v xs (length out) ≡ first later-checks
     behind-shapes = append-passed (shape_checks s (v ∷ [])) later-checks w
 
     pub bad-ratio : (ratio_check s v).found ≡ true → Downsized s v xs out out (Refused Ratio)
     bad-ratio h = refused Ratio (behind-shapes ∙ rw h refl)
 
-    pub bad-length : (ratio_check s v).found ≡ false → (f : Refusal) → first (length_check s xs ∷ []) ≡ some f → Downsized s v xs out out (Refused f)
+    pub bad-length : (ratio_check s v).found ≡ false → (f : Refusal) → first (length_check s xs ∷ []) ≡ Some f → Downsized s v xs out out (Refused f)
     bad-length d f h = refused f (behind-shapes ∙ rw d (append-found (length_check s xs ∷ []) last-checks f h))
 
   module _ (t : Tested s v xs) where
@@ -113,7 +113,7 @@ module _ (s : Shape) (v : ℕ) (xs out : List ℕ) where
     ladder = behind-shapes t.shapes ∙ rw (t.ratio, t.length) refl
 
     -- a record's fault
-    pub bad_record : (f : Refusal) → first (transfer_checks s 0 (records s xs)) ≡ some f → Downsized s v xs out out (Refused f)
+    pub bad_record : (f : Refusal) → first (transfer_checks s 0 (records s xs)) ≡ Some f → Downsized s v xs out out (Refused f)
     bad_record f h = refused f (ladder ∙ append-found (transfer_checks s 0 (records s xs)) (room_check (sliced s v xs) (length out) ∷ []) f h)
 
     -- no fault: the code has the sizes of the records in z and y

@@ -1,9 +1,9 @@
 -- The lanes of one slice: the lowest lanes of a header's masks, what is left above them, and the slice's octets.
 -- Assumes nothing.
+use Rattle.std.specs.Prelude.{Option}
 use mathlib.Core.Path.{◌≡◌, refl, sym, ap, ap₂, ◌∙◌}
 use mathlib.Core.Bool.{Bool, true, false, cond}
 use mathlib.Core.List.{List, [], ◌∷◌, ◌++◌, map}
-use mathlib.Core.Option.{Option}
 use Prim.Native.Nat.{ℕ, zero, suc, ◌+◌, ◌*◌, ◌/◌, ◌%◌, ◌^◌, ◌≤◌, ◌<◌}
 use native.Mathlib.Nat.{add-zero, add-suc, zero-mul, suc-mul, mul_comm, mul-le-mul, div-one, div-div-eq-div-mul, pow-suc, pow-succ', mod-eq_of_lt}
 use native.Mathlib.Omega.{arith}

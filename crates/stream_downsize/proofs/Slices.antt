@@ -1,8 +1,8 @@
 -- The slices of one record, one after the other, stated by what remains. Assumes nothing.
+use Rattle.std.specs.Prelude.{Option}
 use mathlib.Core.Path.{◌≡◌, refl, sym, ap, ap₂, ◌∙◌, subst}
 use mathlib.Core.Bool.{Bool, false}
 use mathlib.Core.List.{List, [], ◌++◌, append_assoc, append-nil}
-use mathlib.Core.Option.{Option}
 use Prim.Native.Nat.{ℕ, zero, suc, ◌+◌, ◌-◌, ◌*◌, ◌/◌, ◌%◌, ◌≤◌, ◌<◌}
 use native.Mathlib.Nat.{suc-mul, zero-mul, mul-le-mul, div-add-mod'}
 use native.Mathlib.Omega.{arith}
@@ -179,7 +179,7 @@ module _ {t : Shape} {rec out₀ : List ℕ} {at : ℕ} {all out : List ℕ} {h 
 
   module _ {k to from : ℕ} (s : Slicing t rec out₀ at all out h u k to from) (p : k ≤ 0) where
     only : Slicing t rec out₀ at all out h u 0 to from
-    only = let none : k ≡ 0 = omega arith in subst (λ (m : ℕ). Slicing t rec out₀ at all out h u m to from) none s
+    only = let None : k ≡ 0 = omega arith in subst (λ (m : ℕ). Slicing t rec out₀ at all out h u m to from) None s
 
     pub slicing_last-room : to + size t ≤ length out
     slicing_last-room = omega (arith, only.room, ap length (last_slice t h u (drop from rec)), slice_long t h u (drop from rec) (odd h.flags))

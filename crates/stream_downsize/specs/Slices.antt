@@ -1,7 +1,6 @@
 -- The slices of a record as the code makes them: from a header whose masks lose the lanes that are done. What a slice is
 -- stands in stream_spec's Packed; here is what the helpers' contracts say of them.
-use Rattle.std.specs.Prelude.{◌≡◌, Bool, false, cond, List, [], ◌∷◌, map, ℕ, suc, ◌+◌, ◌*◌, ◌/◌, ◌%◌, ◌^◌, ◌≤◌, length}
-use Rattle.std.proofs.Math.Option.{Option, none}
+use Rattle.std.specs.Prelude.{◌≡◌, Bool, false, cond, List, [], ◌∷◌, map, ℕ, suc, ◌+◌, ◌*◌, ◌/◌, ◌%◌, ◌^◌, ◌≤◌, length, Option, None}
 use Rattle.refusal.specs.Checks.{first}
 use Rattle.stream_spec.specs.declared.Shape.{Shape}
 use Rattle.stream_spec.specs.Items.{Pair, Transfer}
@@ -16,20 +15,20 @@ use Rattle.stream_record.specs.declared.Header.{Header}
 
 -- the tests in front have passed
 pub record Tested (s : Shape) (v : ℕ) (xs : List ℕ) : Type 0 where
-  pub shapes : first (shape_checks s (v ∷ [])) ≡ none
+  pub shapes : first (shape_checks s (v ∷ [])) ≡ None
   pub ratio : (ratio_check s v).found ≡ false
   pub length : (length_check s xs).found ≡ false
 
 -- no record of the take has a fault
 abbrev pub NoFault : Shape → List ℕ → Type 0
-NoFault s xs = first (transfer_checks s 0 (records s xs)) ≡ none
+NoFault s xs = first (transfer_checks s 0 (records s xs)) ≡ None
 
 -- widths from 1 to 16 of which the second divides the first, and one number of user bits, at most 4
 pub record Cuts (s t : Shape) : Type 0 where
   pub high : s.width ≤ width_most
   pub low : 1 ≤ s.width
   pub small : t.width ≤ width_most
-  pub some : 1 ≤ t.width
+  pub Some : 1 ≤ t.width
   pub whole : s.width % t.width ≡ 0
   pub user : s.user ≤ user_most
   pub same : t.user ≡ s.user

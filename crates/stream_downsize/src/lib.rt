@@ -2,8 +2,7 @@
 // a refusal. Which octet of a record is what is in the crate stream_record; the packed form is not made here, but in stream_repack.
 #![tactic(auto)]
 
-ghost use Rattle.std.specs.Prelude.{◌≡◌, List, [], ◌∷◌, ◌++◌, ℕ, ◌+◌, ◌≤◌, length, take, drop};
-ghost use Rattle.std.proofs.Math.Option.{none};
+ghost use Rattle.std.specs.Prelude.{◌≡◌, List, [], ◌∷◌, ◌++◌, ℕ, ◌+◌, ◌≤◌, length, take, drop, None};
 ghost use Rattle.refusal.specs.Checks.{first};
 ghost use Rattle.stream_spec.specs.Layout.{head_octets, width_most, size, odd, types_of, lanes_of, users_of, octets_of, sliced};
 ghost use Rattle.stream_spec.specs.Checks.{shape_checks};
@@ -175,7 +174,7 @@ fn convert(s: Shape, v: usize, transfers: &[u8], out: &mut [u8]) -> Written
 
 // The shape and the output's width have passed their tests; their ratio and the length are left.
 fn divide(s: Shape, v: usize, transfers: &[u8], out: &mut [u8]) -> Written
-    requires { first (shape_checks s (v ∷ [])) ≡ none }
+    requires { first (shape_checks s (v ∷ [])) ≡ None }
     ensures { Downsized s v transfers.now out.old out.new result }
 {
     if s.width % v != 0 {

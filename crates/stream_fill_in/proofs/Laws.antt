@@ -1,9 +1,9 @@
 -- Fill-in, record by record: what is known at the start, after one record more, and at the end; and the answer of the call.
 -- Assumes nothing.
+use Rattle.std.specs.Prelude.{Option, None, Some}
 use mathlib.Core.Path.{◌≡◌, refl, sym, ap, ◌∙◌, subst}
 use mathlib.Core.Bool.{Bool}
 use mathlib.Core.List.{List, [], ◌∷◌, ◌++◌, map}
-use mathlib.Core.Option.{Option, none, some}
 use Prim.Native.Nat.{ℕ, zero, suc, ◌+◌, ◌-◌, ◌*◌, ◌/◌, ◌≤◌, ◌<◌}
 use native.Mathlib.Nat.{zero-add}
 use native.Mathlib.Omega.{arith}
@@ -128,9 +128,9 @@ module _ (level : Bool) (s : Shape) (xs : List ℕ) (r : Checked) (told : checke
       }
 
   pub refused : (f : Refusal) → r ≡ Not f → FilledIn level s xs xs (Refused f)
-  refused f h = answered (some f) xs (refused-is r (take_checks s xs) told f h) refl
+  refused f h = answered (Some f) xs (refused-is r (take_checks s xs) told f h) refl
 
   pub filled : r ≡ Yes → (after : List ℕ) (n : ℕ) → Filled level s xs after n → FilledIn level s xs after (Records n)
   filled h after n f =
       subst (λ (m : ℕ). FilledIn level s xs after (Records m)) (sym f.count)
-      (answered none after (passed_is r (take_checks s xs) told h) f.octets)
+      (answered None after (passed_is r (take_checks s xs) told h) f.octets)

@@ -1,9 +1,9 @@
 -- Harvest's answer from judge's verdict: a refused take is refused alike, a broken one is unclean, and of a clean one only
 -- the room is left to be seen. Assumes nothing.
+use Rattle.std.specs.Prelude.{Option, None, Some}
 use mathlib.Core.Path.{◌≡◌, refl, sym, ap, ap₂, ◌∙◌}
 use mathlib.Core.Bool.{Bool, true, false}
 use mathlib.Core.List.{List, [], ◌∷◌, ◌++◌, map}
-use mathlib.Core.Option.{Option, none, some}
 use Prim.Native.Nat.{ℕ, ◌*◌, ◌≤◌, ◌<◌}
 use native.Mathlib.Omega.{arith}
 use borrow.Author.Tests.{lt-ltb, le-ltb}
@@ -30,8 +30,8 @@ use Rattle.stream_harvest.specs.Filling.{TakeFits}
 -- ---- the first refusal, from the verdict
 
 abbrev or_else : Option Refusal → Option Refusal → Option Refusal
-or_else (some r) o = some r
-or_else none o = o
+or_else (Some r) o = Some r
+or_else None o = o
 
 first-append : (cs ds : List (Check Refusal)) → first (cs ++ ds) ≡ or_else (first cs) (first ds)
 first-append [] ds = refl
@@ -42,8 +42,8 @@ first-append (c ∷ cs) ds = go c.found refl (first-append cs ds)
     go false e ih = rw e ih
 
 abbrev unclean_of : Option Finding → Option Refusal
-unclean_of (some f) = some (Unclean f.cycle f.rule)
-unclean_of none = none
+unclean_of (Some f) = Some (Unclean f.cycle f.rule)
+unclean_of None = None
 
 unclean_first : (fs : List (Check Finding)) → first (map unclean_check fs) ≡ unclean_of (first fs)
 unclean_first [] = refl
@@ -55,14 +55,14 @@ unclean_first (f ∷ fs) = go f.found refl (unclean_first fs)
 
 -- what a verdict leaves: a refusal, or else what follows
 abbrev refusal_of : Verdict → Option Refusal → Option Refusal
-refusal_of (Refused r) o = some r
-refusal_of (Broken cycle rule) o = some (Unclean cycle rule)
+refusal_of (Refused r) o = Some r
+refusal_of (Broken cycle rule) o = Some (Unclean cycle rule)
 refusal_of (Clean n) o = o
 
 left_of : (j : Option Refusal) (f : Option Finding) (n : ℕ) (o : Option Refusal) → or_else j (or_else (unclean_of f) o) ≡ refusal_of (verdict j f n) o
-left_of (some r) f n o = refl
-left_of none (some f) n o = refl
-left_of none none n o = refl
+left_of (Some r) f n o = refl
+left_of None (Some f) n o = refl
+left_of None None n o = refl
 
 -- ---- the answers
 
@@ -70,16 +70,16 @@ module _ (s : Shape) (xs : List ℕ) (v : Verdict) (judged : v ≡ judge_answer 
   left : (room : ℕ) → harvest_refusal s xs room ≡ refusal_of v (first (room_check (harvested s xs) room ∷ []))
   unfolding judge_answer
   left room =
-      let rules = map unclean_check (findings s 0 none (records s xs)) in
+      let rules = map unclean_check (findings s 0 None (records s xs)) in
       let roomy = room_check (harvested s xs) room ∷ [] in
       first-append (judge_checks s xs) (rules ++ roomy)
       ∙ ap (or_else (first (judge_checks s xs)))
-      (first-append rules roomy ∙ ap (λ (o : Option Refusal). or_else o (first roomy)) (unclean_first (findings s 0 none (records s xs))))
+      (first-append rules roomy ∙ ap (λ (o : Option Refusal). or_else o (first roomy)) (unclean_first (findings s 0 None (records s xs))))
       ∙ left_of (first (judge_checks s xs)) (first_finding s xs) (transfer_count s xs) (first roomy)
       ∙ sym (ap (λ (x : Verdict). refusal_of x (first roomy)) judged)
 
   module _ (before : List ℕ) where
-    refused_by : (r : Refusal) → harvest_refusal s xs (length before) ≡ some r → Harvested s xs before before (NotWritten r)
+    refused_by : (r : Refusal) → harvest_refusal s xs (length before) ≡ Some r → Harvested s xs before before (NotWritten r)
     unfolding harvest_answer harvest_after
     refused_by r e = record { is = rw e refl; shows = rw e refl; leaves = rw e refl }
 
@@ -128,6 +128,6 @@ module _ (s : Shape) (xs : List ℕ) (v : Verdict) (judged : v ≡ judge_answer 
         unfolding harvest_answer harvest_after
         harvest-written l after e =
             let fits : length (harvested s xs) ≤ length before = omega (arith, long-is) in
-            let taken : harvest_refusal s xs (length before) ≡ none = by_room ∙ rw (le-ltb (length before) (length (harvested s xs)) fits) refl in
+            let taken : harvest_refusal s xs (length before) ≡ None = by_room ∙ rw (le-ltb (length before) (length (harvested s xs)) fits) refl in
             let told = ap {B = Written} Records counted in
             record { is = rw taken told; shows = rw taken (ap written_values told); leaves = rw taken e }

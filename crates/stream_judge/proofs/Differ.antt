@@ -1,9 +1,9 @@
 -- Two records compared in groups of octets that may overlap, a group as one word, and by the lowest bit of octet 0.
 -- Assumes nothing.
+use Rattle.std.specs.Prelude.{Some}
 use mathlib.Core.Path.{◌≡◌, refl, sym, ap, ap₂, ◌∙◌}
 use mathlib.Core.Bool.{Bool, true, false, not, ◌&&◌, and-false, beq}
 use mathlib.Core.List.{List, [], ◌∷◌}
-use mathlib.Core.Option.{some}
 use Prim.Native.Nat.{ℕ, zero, suc, ◌+◌, ◌-◌, ◌*◌, ◌%◌, ◌≤◌, ◌<◌}
 use native.Mathlib.Nat.{div-one}
 use native.Mathlib.Numerals.{add-one}
@@ -85,14 +85,14 @@ abbrev Differ : List ℕ → List ℕ → ℕ → ℕ → Bool
 Differ p r k i = not (same_octets (take k (drop i p)) (take k (drop i r)))
 
 module _ (p r : List ℕ) where
-  pub differs-last : (get_or p 0 0 % 2 ≡ get_or r 0 0 % 2 → ⊥) → true ≡ differs (some p) r
+  pub differs-last : (get_or p 0 0 % 2 ≡ get_or r 0 0 % 2 → ⊥) → true ≡ differs (Some p) r
   differs-last h = rw (last-other (get_or p 0 0) (get_or r 0 0) h, and-false (same_octets (body p) (body r))) refl
 
   -- a group that differs
-  pub differs_group : (k i : ℕ) (d : Bool) → 1 ≤ i → d ≡ Differ p r k i → d ≡ true → true ≡ differs (some p) r
+  pub differs_group : (k i : ℕ) (d : Bool) → 1 ≤ i → d ≡ Differ p r k i → d ≡ true → true ≡ differs (Some p) r
   differs_group k i d h e f = go (same_octets (drop 1 p) (drop 1 r)) refl
     where
-      go : (t : Bool) → same_octets (drop 1 p) (drop 1 r) ≡ t → true ≡ differs (some p) r
+      go : (t : Bool) → same_octets (drop 1 p) (drop 1 r) ≡ t → true ≡ differs (Some p) r
       go false q = rw q refl
       go true q =
           let from : (xs : List ℕ) → drop i xs ≡ drop (i - 1) (drop 1 xs) =
@@ -112,7 +112,7 @@ module _ (p r : List ℕ) where
 
   module _ (long : length p ≡ length r) (last : get_or p 0 0 % 2 ≡ get_or r 0 0 % 2) where
     -- no octet from 1 on differs
-    differs_not : Same p r 1 (length r) → false ≡ differs (some p) r
+    differs_not : Same p r 1 (length r) → false ≡ differs (Some p) r
     differs_not f =
         let rest : drop 1 p ≡ drop 1 r =
         ext_get_or 0 (drop 1 p) (drop 1 r) (length-drop 1 p ∙ ap (λ (n : ℕ). n - 1) long ∙ sym (length-drop 1 r))
@@ -121,23 +121,23 @@ module _ (p r : List ℕ) where
         rw (alike, last-same (get_or p 0 0) (get_or r 0 0) last) refl
 
     -- the last group decides
-    differs-rest : (k i : ℕ) (d : Bool) → 1 ≤ i → d ≡ Differ p r k i → (Same p r i (i + k) → Same p r 1 (length r)) → d ≡ differs (some p) r
+    differs-rest : (k i : ℕ) (d : Bool) → 1 ≤ i → d ≡ Differ p r k i → (Same p r i (i + k) → Same p r 1 (length r)) → d ≡ differs (Some p) r
     differs-rest k i d h e f = go d refl
       where
-        go : (t : Bool) → d ≡ t → d ≡ differs (some p) r
+        go : (t : Bool) → d ≡ t → d ≡ differs (Some p) r
         go true q = q ∙ differs_group k i d h e q
         go false q = q ∙ differs_not (f (group_same k i d e q))
 
     -- records of 8 octets: 1 to 4 and 4 to 7
-    pub ends_8 : length r ≡ 8 → Same p r 1 5 → (d : Bool) → d ≡ Differ p r 4 4 → d ≡ differs (some p) r
+    pub ends_8 : length r ≡ 8 → Same p r 1 5 → (d : Bool) → d ≡ Differ p r 4 4 → d ≡ differs (Some p) r
     ends_8 n s d e = differs-rest 4 4 d (omega arith) e (λ x. joined p r 1 5 4 (length r) s (λ j a b. x j a (omega arith)) (omega arith))
 
     -- longer ones: the groups from 1 on and the last eight meet ..
-    pub ends_same : (e : ℕ) → Same p r 1 e → Same p r (length r - 8) (length r) → length r ≤ e + 8 → false ≡ differs (some p) r
+    pub ends_same : (e : ℕ) → Same p r 1 e → Same p r (length r - 8) (length r) → length r ≤ e + 8 → false ≡ differs (Some p) r
     ends_same e s t n = differs_not (joined p r 1 e (length r - 8) (length r) s t (omega arith))
 
     -- .. or one group more decides
     pub ends_more : (e : ℕ) → 1 ≤ e → Same p r 1 e → Same p r (length r - 8) (length r) → length r ≤ e + 16 → (d : Bool) → d ≡ Differ p r 8 e
-        → d ≡ differs (some p) r
+        → d ≡ differs (Some p) r
     ends_more e h s t n d q =
         differs-rest 8 e d h q (λ x. joined p r 1 (e + 8) (length r - 8) (length r) (joined p r 1 e e (e + 8) s x (omega arith)) t (omega arith))

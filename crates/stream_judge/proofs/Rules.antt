@@ -1,8 +1,8 @@
 -- The lowest rule that a cycle breaks, from the flags of its header: each way through `rule_of`. Assumes nothing.
+use Rattle.std.specs.Prelude.{Option, None, Some}
 use mathlib.Core.Path.{◌≡◌, refl, sym, ap, ap₂, ◌∙◌, subst}
 use mathlib.Core.Bool.{Bool, true, false, not, ◌&&◌, cond}
 use mathlib.Core.List.{List, [], ◌∷◌}
-use mathlib.Core.Option.{Option, none, some}
 use Prim.Native.Nat.{ℕ, ◌^◌, ◌<◌}
 use native.Mathlib.Omega.{arith}
 use lib.ListN.{length}
@@ -18,12 +18,12 @@ use Rattle.stream_judge.specs.Scan.{waits_by, Alike, before_of, flags_before, lo
 
 -- a cycle waits, or is in reset, by its flags
 waits-by : (b : Option (List ℕ)) → waits_by (flags_before b) ≡ waited b
-waits-by none = refl
-waits-by (some b) = refl
+waits-by None = refl
+waits-by (Some b) = refl
 
 reset_by : (b : Option (List ℕ)) → not (bit aresetn_bit (flags_before b)) ≡ was_reset b
-reset_by none = refl
-reset_by (some b) = refl
+reset_by None = refl
+reset_by (Some b) = refl
 
 left_rules : (t d r : Bool)
     → ◌≡◌ {A = ℕ} (cond (t && true && not true) 2 (cond (t && true && true && d) 3 (cond (true && true && r) 4 0))) (cond (t && d) 3 (cond r 4 0))
@@ -100,22 +100,22 @@ module _ {s : Shape} {h : Header} {prevFlags : ℕ} {prev rec : List ℕ} (c : C
         }
 
     -- where the record before waited, it is `prev`
-    moved-is : (w && differs (some prev) rec) ≡ (waited (before_of prev) && differs (before_of prev) rec)
+    moved-is : (w && differs (Some prev) rec) ≡ (waited (before_of prev) && differs (before_of prev) rec)
     moved-is = rw waits (go prev)
       where
-        go : (p : List ℕ) → (waited (before_of p) && differs (some p) rec) ≡ (waited (before_of p) && differs (before_of p) rec)
+        go : (p : List ℕ) → (waited (before_of p) && differs (Some p) rec) ≡ (waited (before_of p) && differs (before_of p) rec)
         go [] = refl
         go (f ∷ r) = refl
 
     -- TVALID is high too: R3 and R4 are left
     module _ (v : bit tvalid_bit h.flags ≡ true) where
-      both_high : lowest_rule s (before_of prev) rec ≡ cond (w && differs (some prev) rec) 3 (cond (any_reserved (lane_types s rec)) 4 0)
+      both_high : lowest_rule s (before_of prev) rec ≡ cond (w && differs (Some prev) rec) 3 (cond (any_reserved (lane_types s rec)) 4 0)
       both_high =
           rw (now_high, flag tvalid_bit true v, was-reset true (and_right (bit aresetn_bit h.flags) (bit aresetn_bit prevFlags) high), moved-is)
           (left_rules (waited (before_of prev)) (differs (before_of prev) rec) (any_reserved (lane_types s rec)))
 
-      pub rule_3 : (w && differs (some prev) rec) ≡ true → 3 ≡ lowest_rule s (before_of prev) rec
+      pub rule_3 : (w && differs (Some prev) rec) ≡ true → 3 ≡ lowest_rule s (before_of prev) rec
       rule_3 m = sym (both_high ∙ ap (λ (t : Bool). cond t 3 (cond (any_reserved (lane_types s rec)) 4 0)) m)
 
-      pub rule_4 : (w && differs (some prev) rec) ≡ false → (x : Bool) → any_reserved (lane_types s rec) ≡ x → cond x 4 0 ≡ lowest_rule s (before_of prev) rec
+      pub rule_4 : (w && differs (Some prev) rec) ≡ false → (x : Bool) → any_reserved (lane_types s rec) ≡ x → cond x 4 0 ≡ lowest_rule s (before_of prev) rec
       rule_4 m x e = sym (both_high ∙ ap₂ (λ (t u : Bool). cond t 3 (cond u 4 0)) m e)

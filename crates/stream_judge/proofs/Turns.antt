@@ -1,9 +1,9 @@
 -- The pass over the cycles: what is known at its start, what one cycle more leaves known, and what is told at its end; and
 -- the pass behind a finding, which looks for a bad field only. Assumes nothing.
+use Rattle.std.specs.Prelude.{Option, None, Some}
 use mathlib.Core.Path.{◌≡◌, refl, sym, ap, ap₂, ◌∙◌, subst}
 use mathlib.Core.Bool.{Bool, true, false, cond, ◌||◌, or-true, or-false}
 use mathlib.Core.List.{List, [], ◌∷◌, ◌++◌}
-use mathlib.Core.Option.{Option, none, some}
 use Prim.Native.Nat.{ℕ, suc, ◌+◌, ◌-◌, ◌*◌, ◌%◌, ◌≤◌, ◌<◌}
 use native.Mathlib.Nat.{add-zero, zero-add}
 use native.Mathlib.Numerals.{add-one}
@@ -45,11 +45,11 @@ use Rattle.stream_judge.specs.Scan.{Unpadded, transfers_by, before_of, flags_bef
 
 -- the lowest rule of a cycle, or else what comes after it
 lowest_first : (s : Shape) (b : Option (List ℕ)) (k : ℕ) (c : List ℕ) (fs : List (Check Finding))
-    → first (rule_checks s k b c ++ fs) ≡ cond (eqb (lowest_rule s b c) 0) (first fs) (some (finding k (lowest_rule s b c)))
+    → first (rule_checks s k b c ++ fs) ≡ cond (eqb (lowest_rule s b c) 0) (first fs) (Some (finding k (lowest_rule s b c)))
 lowest_first s b k c fs = go (r1 b c) refl (r2 b c) refl (r3 b c) refl (r4 s c) refl
   where
     go : (a1 : Bool) → r1 b c ≡ a1 → (a2 : Bool) → r2 b c ≡ a2 → (a3 : Bool) → r3 b c ≡ a3 → (a4 : Bool) → r4 s c ≡ a4
-        → first (rule_checks s k b c ++ fs) ≡ cond (eqb (lowest_rule s b c) 0) (first fs) (some (finding k (lowest_rule s b c)))
+        → first (rule_checks s k b c ++ fs) ≡ cond (eqb (lowest_rule s b c) 0) (first fs) (Some (finding k (lowest_rule s b c)))
     go true e1 a2 e2 a3 e3 a4 e4 = rw e1 refl
     go false e1 true e2 a3 e3 a4 e4 = rw (e1, e2) refl
     go false e1 false e2 true e3 a4 e4 = rw (e1, e2, e3) refl
@@ -64,9 +64,9 @@ count-step n c cs = go (transferred c) refl
     go false e = rw e (omega arith)
 
 -- where a finding stands, the count is not told
-count_free : (o : Option Refusal) (f : Finding) (n : ℕ) → verdict o (some f) n ≡ verdict o (some f) 0
-count_free (some r) f n = refl
-count_free none f n = refl
+count_free : (o : Option Refusal) (f : Finding) (n : ℕ) → verdict o (Some f) n ≡ verdict o (Some f) 0
+count_free (Some r) f n = refl
+count_free None f n = refl
 
 module _ (s : Shape) (k : ℕ) (c : List ℕ) (cs : List (List ℕ)) where
   from-bad : (b : Option (List ℕ)) (n : ℕ) → field_fault cycle_flags s c ≡ true → Refused (Field k) ≡ verdict_from s b k (c ∷ cs) n
@@ -76,17 +76,17 @@ module _ (s : Shape) (k : ℕ) (c : List ℕ) (cs : List (List ℕ)) where
   behind-bad w f = rw f refl
 
   module _ (f : field_fault cycle_flags s c ≡ false) where
-    from-clean : (b : Option (List ℕ)) (n : ℕ) → lowest_rule s b c ≡ 0 → verdict_from s (some c) (suc k) cs (n + bit_of (transferred c)) ≡ verdict_from s b k (c ∷ cs) n
+    from-clean : (b : Option (List ℕ)) (n : ℕ) → lowest_rule s b c ≡ 0 → verdict_from s (Some c) (suc k) cs (n + bit_of (transferred c)) ≡ verdict_from s b k (c ∷ cs) n
     from-clean b n e =
-        let later = findings s (suc k) (some c) cs in
-        let none' : first (rule_checks s k b c ++ findings s (suc k) (some c) cs) ≡ first (findings s (suc k) (some c) cs) =
+        let later = findings s (suc k) (Some c) cs in
+        let none' : first (rule_checks s k b c ++ findings s (suc k) (Some c) cs) ≡ first (findings s (suc k) (Some c) cs) =
         lowest_first s b k c later ∙ rw (eq-eqb (lowest_rule s b c) 0 e) refl in
         rw f (sym (ap₂ (verdict (first (cycle_checks s (suc k) cs))) none' (count-step n c cs)))
 
     from-broken : (b : Option (List ℕ)) (n rule : ℕ) → rule ≡ lowest_rule s b c → (rule ≡ 0 → ⊥) → verdict_behind s (suc k) cs (finding k rule) ≡ verdict_from s b k (c ∷ cs) n
     from-broken b n rule e h =
-        let later = findings s (suc k) (some c) cs in
-        let told : first (rule_checks s k b c ++ findings s (suc k) (some c) cs) ≡ some (finding k rule) =
+        let later = findings s (suc k) (Some c) cs in
+        let told : first (rule_checks s k b c ++ findings s (suc k) (Some c) cs) ≡ Some (finding k rule) =
         lowest_first s b k c later ∙ rw (← e, ne_eqb rule 0 h) refl in
         rw (f, told) (sym (count_free (first (cycle_checks s (suc k) cs)) (finding k rule) (n + length (handshakes (c ∷ cs)))))
 
@@ -139,7 +139,7 @@ module _ (s : Shape) (xs : List ℕ) (from j at k : ℕ) (w : Finding) (h : Look
 pub at_most_one : (n f : ℕ) → n ≡ bit_of (transfers_by f) → n ≤ 1
 at_most_one n f e = rw e (bit-one (transfers_by f))
 
-pub turning_start : (s : Shape) (xs : List ℕ) → Passed s xs → Unpadded s (records s xs) → Turning s xs 0 0 0 0 (flags_before none)
+pub turning_start : (s : Shape) (xs : List ℕ) → Passed s xs → Unpadded s (records s xs) → Turning s xs 0 0 0 0 (flags_before None)
 turning_start s xs p u =
     record {
       left = left-start s xs p.whole;
@@ -153,7 +153,7 @@ turning_start s xs p u =
     }
 
 -- a record that is not empty is the cycle before
-before-some : (r : List ℕ) → 0 < length r → before_of r ≡ some r
+before-some : (r : List ℕ) → 0 < length r → before_of r ≡ Some r
 before-some [] h = absurd (omega arith)
 before-some (f ∷ r) h = refl
 
@@ -163,7 +163,7 @@ module _ (s : Shape) (xs : List ℕ) (from at k count prevFlags : ℕ) (h : Turn
   prev = take (at - from) (drop from xs)
 
   -- no cycle is left
-  pub turns-end : length xs ≤ at → Clean count ≡ verdict_from s none 0 (records s xs) 0
+  pub turns-end : length xs ≤ at → Clean count ≡ verdict_from s None 0 (records s xs) 0
   turns-end l =
       ap Clean (sym (add-zero count))
       ∙ sym (ap (λ (cs : List (List ℕ)). verdict_from s (before_of prev) k cs count) (no-records s xs at l))
@@ -182,11 +182,11 @@ module _ (s : Shape) (xs : List ℕ) (from at k count prevFlags : ℕ) (h : Turn
     pub turn-clear : Unpadded s (rec ∷ later)
     turn-clear = subst (Unpadded s) (records-next s xs at h.left l z q) h.clear
 
-    left-from : verdict_from s (before_of prev) k (rec ∷ later) count ≡ verdict_from s none 0 (records s xs) 0
+    left-from : verdict_from s (before_of prev) k (rec ∷ later) count ≡ verdict_from s None 0 (records s xs) 0
     left-from = sym (ap (λ (cs : List (List ℕ)). verdict_from s (before_of prev) k cs count) (records-next s xs at h.left l z q)) ∙ h.same
 
     -- a cycle with a bad field ends the pass
-    pub turn-bad : field_fault cycle_flags s rec ≡ true → Refused (Field k) ≡ verdict_from s none 0 (records s xs) 0
+    pub turn-bad : field_fault cycle_flags s rec ≡ true → Refused (Field k) ≡ verdict_from s None 0 (records s xs) 0
     turn-bad f = from-bad s k rec later (before_of prev) count f ∙ left-from
 
     -- what a call of `rule_of` asks
@@ -216,7 +216,7 @@ module _ (s : Shape) (xs : List ℕ) (from at k count prevFlags : ℕ) (h : Turn
 
     module _ (f : field_fault cycle_flags s rec ≡ false) (rule : ℕ) (e : rule ≡ lowest_rule s (before_of prev) rec) where
       -- a rule is broken, and this is what `broken` answers
-      pub finds : (rule ≡ 0 → ⊥) → (v : Verdict) → v ≡ verdict_behind s (k + 1) later (finding k rule) → v ≡ verdict_from s none 0 (records s xs) 0
+      pub finds : (rule ≡ 0 → ⊥) → (v : Verdict) → v ≡ verdict_behind s (k + 1) later (finding k rule) → v ≡ verdict_from s None 0 (records s xs) 0
       finds n v g =
           g
           ∙ ap (λ (i : ℕ). verdict_behind s i later (finding k rule)) (add-one k)
@@ -240,7 +240,7 @@ module _ (s : Shape) (xs : List ℕ) (from at k count prevFlags : ℕ) (h : Turn
             clear = turn-clear.1;
             same =
                 ap₂ (λ (b : Option (List ℕ)) (i : ℕ). verdict_from s b i later (count + n)) (before-some rec some-rec) (add-one k)
-                ∙ ap (λ (m : ℕ). verdict_from s (some rec) (suc k) later (count + m)) same_count
+                ∙ ap (λ (m : ℕ). verdict_from s (Some rec) (suc k) later (count + m)) same_count
                 ∙ from-clean s k rec later f (before_of prev) count (sym e ∙ none')
                 ∙ left-from;
           }
@@ -251,7 +251,7 @@ pub full_unpadded : (s : Shape) (rs : List (List ℕ)) → s.width * s.user % 8 
 full_unpadded s [] e o = tt
 full_unpadded s (r ∷ rs) e o = (padding_none s r (λ i. octet-at r i o.0) e, full_unpadded s rs e o.1)
 
-pub found_unpadded : (s : Shape) (k : ℕ) (rs : List (List ℕ)) → first (cycle_checks s k rs) ≡ none → Unpadded s rs
+pub found_unpadded : (s : Shape) (k : ℕ) (rs : List (List ℕ)) → first (cycle_checks s k rs) ≡ None → Unpadded s rs
 found_unpadded s k [] e = tt
 found_unpadded s k (r ∷ rs) e =
     let h = each_none (cycle_faults s) k r rs e in
@@ -260,18 +260,18 @@ found_unpadded s k (r ∷ rs) e =
 
 -- a cycle record's FIELD: in its head, in its padding, or nowhere
 module _ (s : Shape) (r : List ℕ) (k : ℕ) {a : Bool} (head : a ≡ header_fault cycle_flags s (header_of r)) where
-  pub cycle-head : a ≡ true → some (Field k) ≡ first (cycle_faults s k r)
+  pub cycle-head : a ≡ true → Some (Field k) ≡ first (cycle_faults s k r)
   cycle-head e = rw (sym head ∙ e) refl
 
   module _ {b : Bool} (pad : b ≡ user_fault s r) where
-    pub cycle_padding : b ≡ true → some (Field k) ≡ first (cycle_faults s k r)
+    pub cycle_padding : b ≡ true → Some (Field k) ≡ first (cycle_faults s k r)
     cycle_padding e = rw (sym pad ∙ e, or-true (header_fault cycle_flags s (header_of r))) refl
 
-    pub cycle-sound : a ≡ false → b ≡ false → none ≡ first (cycle_faults s k r)
+    pub cycle-sound : a ≡ false → b ≡ false → None ≡ first (cycle_faults s k r)
     cycle-sound e f = rw (sym head ∙ e, sym pad ∙ f) refl
 
 -- a bad field is the verdict
-pub field-refused : (s : Shape) (rs : List (List ℕ)) (f : Refusal) → first (cycle_checks s 0 rs) ≡ some f → Refused f ≡ verdict_from s none 0 rs 0
+pub field-refused : (s : Shape) (rs : List (List ℕ)) (f : Refusal) → first (cycle_checks s 0 rs) ≡ Some f → Refused f ≡ verdict_from s None 0 rs 0
 field-refused s rs f e = rw e refl
 
 -- ---- judging, from what the tests of shape and length told
@@ -284,7 +284,7 @@ module _ (s : Shape) (xs : List ℕ) (r : Checked) (told : checked_of r ≡ firs
   unfolding judge_answer
   judged_refused f h = judged (Refused f) (rw (refused_front r (take_checks s xs) told (cycle_checks s 0 (records s xs)) f h) refl)
 
-  pub judged_cycles : r ≡ Yes → (v : Verdict) → v ≡ verdict_from s none 0 (records s xs) 0 → Judged s xs v
+  pub judged_cycles : r ≡ Yes → (v : Verdict) → v ≡ verdict_from s None 0 (records s xs) 0 → Judged s xs v
   unfolding judge_answer
   judged_cycles h v e =
       judged v

@@ -1,7 +1,6 @@
 -- Judging as one pass over the cycles, against stream_spec's Handshake: what is known of a cycle where it is judged, and what
 -- is known between two cycles. Each is said by what is left: the verdict on the cycles left is the verdict on all.
-use Rattle.std.specs.Prelude.{Bool, false, not, ◌&&◌, cond, List, [], ◌∷◌, ℕ, ◌+◌, ◌-◌, ◌^◌, ◌≤◌, ◌<◌, ◌≡◌, length, take, drop}
-use Rattle.std.proofs.Math.Option.{Option, none, some}
+use Rattle.std.specs.Prelude.{Bool, false, not, ◌&&◌, cond, List, [], ◌∷◌, ℕ, ◌+◌, ◌-◌, ◌^◌, ◌≤◌, ◌<◌, ◌≡◌, length, take, drop, Option, None, Some}
 use Rattle.refusal.specs.Checks.{first}
 use Rattle.stream_spec.specs.declared.Shape.{Shape}
 use Rattle.stream_spec.specs.declared.Verdict.{Verdict}
@@ -39,14 +38,14 @@ transfers_by f = bit aresetn_bit f && bit tvalid_bit f && bit tready_bit f
 
 -- the cycle before, whose record is `prev`, or none where that is empty
 abbrev pub before_of : List ℕ → Option (List ℕ)
-before_of [] = none
-before_of (f ∷ r) = some (f ∷ r)
+before_of [] = None
+before_of (f ∷ r) = Some (f ∷ r)
 
 -- the flags of the cycle before. Where there is none they are those of an idle cycle, ARESETn alone: it neither waits nor is
 -- in reset, and no rule reads more of it.
 abbrev pub flags_before : Option (List ℕ) → ℕ
-flags_before none = 2 ^ aresetn_bit
-flags_before (some b) = flags b
+flags_before None = 2 ^ aresetn_bit
+flags_before (Some b) = flags b
 
 -- the lowest rule that a cycle breaks, or 0
 abbrev pub lowest_rule : Shape → Option (List ℕ) → List ℕ → ℕ
@@ -82,13 +81,13 @@ pub record Turning (s : Shape) (xs : List ℕ) (from at k count prevFlags : ℕ)
   pub clear : Unpadded s (records s (drop at xs))
   pub same :
       verdict_from s (before_of (take (at - from) (drop from xs))) k (records s (drop at xs)) count
-      ≡ verdict_from s none 0 (records s xs) 0
+      ≡ verdict_from s None 0 (records s xs) 0
 
 -- ---- behind a finding
 
 -- the verdict where a finding stands: of the cycles from cycle k on only a bad field counts
 abbrev pub verdict_behind : Shape → ℕ → List (List ℕ) → Finding → Verdict
-verdict_behind s k cs f = verdict (first (cycle_checks s k cs)) (some f) 0
+verdict_behind s k cs f = verdict (first (cycle_checks s k cs)) (Some f) 0
 
 -- where the cycles behind a finding begin: cycle j at `from`
 pub record Behind (s : Shape) (z : Zeros) (xs : List ℕ) (from j : ℕ) : Type 0 where

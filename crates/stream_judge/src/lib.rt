@@ -2,8 +2,7 @@
 // and compared here in words; what the rules say is in stream_spec's Handshake.
 #![tactic(auto)]
 
-ghost use Rattle.std.specs.Prelude.{◌≡◌, ◌+◌, ◌≤◌, length, take, drop, ◌&&◌, not, true};
-ghost use Rattle.std.proofs.Math.Option.{none, some};
+ghost use Rattle.std.specs.Prelude.{◌≡◌, ◌+◌, ◌≤◌, length, take, drop, ◌&&◌, not, true, None, Some};
 ghost use Rattle.stream_spec.specs.Layout.{bit, aresetn_bit, size, records, bit_of};
 ghost use Rattle.stream_spec.specs.Handshake.{same_octets, differs, finding};
 ghost use Rattle.stream_spec.specs.Answers.{Judged};
@@ -42,7 +41,7 @@ fn differ8(prev: &[u8], rec: &[u8], i: usize) -> bool
 // Whether some octet from 1 on, or TLAST, differs between two records of one size: groups that may overlap are compared.
 fn changed(prev: &[u8], rec: &[u8]) -> bool
     requires { Alike prev.now rec.now }
-    ensures { result ≡ differs (some prev.now) rec.now }
+    ensures { result ≡ differs (Some prev.now) rec.now }
 {
     if prev[FLAGS] % 2 != rec[FLAGS] % 2 {
         return true;
@@ -104,7 +103,7 @@ pub fn transfers(flags: u32) -> usize
 // Whether the record before waited and this one differs from it.
 fn moved(waited: bool, prev: &[u8], rec: &[u8]) -> bool
     requires { waited ≡ true → Alike prev.now rec.now }
-    ensures { result ≡ (waited && differs (some prev.now) rec.now) }
+    ensures { result ≡ (waited && differs (Some prev.now) rec.now) }
 {
     if waited {
         return changed(prev, rec);
@@ -220,7 +219,7 @@ fn find_field(s: Shape, capture: &[u8]) -> Checked
 // is set in it.
 fn judge_cycles(s: Shape, capture: &[u8]) -> Verdict
     requires { Passed s capture.now × Unpadded s (records s capture.now) }
-    ensures { result ≡ verdict_from s none 0 (records s capture.now) 0 }
+    ensures { result ≡ verdict_from s None 0 (records s capture.now) 0 }
 {
     let size = stream_record::record_size(s);
     let z = stream_head::must_be_zero(CYCLE_FLAGS, s);
@@ -252,7 +251,7 @@ fn judge_cycles(s: Shape, capture: &[u8]) -> Verdict
 // so that the pass over the cycles has no test for it.
 fn judge_passed(s: Shape, capture: &[u8]) -> Verdict
     requires { Passed s capture.now }
-    ensures { result ≡ verdict_from s none 0 (records s capture.now) 0 }
+    ensures { result ≡ verdict_from s None 0 (records s capture.now) 0 }
 {
     if stream_record::user_rest(s) == 0 {
         return judge_cycles(s, capture);

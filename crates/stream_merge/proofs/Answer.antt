@@ -1,7 +1,7 @@
 -- The call's answer, test by test, and the pass over two lists that have passed them all. Assumes nothing.
+use Rattle.std.specs.Prelude.{None, Some}
 use mathlib.Core.Bool.{Bool, false}
 use mathlib.Core.List.{List, [], ◌∷◌, ◌++◌}
-use mathlib.Core.Option.{none, some}
 use mathlib.Core.Path.{◌≡◌, refl, sym, ap₂, ◌∙◌}
 use Prim.Native.Nat.{ℕ, ◌+◌, ◌/◌, ◌≤◌, ◌<◌}
 use native.Mathlib.Nat.{mul-div_cancel}
@@ -47,31 +47,31 @@ module _ (s : Shape) (xs ys out : List ℕ) (fits : ListsFit s xs ys out) (z : �
 -- ---- the tests
 
 -- a list of checks that names a port, before others
-found_front : (port : ℕ) (cs : List (Check Refusal)) (ds : List (Check Named)) (r : Refusal) → first cs ≡ some r
-    → first (naming port cs ++ ds) ≡ some (named port r)
+found_front : (port : ℕ) (cs : List (Check Refusal)) (ds : List (Check Named)) (r : Refusal) → first cs ≡ Some r
+    → first (naming port cs ++ ds) ≡ Some (named port r)
 found_front port cs ds r e = append-found (naming port cs) ds (named port r) (naming-first port cs ∙ rw e refl)
 
 module _ (s : Shape) (xs ys before : List ℕ) where
-  pub bad-take : (r : Refusal) → first (take_checks s xs) ≡ some r → PortsMerged s xs ys before before (Refused 0 r)
+  pub bad-take : (r : Refusal) → first (take_checks s xs) ≡ Some r → PortsMerged s xs ys before before (Refused 0 r)
   bad-take r e = merged-refused s xs ys before 0 r (found_front 0 (take_checks s xs) (second s xs ys (length before)) r e)
 
-  module _ (take : first (take_checks s xs) ≡ none) where
+  module _ (take : first (take_checks s xs) ≡ None) where
     pub first-passed : Passed s xs
     first-passed = checks-passed s xs take
 
     pub shape_narrow : Narrow s
     shape_narrow = passed_narrow s xs first-passed
 
-    pub bad-other : (r : Refusal) → first (length_check s ys ∷ []) ≡ some r → PortsMerged s xs ys before before (Refused 1 r)
+    pub bad-other : (r : Refusal) → first (length_check s ys ∷ []) ≡ Some r → PortsMerged s xs ys before before (Refused 1 r)
     bad-other r e =
         merged-refused s xs ys before 1 r
         (after-take s xs ys (length before) take ∙ found_front 1 (length_check s ys ∷ []) (third s xs ys (length before)) r e)
 
-    module _ (other : first (length_check s ys ∷ []) ≡ none) where
+    module _ (other : first (length_check s ys ∷ []) ≡ None) where
       pub second-passed : Passed s ys
       second-passed = take-passed s ys (passed-shape s xs first-passed) (first-none (length_check s ys) [] other).0
 
-      pub bad-first : (r : Refusal) → first (port_checks s xs) ≡ some r → PortsMerged s xs ys before before (Refused 0 r)
+      pub bad-first : (r : Refusal) → first (port_checks s xs) ≡ Some r → PortsMerged s xs ys before before (Refused 0 r)
       bad-first r e =
           merged-refused s xs ys before 0 r
           (after-other s xs ys (length before) take other ∙ found_front 0 (port_checks s xs) (fourth s xs ys (length before)) r e)
@@ -80,14 +80,14 @@ module _ (s : Shape) (xs ys before : List ℕ) where
       both_long : length (merged s xs ys) ≡ length xs + length ys
       both_long = merged_both s xs ys first-passed.whole second-passed.whole
 
-      module _ (firsts : first (port_checks s xs) ≡ none) where
-        pub bad-second : (r : Refusal) → first (port_checks s ys) ≡ some r → PortsMerged s xs ys before before (Refused 1 r)
+      module _ (firsts : first (port_checks s xs) ≡ None) where
+        pub bad-second : (r : Refusal) → first (port_checks s ys) ≡ Some r → PortsMerged s xs ys before before (Refused 1 r)
         bad-second r e =
             merged-refused s xs ys before 1 r
             (after-firsts s xs ys (length before) take other firsts
             ∙ found_front 1 (port_checks s ys) (roomed s xs ys (length before)) r e)
 
-        module _ (seconds : first (port_checks s ys) ≡ none) where
+        module _ (seconds : first (port_checks s ys) ≡ None) where
           pub no_room : length before < length xs + length ys → PortsMerged s xs ys before before (Refused 0 Room)
           no_room h =
               merged-refused s xs ys before 0 Room

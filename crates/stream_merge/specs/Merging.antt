@@ -1,7 +1,6 @@
 -- Merging record by record, against merge_spec: what one record adds to the output, whose turn comes behind it, and what is known between
 -- two records.
-use Rattle.std.specs.Prelude.{Bool, true, false, not, cond, List, map, ◌≡◌, ℕ, ◌+◌, ◌≤◌, ◌<◌, ltb, length, drop}
-use Rattle.std.proofs.Math.Option.{none}
+use Rattle.std.specs.Prelude.{Bool, true, false, not, cond, List, map, ◌≡◌, ℕ, ◌+◌, ◌≤◌, ◌<◌, ltb, length, drop, None}
 use Rattle.refusal.specs.Checks.{first}
 use Rattle.stream_spec.specs.declared.Shape.{Shape}
 use Rattle.stream_spec.specs.Layout.{size_least, size_most, tlast, pieces_of}
@@ -74,7 +73,7 @@ pub record Passes (z : ℕ) (xs ys : List ℕ) (t : Turn) (before : List ℕ) (t
 pub record ListsFit (s : Shape) (xs ys out : List ℕ) : Type 0 where
   pub list0 : Passed s xs
   pub list1 : Passed s ys
-  pub sound : first (port_checks s ys) ≡ none
+  pub sound : first (port_checks s ys) ≡ None
   pub room : length xs + length ys ≤ length out
 
 -- the records, of z octets each, that are left where this is the turn

@@ -1,9 +1,9 @@
 -- The faults of transfer records: what a header's fault says of the record's checks, and the first fault of a take by one
 -- loop. Assumes nothing.
+use Rattle.std.specs.Prelude.{Option, None, Some}
 use mathlib.Core.Path.{◌≡◌, refl, sym, ap, ◌∙◌}
 use mathlib.Core.Bool.{Bool, true, false, cond, or-true, or-false}
 use mathlib.Core.List.{List, ◌∷◌}
-use mathlib.Core.Option.{Option, none, some}
 use Prim.Native.Nat.{ℕ, ◌+◌, ◌%◌, ◌^◌, ◌≤◌, ◌<◌}
 use native.Mathlib.Numerals.{add-one}
 use native.Mathlib.Omega.{arith}
@@ -52,31 +52,31 @@ module _ {X : Type 0} (x y : X) where
   verdict a b = cond a Field (cond b Reserved Sound)
 
   abbrev checks : Bool → Bool → Option X
-  checks a b = cond a (some x) (cond b (some y) none)
+  checks a b = cond a (Some x) (cond b (Some y) None)
 
-  pick_field : (a b : Bool) → Field ≡ verdict a b → checks a b ≡ some x
+  pick_field : (a b : Bool) → Field ≡ verdict a b → checks a b ≡ Some x
   pick_field true b e = refl
   pick_field false true e = let z : ◌≡◌ {A = ℕ} 0 1 = cc in absurd (omega arith)
   pick_field false false e = let z : ◌≡◌ {A = ℕ} 0 1 = cc in absurd (omega arith)
 
-  pick_reserved : (a b : Bool) → Reserved ≡ verdict a b → checks a b ≡ some y
+  pick_reserved : (a b : Bool) → Reserved ≡ verdict a b → checks a b ≡ Some y
   pick_reserved true b e = let z : ◌≡◌ {A = ℕ} 0 1 = cc in absurd (omega arith)
   pick_reserved false true e = refl
   pick_reserved false false e = let z : ◌≡◌ {A = ℕ} 0 1 = cc in absurd (omega arith)
 
-  pick_sound : (a b : Bool) → Sound ≡ verdict a b → (a ≡ false) × (checks a b ≡ none)
+  pick_sound : (a b : Bool) → Sound ≡ verdict a b → (a ≡ false) × (checks a b ≡ None)
   pick_sound true b e = let z : ◌≡◌ {A = ℕ} 0 1 = cc in absurd (omega arith)
   pick_sound false true e = let z : ◌≡◌ {A = ℕ} 0 1 = cc in absurd (omega arith)
   pick_sound false false e = (refl, refl)
 
 module _ (s : Shape) (rec : List ℕ) (k : ℕ) where
-  pub told-field : Field ≡ record_fault s rec → first (transfer_faults s k rec) ≡ some (FieldAt k)
+  pub told-field : Field ≡ record_fault s rec → first (transfer_faults s k rec) ≡ Some (FieldAt k)
   told-field f = pick_field (FieldAt k) (ReservedAt k) (field_fault transfer_flags s rec) (reserved_fault s rec) f
 
-  pub told-reserved : Reserved ≡ record_fault s rec → first (transfer_faults s k rec) ≡ some (ReservedAt k)
+  pub told-reserved : Reserved ≡ record_fault s rec → first (transfer_faults s k rec) ≡ Some (ReservedAt k)
   told-reserved f = pick_reserved (FieldAt k) (ReservedAt k) (field_fault transfer_flags s rec) (reserved_fault s rec) f
 
-  pub told-sound : Sound ≡ record_fault s rec → first (transfer_faults s k rec) ≡ none
+  pub told-sound : Sound ≡ record_fault s rec → first (transfer_faults s k rec) ≡ None
   told-sound f = (pick_sound (FieldAt k) (ReservedAt k) (field_fault transfer_flags s rec) (reserved_fault s rec) f).1
 
   -- a sound record's fields fit
@@ -109,7 +109,7 @@ module _ (checks : ℕ → List ℕ → List (Check Refusal)) (s : Shape) (xs : 
 
     -- a record's fault is the take's
     pub judging_found : (r : Checked) (f : Refusal) → checked_of r ≡ first (checks k (record_at xs at z)) → r ≡ Refused f
-        → some f ≡ first (each checks 0 (records s xs))
+        → Some f ≡ first (each checks 0 (records s xs))
     judging_found r f c e = sym (here ∙ each-found checks k (record_at xs at z) (records s (drop (at + z) xs)) f (sym c ∙ ap checked_of e))
 
     pub judging_next : (r : Checked) → checked_of r ≡ first (checks k (record_at xs at z)) → r ≡ Passed → Judging checks s xs (at + z) (k + 1)
@@ -123,5 +123,5 @@ module _ (checks : ℕ → List ℕ → List (Check Refusal)) (s : Shape) (xs : 
               ∙ rw (add-one k) refl;
         }
 
-  pub judging_done : length xs ≤ at → none ≡ first (each checks 0 (records s xs))
+  pub judging_done : length xs ≤ at → None ≡ first (each checks 0 (records s xs))
   judging_done h = sym (j.faults ∙ ap (λ (rs : List (List ℕ)). first (each checks k rs)) (no-records s xs at h))

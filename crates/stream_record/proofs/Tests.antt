@@ -1,9 +1,9 @@
 -- What an answer of the tests says of the list of checks that it stands for, and of every list that begins with it. For the
 -- calls: `refused_front` gives their refusal, `passed_front` takes the tests away. Assumes nothing.
+use Rattle.std.specs.Prelude.{Option, None, Some}
 use mathlib.Core.Path.{◌≡◌, refl, sym, ap, ◌∙◌}
 use mathlib.Core.Bool.{Bool, true, false, cond}
 use mathlib.Core.List.{List, [], ◌∷◌, ◌++◌}
-use mathlib.Core.Option.{Option, none, some}
 use Prim.Native.Nat.{ℕ}
 use Rattle.refusal.specs.declared.Refusal.{Refusal}
 use Rattle.refusal.specs.declared.Refusal.TheVariants.{Width}
@@ -18,13 +18,13 @@ use Rattle.stream_record.specs.declared.Checked.TheVariants.{Passed, Refused}
 use Rattle.stream_record.specs.Checked.{checked_of}
 
 module _ (r : Checked) (cs : List (Check Refusal)) (e : checked_of r ≡ first cs) where
-  pub refused-is : (f : Refusal) → r ≡ Refused f → first cs ≡ some f
+  pub refused-is : (f : Refusal) → r ≡ Refused f → first cs ≡ Some f
   refused-is f h = sym e ∙ ap checked_of h
 
-  pub passed_is : r ≡ Passed → first cs ≡ none
+  pub passed_is : r ≡ Passed → first cs ≡ None
   passed_is h = sym e ∙ ap checked_of h
 
-  pub refused_front : (ds : List (Check Refusal)) (f : Refusal) → r ≡ Refused f → first (cs ++ ds) ≡ some f
+  pub refused_front : (ds : List (Check Refusal)) (f : Refusal) → r ≡ Refused f → first (cs ++ ds) ≡ Some f
   refused_front ds f h = append-found cs ds f (refused-is f h)
 
   pub passed_front : (ds : List (Check Refusal)) → r ≡ Passed → first (cs ++ ds) ≡ first ds
@@ -61,10 +61,10 @@ module _ (r : Checked) (h : r ≡ Passed) (s : Shape) where
 
 -- the output's width may be tested before the input's: both give 1
 module _ (s : Shape) (v : ℕ) where
-  pub output_refused : (width_check v).found ≡ true → some Width ≡ first (shape_checks s (v ∷ []))
+  pub output_refused : (width_check v).found ≡ true → Some Width ≡ first (shape_checks s (v ∷ []))
   output_refused e = go (width_check s.width).found refl
     where
-      go : (b : Bool) → (width_check s.width).found ≡ b → some Width ≡ cond b (some Width) (first (width_check v ∷ user_check s ∷ []))
+      go : (b : Bool) → (width_check s.width).found ≡ b → Some Width ≡ cond b (Some Width) (first (width_check v ∷ user_check s ∷ []))
       go true h = refl
       go false h = rw e refl
 

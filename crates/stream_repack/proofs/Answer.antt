@@ -1,8 +1,8 @@
 -- The ladder of repack's refusals, a law for each way the code returns. Assumes nothing.
+use Rattle.std.specs.Prelude.{Option, None, Some}
 use mathlib.Core.Path.{◌≡◌, refl, sym, ◌∙◌}
 use mathlib.Core.Bool.{Bool}
 use mathlib.Core.List.{List, [], ◌∷◌, ◌++◌}
-use mathlib.Core.Option.{Option, none, some}
 use Prim.Native.Nat.{ℕ, ◌≤◌}
 use native.Mathlib.Omega.{arith}
 use lib.ListN.{length, take, length-take}
@@ -29,7 +29,7 @@ use Rattle.stream_repack.specs.Tests.{input_checks}
 
 module _ (s : Shape) (v : ℕ) (transfers out : List ℕ) where
   -- the answer and the memory of a refusal, and of any outcome
-  pub refused : (f : Refusal) → repack_refusal s v transfers (length out) ≡ some f → Repacked s v transfers out out (Refused f)
+  pub refused : (f : Refusal) → repack_refusal s v transfers (length out) ≡ Some f → Repacked s v transfers out out (Refused f)
   unfolding repack_answer repack_after
   refused f e = record { is = rw e refl; leaves = rw e refl; shows = rw e refl }
 
@@ -43,10 +43,10 @@ module _ (s : Shape) (v : ℕ) (transfers out : List ℕ) where
   later = transfer_checks s 0 (records s transfers) ++ room_check (packed s v transfers) (length out) ∷ []
 
   -- a test refuses
-  pub not_passed : (f : Refusal) → first (input_checks s v transfers) ≡ some f → Repacked s v transfers out out (Refused f)
+  pub not_passed : (f : Refusal) → first (input_checks s v transfers) ≡ Some f → Repacked s v transfers out out (Refused f)
   not_passed f e = refused f (append-found (input_checks s v transfers) later f e)
 
-  module _ (tested : first (input_checks s v transfers) ≡ none) where
+  module _ (tested : first (input_checks s v transfers) ≡ None) where
     -- what the tests let through
     pub tests_passed : Passed s transfers × WidthFits v
     tests_passed = input_passed PassedTests refl s v transfers (sym tested)
@@ -55,7 +55,7 @@ module _ (s : Shape) (v : ℕ) (transfers out : List ℕ) where
     ladder = append-passed (input_checks s v transfers) later tested
 
     -- a record's fault
-    pub bad_record : (f : Refusal) → first (transfer_checks s 0 (records s transfers)) ≡ some f → Repacked s v transfers out out (Refused f)
+    pub bad_record : (f : Refusal) → first (transfer_checks s 0 (records s transfers)) ≡ Some f → Repacked s v transfers out out (Refused f)
     bad_record f h =
         refused f (ladder ∙ append-found (transfer_checks s 0 (records s transfers)) (room_check (packed s v transfers) (length out) ∷ []) f h)
 

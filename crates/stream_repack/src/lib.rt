@@ -3,8 +3,7 @@
 // repack_tagged_parse and written in repack_tagged_emit.
 #![tactic(auto)]
 
-ghost use Rattle.std.specs.Prelude.{◌≡◌};
-ghost use Rattle.std.proofs.Math.Option.{none};
+ghost use Rattle.std.specs.Prelude.{◌≡◌, None};
 ghost use Rattle.refusal.specs.Checks.{first};
 ghost use Rattle.stream_spec.specs.Layout.{of_width};
 ghost use Rattle.stream_spec.specs.Answers.{Repacked};
@@ -19,7 +18,7 @@ use stream_spec::{Shape, Written};
 // mark for each item, an entry for each stretch; nothing is written to `out` before all records are read and the answer is
 // known to fit.
 fn convert_bare(w: usize, v: usize, transfers: &[u8], out: &mut [u8]) -> Written
-    requires { first (input_checks (of_width w) v transfers.now) ≡ none }
+    requires { first (input_checks (of_width w) v transfers.now) ≡ None }
     ensures { Repacked (of_width w) v transfers.now out.old out.new result }
 {
     let mut octets = [0u8; ITEM_ROOM];
@@ -37,7 +36,7 @@ fn convert_bare(w: usize, v: usize, transfers: &[u8], out: &mut [u8]) -> Written
 // Records with user bits; the tests in front have passed. Two arrays hold what the take carries: a code for each item, which has
 // its octet, its strobe and its user bits, and an entry for each stretch.
 fn convert_tagged(s: Shape, v: usize, transfers: &[u8], out: &mut [u8]) -> Written
-    requires { first (input_checks s v transfers.now) ≡ none }
+    requires { first (input_checks s v transfers.now) ≡ None }
     ensures { Repacked s v transfers.now out.old out.new result }
 {
     let mut items = [0u16; ITEM_ROOM];
@@ -53,7 +52,7 @@ fn convert_tagged(s: Shape, v: usize, transfers: &[u8], out: &mut [u8]) -> Writt
 
 // The tests in front have passed: each kind of record has its own converter.
 fn convert(s: Shape, v: usize, transfers: &[u8], out: &mut [u8]) -> Written
-    requires { first (input_checks s v transfers.now) ≡ none }
+    requires { first (input_checks s v transfers.now) ≡ None }
     ensures { Repacked s v transfers.now out.old out.new result }
 {
     if s.user == 0 {

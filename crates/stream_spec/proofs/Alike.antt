@@ -1,8 +1,8 @@
 -- A take that is filled in is judged alike at both levels: no field, no rule and no count tells them apart. Assumes nothing.
+use Rattle.std.specs.Prelude.{Option, None, Some}
 use mathlib.Core.Path.{◌≡◌, refl, sym, ap, ap₂, ◌∙◌}
 use mathlib.Core.Bool.{Bool, true, false}
 use mathlib.Core.List.{List, [], ◌∷◌, ◌++◌, map}
-use mathlib.Core.Option.{Option, none, some}
 use Prim.Native.Nat.{ℕ, suc, ◌%◌, ◌^◌, ◌<◌}
 use native.Mathlib.Omega.{arith}
 use borrow.Author.Tests.{le-leb, lt-leb, leb-true, leb-false}
@@ -45,20 +45,20 @@ count_alike level n cs h z =
 
 -- the cycle before, filled in; where there is one, it is a whole record
 abbrev filled_before : Bool → Option (List ℕ) → Option (List ℕ)
-filled_before level none = none
-filled_before level (some b) = some (with_last level b)
+filled_before level None = None
+filled_before level (Some b) = Some (with_last level b)
 
 abbrev BeforeSized : ℕ → Option (List ℕ) → Type 0
-BeforeSized n none = Unit {0}
-BeforeSized n (some b) = length b ≡ n
+BeforeSized n None = Unit {0}
+BeforeSized n (Some b) = length b ≡ n
 
 -- no rule tells the levels apart: TLAST never differs in a filled take, and R1 to R4 read nothing else of bit 0
 module _ (a b : Bool) (s : Shape) where
-  rules_first : (k f : ℕ) (r : List ℕ) → rule_checks s k none (with_last a (f ∷ r)) ≡ rule_checks s k none (with_last b (f ∷ r))
+  rules_first : (k f : ℕ) (r : List ℕ) → rule_checks s k None (with_last a (f ∷ r)) ≡ rule_checks s k None (with_last b (f ∷ r))
   rules_first k f r = rw (set-above a 0 f, set-above a 2 f, set-above b 0 f, set-above b 2 f) refl
 
   rules_next : (k g : ℕ) (q : List ℕ) (f : ℕ) (r : List ℕ)
-      → rule_checks s k (some (with_last a (g ∷ q))) (with_last a (f ∷ r)) ≡ rule_checks s k (some (with_last b (g ∷ q))) (with_last b (f ∷ r))
+      → rule_checks s k (Some (with_last a (g ∷ q))) (with_last a (f ∷ r)) ≡ rule_checks s k (Some (with_last b (g ∷ q))) (with_last b (f ∷ r))
   rules_next k g q f r =
       rw (set-above a 0 f, set-above a 2 f, set-above a 0 g, set-above a 1 g, set-above a 2 g, set-zero a f, set-zero a g, beq_refl a)
       (rw (set-above b 0 f, set-above b 2 f, set-above b 0 g, set-above b 1 g, set-above b 2 g, set-zero b f, set-zero b g, beq_refl b) refl)
@@ -67,15 +67,15 @@ module _ (a b : Bool) (s : Shape) where
       → findings s k (filled_before a before) (map (with_last a) cs) ≡ findings s k (filled_before b before) (map (with_last b) cs)
   findings_alike n h k [] z before w = refl
   findings_alike n h k ([] ∷ cs) z before w = absurd (omega (arith, z.0))
-  findings_alike n h k ((f ∷ r) ∷ cs) z none w =
-      ap₂ {C = List (Check Finding)} (λ x y. x ++ y) (rules_first k f r) (findings_alike n h (suc k) cs z.1 (some (f ∷ r)) z.0)
-  findings_alike n h k ((f ∷ r) ∷ cs) z (some []) w = absurd (omega (arith, w))
-  findings_alike n h k ((f ∷ r) ∷ cs) z (some (g ∷ q)) w =
-      ap₂ {C = List (Check Finding)} (λ x y. x ++ y) (rules_next k g q f r) (findings_alike n h (suc k) cs z.1 (some (f ∷ r)) z.0)
+  findings_alike n h k ((f ∷ r) ∷ cs) z None w =
+      ap₂ {C = List (Check Finding)} (λ x y. x ++ y) (rules_first k f r) (findings_alike n h (suc k) cs z.1 (Some (f ∷ r)) z.0)
+  findings_alike n h k ((f ∷ r) ∷ cs) z (Some []) w = absurd (omega (arith, w))
+  findings_alike n h k ((f ∷ r) ∷ cs) z (Some (g ∷ q)) w =
+      ap₂ {C = List (Check Finding)} (λ x y. x ++ y) (rules_next k g q f r) (findings_alike n h (suc k) cs z.1 (Some (f ∷ r)) z.0)
 
   -- judging a filled take: its length is the take's, and its records are these
   abbrev judged_by : List ℕ → List (List ℕ) → Verdict
-  judged_by xs cs = verdict (first (take_checks s xs ++ cycle_checks s 0 cs)) (first (findings s 0 none cs)) (length (handshakes cs))
+  judged_by xs cs = verdict (first (take_checks s xs ++ cycle_checks s 0 cs)) (first (findings s 0 None cs)) (length (handshakes cs))
 
   judge-filled : (level : Bool) (xs : List ℕ) → length xs % size s ≡ 0 → judge_answer s (filled_in level s xs) ≡ judged_by xs (map (with_last level) (records s xs))
   unfolding judge_answer
@@ -86,13 +86,13 @@ module _ (a b : Bool) (s : Shape) where
       let rs = records s xs in
       let z = records_sized s xs in
       judge-filled a xs whole
-      ∙ rw (checks_alike a s 0 rs, checks_alike b s 0 rs, count_alike a (size s) rs (size_pos s) z, count_alike b (size s) rs (size_pos s) z, findings_alike (size s) (size_pos s) 0 rs z none tt) refl
+      ∙ rw (checks_alike a s 0 rs, checks_alike b s 0 rs, count_alike a (size s) rs (size_pos s) z, count_alike b (size s) rs (size_pos s) z, findings_alike (size s) (size_pos s) 0 rs z None tt) refl
       ∙ sym (judge-filled b xs whole)
 
 pub judged-alike : JudgedAlike
 judged-alike a b s xs = go (fill_refusal s xs) refl
   where
     go : (o : Option Refusal) → fill_refusal s xs ≡ o → judge_answer s (fill_after a s xs) ≡ judge_answer s (fill_after b s xs)
-    go (some r) e = ap (judge_answer s) (refused-kept a s xs r e ∙ sym (refused-kept b s xs r e))
-    go none e =
+    go (Some r) e = ap (judge_answer s) (refused-kept a s xs r e ∙ sym (refused-kept b s xs r e))
+    go None e =
         ap (judge_answer s) (taken-filled a s xs e) ∙ filled_alike a b s xs (checks-passed s xs e).whole ∙ sym (ap (judge_answer s) (taken-filled b s xs e))

@@ -1,9 +1,9 @@
 -- Records without user bits: size, faults and octets are paper 01's formulas, written out. So with m = 0 all else in 01 stays octet for
 -- octet, and code for such records may know them by their width. Assumes nothing.
+use Rattle.std.specs.Prelude.{Option}
 use mathlib.Core.Path.{◌≡◌, refl, ap, ◌∙◌}
 use mathlib.Core.Bool.{false, or-false}
 use mathlib.Core.List.{List, [], ◌∷◌, ◌++◌, map, append-nil}
-use mathlib.Core.Option.{Option}
 use Prim.Native.Nat.{ℕ, ◌+◌, ◌*◌, ◌/◌, ◌%◌, ◌^◌}
 use native.Mathlib.Nat.{mul-zero}
 use native.Mathlib.Omega.{arith}
@@ -33,11 +33,11 @@ bare_field used w r =
 pub bare-lanes : (ts : List LaneType) (u : ℕ) (ds : List ℕ) → lanes_of 0 ts u ds ≡ bare_lanes ts ds
 bare-lanes [] u ds = refl
 bare-lanes (t ∷ ts) u [] =
-    let none : u % 2 ^ 0 ≡ 0 = omega arith in
-    rw (none, bare-lanes ts (u / 2 ^ 0) []) refl
+    let None : u % 2 ^ 0 ≡ 0 = omega arith in
+    rw (None, bare-lanes ts (u / 2 ^ 0) []) refl
 bare-lanes (t ∷ ts) u (d ∷ ds) =
-    let none : u % 2 ^ 0 ≡ 0 = omega arith in
-    rw (none, bare-lanes ts (u / 2 ^ 0) ds) refl
+    let None : u % 2 ^ 0 ≡ 0 = omega arith in
+    rw (None, bare-lanes ts (u / 2 ^ 0) ds) refl
 
 pub bare_octets : (ls : List (Option Kept)) → lane_octets 0 ls ≡ map lane_octet ls
 bare_octets ls =

@@ -1,9 +1,9 @@
 -- Cutting items into stretches: the stretches hold the items, in order; they are as long as can be; and they are the only
 -- such division. Where demand 3's condition holds, two lists of items are cut apart. Assumes nothing.
+use Rattle.std.specs.Prelude.{Some}
 use mathlib.Core.Path.{◌≡◌, refl, ap, ◌∙◌}
 use mathlib.Core.Bool.{Bool, true, false, not, ◌||◌, cond, or-true}
 use mathlib.Core.List.{List, [], ◌∷◌, ◌++◌, map, head?, get_last?, append_assoc, append-nil}
-use mathlib.Core.Option.{some}
 use lib.Dec.{eqb}
 use borrow.Author.Tests.{eqb-true, eq-eqb, not-true}
 use Rattle.stream_spec.proofs.Bools.{no_such, and_left, and_right}
@@ -81,7 +81,7 @@ module _ {A : Type 0} where
       go true e = rw e refl
       go false e = rw e refl
 
-  attach-apart : (i : Item A) (js : List (Item A)) → apart (some i) (head? js) ≡ true → attach i (cut js) ≡ attach i [] ++ cut js
+  attach-apart : (i : Item A) (js : List (Item A)) → apart (Some i) (head? js) ≡ true → attach i (cut js) ≡ attach i [] ++ cut js
   attach-apart (end p) js e = refl
   attach-apart (byte p a) [] e = refl
   attach-apart (byte p a) (j ∷ js) e = go (cut_begins j js)

@@ -1,9 +1,9 @@
 -- What holds of every pair and of every kept byte of a stream's transfers holds of its items, of their packed form and of
 -- lane-keeping slices. P is what holds of a pair, Q of what a kept byte carries. Assumes nothing.
+use Rattle.std.specs.Prelude.{Option, None, Some}
 use mathlib.Core.Path.{◌≡◌, refl}
 use mathlib.Core.Bool.{Bool, true, false}
 use mathlib.Core.List.{List, [], ◌∷◌, ◌++◌, map}
-use mathlib.Core.Option.{Option, none, some}
 use Prim.Native.Nat.{ℕ, zero, suc, ◌-◌, ◌/◌}
 use lib.ListN.{length, drop}
 use Rattle.stream_spec.specs.Items.{Pair, same_pair, Transfer, Item, byte, end, kept, items_of, items}
@@ -16,8 +16,8 @@ module _ {A : Type 0} (P : Pair → Type 0) (Q : A → Type 0) where
 
   abbrev pub EachLane : List (Option A) → Type 0
   EachLane [] = Unit {0}
-  EachLane (none ∷ ls) = EachLane ls
-  EachLane (some a ∷ ls) = Q a × EachLane ls
+  EachLane (None ∷ ls) = EachLane ls
+  EachLane (Some a ∷ ls) = Q a × EachLane ls
 
   abbrev pub EachTransfer : List (Transfer A) → Type 0
   EachTransfer [] = Unit {0}
@@ -39,8 +39,8 @@ module _ {A : Type 0} (P : Pair → Type 0) (Q : A → Type 0) where
 
   each-kept : (ls : List (Option A)) → EachLane ls → EachByte (kept ls)
   each-kept [] h = tt
-  each-kept (none ∷ ls) h = each-kept ls h
-  each-kept (some a ∷ ls) h = (h.0, each-kept ls h.1)
+  each-kept (None ∷ ls) h = each-kept ls h
+  each-kept (Some a ∷ ls) h = (h.0, each-kept ls h.1)
 
   each_append : (is js : List (Item A)) → EachItem is → EachItem js → EachItem (is ++ js)
   each_append [] js h k = k
@@ -62,14 +62,14 @@ module _ {A : Type 0} (P : Pair → Type 0) (Q : A → Type 0) where
   each-fitted : (v : ℕ) (ls : List (Option A)) → EachLane ls → EachLane (fitted v ls)
   each-fitted zero ls h = tt
   each-fitted (suc v) [] h = each-fitted v [] tt
-  each-fitted (suc v) (none ∷ ls) h = each-fitted v ls h
-  each-fitted (suc v) (some a ∷ ls) h = (h.0, each-fitted v ls h.1)
+  each-fitted (suc v) (None ∷ ls) h = each-fitted v ls h
+  each-fitted (suc v) (Some a ∷ ls) h = (h.0, each-fitted v ls h.1)
 
   each-drop : (v : ℕ) (ls : List (Option A)) → EachLane ls → EachLane (drop v ls)
   each-drop zero ls h = h
   each-drop (suc v) [] h = tt
-  each-drop (suc v) (none ∷ ls) h = each-drop v ls h
-  each-drop (suc v) (some a ∷ ls) h = each-drop v ls h.1
+  each-drop (suc v) (None ∷ ls) h = each-drop v ls h
+  each-drop (suc v) (Some a ∷ ls) h = each-drop v ls h.1
 
   each-spread : (k v : ℕ) (p : Pair) (ls : List (Option A)) (last : Bool) → P p → EachLane ls → EachTransfer (spread k v p ls last)
   each-spread zero v p ls last h e = (h, each-fitted v ls e, tt)
@@ -81,7 +81,7 @@ module _ {A : Type 0} (P : Pair → Type 0) (Q : A → Type 0) where
 
   -- ---- the packed form
 
-  each-some : (bs : List A) → EachByte bs → EachLane (map some bs)
+  each-some : (bs : List A) → EachByte bs → EachLane (map Some bs)
   each-some [] h = tt
   each-some (b ∷ bs) h = (h.0, each-some bs h.1)
 
@@ -102,7 +102,7 @@ module _ {A : Type 0} (P : Pair → Type 0) (Q : A → Type 0) where
   each-pack_stretches v [] h = tt
   each-pack_stretches v (s ∷ ss) h =
       each_join (pack_stretch v s) (pack_stretches v ss)
-      (each-spread ((length s.bytes - 1) / v) v s.pair (map some s.bytes) s.ended h.0 (each-some s.bytes h.1))
+      (each-spread ((length s.bytes - 1) / v) v s.pair (map Some s.bytes) s.ended h.0 (each-some s.bytes h.1))
       (each-pack_stretches v ss h.2)
 
   pub each-pack : (v : ℕ) (is : List (Item A)) → EachItem is → EachTransfer (pack v is)

@@ -1,9 +1,9 @@
 -- Fill-in of TLAST: it keeps a record's length and all other wires, so the same cycles are transfers; what is then harvested;
 -- and how records that all have TLAST are packed. Assumes nothing.
+use Rattle.std.specs.Prelude.{Option, None, Some}
 use mathlib.Core.Path.{◌≡◌, refl, sym, ap, ap₂, ◌∙◌, subst}
 use mathlib.Core.Bool.{Bool, true, false}
 use mathlib.Core.List.{List, [], ◌∷◌, ◌++◌, map, append-nil, head?}
-use mathlib.Core.Option.{Option, none, some}
 use Prim.Native.Nat.{ℕ, suc, ◌+◌, ◌*◌, ◌/◌, ◌%◌, ◌≤◌, ◌<◌}
 use native.Mathlib.Omega.{arith}
 use lib.ListN.{length, length-map, drop_of_length-le}
@@ -87,11 +87,11 @@ filled-harvest level s xs =
     ∙ ap joined (filled-handshakes level (size s) (records s xs) (size_pos s) (records_sized s xs))
 
 -- refused, the lent take is as it was; else it is the filled one
-pub refused-kept : (level : Bool) (s : Shape) (xs : List ℕ) (r : Refusal) → fill_refusal s xs ≡ some r → fill_after level s xs ≡ xs
+pub refused-kept : (level : Bool) (s : Shape) (xs : List ℕ) (r : Refusal) → fill_refusal s xs ≡ Some r → fill_after level s xs ≡ xs
 unfolding fill_after
 refused-kept level s xs r e = ap (λ (o : Option Refusal). lent_after o (filled_in level s xs) xs) e
 
-pub taken-filled : (level : Bool) (s : Shape) (xs : List ℕ) → fill_refusal s xs ≡ none → fill_after level s xs ≡ filled_in level s xs
+pub taken-filled : (level : Bool) (s : Shape) (xs : List ℕ) → fill_refusal s xs ≡ None → fill_after level s xs ≡ filled_in level s xs
 unfolding fill_after
 taken-filled level s xs e =
     let all : length xs ≤ length (filled_in level s xs) = omega (arith, filled-long level s xs (checks-passed s xs e).whole) in
@@ -102,10 +102,10 @@ pub clean-filled : (level : Bool) (s : Shape) (xs : List ℕ) (n : ℕ) → judg
 clean-filled level s xs n clean = go (fill_refusal s xs) refl
   where
     go : (o : Option Refusal) → fill_refusal s xs ≡ o → fill_after level s xs ≡ filled_in level s xs
-    go (some r) e =
-        let taken : some r ≡ none = sym e ∙ clean-taken s xs n (sym (ap (judge_answer s) (refused-kept level s xs r e)) ∙ clean) in
+    go (Some r) e =
+        let taken : Some r ≡ None = sym e ∙ clean-taken s xs n (sym (ap (judge_answer s) (refused-kept level s xs r e)) ∙ clean) in
         let z : ◌≡◌ {A = ℕ} 0 1 = cc in absurd (omega arith)
-    go none e = taken-filled level s xs e
+    go None e = taken-filled level s xs e
 
 -- ---- octets stay octets
 
@@ -122,8 +122,8 @@ pub filled-octets : (level : Bool) (s : Shape) (xs : List ℕ) → Octets xs →
 filled-octets level s xs h = go (fill_refusal s xs) refl
   where
     go : (o : Option Refusal) → fill_refusal s xs ≡ o → Octets (fill_after level s xs)
-    go (some r) e = subst Octets (sym (refused-kept level s xs r e)) h
-    go none e =
+    go (Some r) e = subst Octets (sym (refused-kept level s xs r e)) h
+    go None e =
         subst Octets (sym (taken-filled level s xs e)) (each-octets level (records s xs) (pieces-octets (record_count s xs) (size s) xs h))
 
 -- ---- the transfers that were sampled, at a level
@@ -147,9 +147,9 @@ all-last (c ∷ cs) = (filled-last high c, all-last cs)
 -- ---- records that all have TLAST
 
 -- the items of a transfer with TLAST end in an end, so what follows is packed apart
-end-apart : (p : Pair) (next : Option (Item Kept)) → apart (some (end p)) next ≡ true
-end-apart p none = refl
-end-apart p (some i) = refl
+end-apart : (p : Pair) (next : Option (Item Kept)) → apart (Some (end p)) next ≡ true
+end-apart p None = refl
+end-apart p (Some i) = refl
 
 last-parted : (t : Transfer Kept) (is : List (Item Kept)) → t.last ≡ true → parted (transfer_items t) is ≡ true
 last-parted t is e = rw (e, last-append (map (byte t.pair) (kept t.lanes)) (end t.pair) []) (end-apart t.pair (head? is))

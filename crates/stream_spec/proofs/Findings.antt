@@ -1,10 +1,10 @@
 -- The first finding of a take is at the earliest cycle that breaks a rule, with the lowest rule broken there; and there is
 -- none only where no cycle breaks any rule. By induction on the cycles, with the cycle before them. Assumes nothing.
+use Rattle.std.specs.Prelude.{Option, None, Some}
 use mathlib.Core.Path.{◌≡◌, refl, sym, ap, ◌∙◌, subst}
 use mathlib.Core.Logic.{◌⊎◌, inl, inr, ⊎_elim}
 use mathlib.Core.Bool.{Bool, true, false}
 use mathlib.Core.List.{List, [], ◌∷◌}
-use mathlib.Core.Option.{Option, none, some}
 use Prim.Native.Nat.{ℕ, zero, suc, ◌+◌, ◌≤◌, ◌<◌}
 use native.Mathlib.Nat.{add-zero, add-suc, suc-add, zero-add}
 use native.Mathlib.Decide.{dec_le}
@@ -21,13 +21,13 @@ use Rattle.refusal.proofs.First.{first-none}
 -- the cycle before cycle k of cycles that follow a cycle, or none
 abbrev before : Option (List ℕ) → List (List ℕ) → ℕ → Option (List ℕ)
 before b cs zero = b
-before b cs (suc k) = some (get_or cs k [])
+before b cs (suc k) = Some (get_or cs k [])
 
 abbrev broken : Shape → Option (List ℕ) → List (List ℕ) → ℕ → ℕ → Bool
 broken s b cs k n = rule s (before b cs k) (get_or cs k []) n
 
 -- later cycles are judged as the cycles after the first one
-broken-later : (s : Shape) (b : Option (List ℕ)) (c : List ℕ) (cs : List (List ℕ)) (k n : ℕ) → broken s b (c ∷ cs) (suc k) n ≡ broken s (some c) cs k n
+broken-later : (s : Shape) (b : Option (List ℕ)) (c : List ℕ) (cs : List (List ℕ)) (k n : ℕ) → broken s b (c ∷ cs) (suc k) n ≡ broken s (Some c) cs k n
 broken-later s b c cs zero n = refl
 broken-later s b c cs (suc k) n = refl
 
@@ -53,7 +53,7 @@ here s b c cs i n e h =
     others (suc j) m l k = inl (omega arith)
 
 there : (s : Shape) (b : Option (List ℕ)) (c : List ℕ) (cs : List (List ℕ)) (i : ℕ) (f : Finding) → ((m : ℕ) → rule s b c m ≡ false)
-    → Earliest s (some c) cs (suc i) f → Earliest s b (c ∷ cs) i f
+    → Earliest s (Some c) cs (suc i) f → Earliest s b (c ∷ cs) i f
 there s b c cs i f h r =
     record {
       place = suc r.place;
@@ -96,11 +96,11 @@ module _ (s : Shape) (b : Option (List ℕ)) (c : List ℕ) where
 
   -- the first finding of these cycles is at this one, or, where no rule is broken here, at the cycles after it
   found-cons : (cs : List (List ℕ)) (i : ℕ) (f : Finding)
-      → (first (findings s (suc i) (some c) cs) ≡ some f → Earliest s (some c) cs (suc i) f)
-      → first (findings s i b (c ∷ cs)) ≡ some f → Earliest s b (c ∷ cs) i f
+      → (first (findings s (suc i) (Some c) cs) ≡ Some f → Earliest s (Some c) cs (suc i) f)
+      → first (findings s i b (c ∷ cs)) ≡ Some f → Earliest s b (c ∷ cs) i f
   found-cons cs i f ih e = go (r1 b c) refl (r2 b c) refl (r3 b c) refl (r4 s c) refl
     where
-      at : (n : ℕ) → some (finding i n) ≡ some f → rule s b c n ≡ true → Below n → Earliest s b (c ∷ cs) i f
+      at : (n : ℕ) → Some (finding i n) ≡ Some f → rule s b c n ≡ true → Below n → Earliest s b (c ∷ cs) i f
       at n q t h = let same : finding i n ≡ f = cc in subst (Earliest s b (c ∷ cs) i) same (here s b c cs i n t h)
 
       go : (a1 : Bool) → r1 b c ≡ a1 → (a2 : Bool) → r2 b c ≡ a2 → (a3 : Bool) → r3 b c ≡ a3 → (a4 : Bool) → r4 s c ≡ a4 → Earliest s b (c ∷ cs) i f
@@ -111,10 +111,10 @@ module _ (s : Shape) (b : Option (List ℕ)) (c : List ℕ) where
       go false e1 false e2 false e3 false e4 =
           there s b c cs i f (all_rules (one_more 4 (one_more 3 (one_more 2 (one_more 1 below1 e1) e2) e3) e4)) (ih (rw (e1, e2, e3, e4) at e))
 
-  pub none_here : (cs : List (List ℕ)) (i : ℕ) → first (findings s i b (c ∷ cs)) ≡ none
-      → ((m : ℕ) → rule s b c m ≡ false) × (first (findings s (suc i) (some c) cs) ≡ none)
+  pub none_here : (cs : List (List ℕ)) (i : ℕ) → first (findings s i b (c ∷ cs)) ≡ None
+      → ((m : ℕ) → rule s b c m ≡ false) × (first (findings s (suc i) (Some c) cs) ≡ None)
   none_here cs i e =
-      let rest = findings s (suc i) (some c) cs in
+      let rest = findings s (suc i) (Some c) cs in
       let c4 = check (r4 s c) (finding i 4) in
       let c3 = check (r3 b c) (finding i 3) in
       let c2 = check (r2 b c) (finding i 2) in
@@ -126,34 +126,34 @@ module _ (s : Shape) (b : Option (List ℕ)) (c : List ℕ) where
 
 -- ---- all cycles
 
-earliest : (s : Shape) (b : Option (List ℕ)) (cs : List (List ℕ)) (i : ℕ) (f : Finding) → first (findings s i b cs) ≡ some f → Earliest s b cs i f
+earliest : (s : Shape) (b : Option (List ℕ)) (cs : List (List ℕ)) (i : ℕ) (f : Finding) → first (findings s i b cs) ≡ Some f → Earliest s b cs i f
 earliest s b [] i f e = let z : ◌≡◌ {A = ℕ} 0 1 = cc in absurd (omega arith)
-earliest s b (c ∷ cs) i f e = found-cons s b c cs i f (earliest s (some c) cs (suc i) f) e
+earliest s b (c ∷ cs) i f e = found-cons s b c cs i f (earliest s (Some c) cs (suc i) f) e
 
-clean_all : (s : Shape) (b : Option (List ℕ)) (cs : List (List ℕ)) (i : ℕ) → first (findings s i b cs) ≡ none
+clean_all : (s : Shape) (b : Option (List ℕ)) (cs : List (List ℕ)) (i : ℕ) → first (findings s i b cs) ≡ None
     → (k n : ℕ) → k < length cs → broken s b cs k n ≡ false
 clean_all s b [] i e k n l = absurd (omega arith)
 clean_all s b (c ∷ cs) i e zero n l = (none_here s b c cs i e).0 n
 clean_all s b (c ∷ cs) i e (suc k) n l =
-    broken-later s b c cs k n ∙ clean_all s (some c) cs (suc i) (none_here s b c cs i e).1 k n (omega arith)
+    broken-later s b c cs k n ∙ clean_all s (Some c) cs (suc i) (none_here s b c cs i e).1 k n (omega arith)
 
 -- from the start of a take, where no cycle stands before the first
-as_breaks : (s : Shape) (cs : List (List ℕ)) (k n : ℕ) → breaks s cs k n ≡ broken s none cs k n
+as_breaks : (s : Shape) (cs : List (List ℕ)) (k n : ℕ) → breaks s cs k n ≡ broken s None cs k n
 as_breaks s cs zero n = refl
 as_breaks s cs (suc k) n = refl
 
-is_earliest : (s : Shape) (cs : List (List ℕ)) (f : Finding) → Earliest s none cs 0 f → IsEarliest s cs f
+is_earliest : (s : Shape) (cs : List (List ℕ)) (f : Finding) → Earliest s None cs 0 f → IsEarliest s cs f
 is_earliest s cs f r =
     let same : r.place ≡ f.cycle = sym (r.cycle ∙ zero-add r.place) in
     record {
       within = subst (λ (k : ℕ). k < length cs) same r.within;
-      broken = as_breaks s cs f.cycle f.rule ∙ subst (λ (k : ℕ). broken s none cs k f.rule ≡ true) same r.breaks;
+      broken = as_breaks s cs f.cycle f.rule ∙ subst (λ (k : ℕ). broken s None cs k f.rule ≡ true) same r.breaks;
       others = λ k n l h. subst (λ (j : ℕ). (j < k) ⊎ ((j ≡ k) × (f.rule ≤ n))) same (r.others k n l (sym (as_breaks s cs k n) ∙ h));
     }
 
 pub judges : Findings
 judges s xs =
     record {
-      found = λ f e. is_earliest s (records s xs) f (earliest s none (records s xs) 0 f e);
-      clean = λ e k n l. as_breaks s (records s xs) k n ∙ clean_all s none (records s xs) 0 e k n l;
+      found = λ f e. is_earliest s (records s xs) f (earliest s None (records s xs) 0 f e);
+      clean = λ e k n l. as_breaks s (records s xs) k n ∙ clean_all s None (records s xs) 0 e k n l;
     }

@@ -1,8 +1,8 @@
 -- The records of a packed form are filled from lane 0, and full but for the last of a stretch. Assumes nothing.
+use Rattle.std.specs.Prelude.{Option, Some}
 use mathlib.Core.Path.{◌≡◌, refl, sym, ap, ◌∙◌}
 use mathlib.Core.Bool.{Bool, true, false, not, ◌&&◌, ◌||◌, or-true}
 use mathlib.Core.List.{List, [], ◌∷◌, ◌++◌, map}
-use mathlib.Core.Option.{Option, some}
 use Prim.Native.Nat.{ℕ, zero, suc, ◌-◌, ◌*◌, ◌/◌, ◌≤◌, ◌<◌}
 use native.Mathlib.Nat.{suc-mul, zero-mul, div-mul-le_self}
 use native.Mathlib.Omega.{arith}
@@ -45,10 +45,10 @@ closes-last v t (u ∷ us) h = or_more (full v t && not (all_null u)) t.last (no
 -- a full transfer before more bytes
 closes-full : (v : ℕ) → 0 < v → (t : Transfer Kept) → full v t ≡ true
     → (k : ℕ) (p : Pair) (bs : List Kept) (ended : Bool) (us : List (Transfer Kept)) → 0 < length bs
-    → closes v t (spread k v p (map some bs) ended ++ us) ≡ true
+    → closes v t (spread k v p (map Some bs) ended ++ us) ≡ true
 closes-full (suc v) h t f k p [] ended us n = absurd (omega arith)
-closes-full (suc v) h t f zero p (b ∷ bs) ended us n = rw (f, ne_eqb (suc (length (kept (fitted v (map some bs))))) 0 (omega arith)) refl
-closes-full (suc v) h t f (suc k) p (b ∷ bs) ended us n = rw (f, ne_eqb (suc (length (kept (fitted v (map some bs))))) 0 (omega arith)) refl
+closes-full (suc v) h t f zero p (b ∷ bs) ended us n = rw (f, ne_eqb (suc (length (kept (fitted v (map Some bs))))) 0 (omega arith)) refl
+closes-full (suc v) h t f (suc k) p (b ∷ bs) ended us n = rw (f, ne_eqb (suc (length (kept (fitted v (map Some bs))))) 0 (omega arith)) refl
 closes-full zero h t f k p bs ended us n = absurd (omega arith)
 
 not_null : (ended : Bool) (bs : List Kept) → (ended || non_empty bs) ≡ true → (ended || not (eqb (length bs) 0)) ≡ true
@@ -57,34 +57,34 @@ not_null false (b ∷ bs) h = rw (ne_eqb (suc (length bs)) 0 (omega arith)) refl
 not_null false [] h = h
 
 packs-spread : (k v : ℕ) → 0 < v → (p : Pair) (bs : List Kept) (ended : Bool) (us : List (Transfer Kept)) → k * v ≤ length bs - 1 → length bs ≤ suc k * v
-    → (ended || non_empty bs) ≡ true → stops_at p ended us ≡ true → Packs v us → Packs v (spread k v p (map some bs) ended ++ us)
+    → (ended || non_empty bs) ≡ true → stops_at p ended us ≡ true → Packs v us → Packs v (spread k v p (map Some bs) ended ++ us)
 packs-spread zero v z p bs ended us low high i h k =
-    let same = kept-fitted v (map some bs) (rw (length-map bs some) (omega (arith, suc-mul 0 v, zero-mul v))) ∙ kept-some bs in (
-      ap (λ (cs : List Kept). fitted v (map some cs)) (sym same),
+    let same = kept-fitted v (map Some bs) (rw (length-map bs Some) (omega (arith, suc-mul 0 v, zero-mul v))) ∙ kept-some bs in (
+      ap (λ (cs : List Kept). fitted v (map Some cs)) (sym same),
       rw same (not_null ended bs i),
-      closes-last v (record { pair = p; lanes = fitted v (map some bs); last = ended }) us h,
+      closes-last v (record { pair = p; lanes = fitted v (map Some bs); last = ended }) us h,
       k,
     )
 packs-spread (suc k) v z p bs ended us low high i h e =
     let enough : v ≤ length bs = omega (arith, suc-mul k v) in
-    let lanes : fitted v (map some bs) ≡ map some (take v bs) =
-    fitted-take v (map some bs) (rw (length-map bs some) enough) ∙ take-map (λ (b : Kept). some b) v bs in
-    let keeps : kept (fitted v (map some bs)) ≡ take v bs = ap kept lanes ∙ kept-some (take v bs) in
-    let many : length (kept (fitted v (map some bs))) ≡ v = ap length keeps ∙ length-take-le v bs enough in
-    let t : Transfer Kept = record { pair = p; lanes = fitted v (map some bs); last = false } in
+    let lanes : fitted v (map Some bs) ≡ map Some (take v bs) =
+    fitted-take v (map Some bs) (rw (length-map bs Some) enough) ∙ take-map (λ (b : Kept). Some b) v bs in
+    let keeps : kept (fitted v (map Some bs)) ≡ take v bs = ap kept lanes ∙ kept-some (take v bs) in
+    let many : length (kept (fitted v (map Some bs))) ≡ v = ap length keeps ∙ length-take-le v bs enough in
+    let t : Transfer Kept = record { pair = p; lanes = fitted v (map Some bs); last = false } in
     let rest : 0 < length (drop v bs) = omega (arith, length-drop v bs, suc-mul k v) in (
-      lanes ∙ sym (ap (λ (cs : List Kept). fitted v (map some cs)) keeps ∙ again v (take v bs) (length-take-le v bs enough)),
-      rw (ne_eqb (length (kept (fitted v (map some bs)))) 0 (omega arith)) refl,
-      rw (drop-map (λ (b : Kept). some b) v bs) (closes-full v z t (eq-eqb (length (kept (fitted v (map some bs)))) v many) k p (drop v bs) ended us rest),
-      rw (drop-map (λ (b : Kept). some b) v bs)
+      lanes ∙ sym (ap (λ (cs : List Kept). fitted v (map Some cs)) keeps ∙ again v (take v bs) (length-take-le v bs enough)),
+      rw (ne_eqb (length (kept (fitted v (map Some bs)))) 0 (omega arith)) refl,
+      rw (drop-map (λ (b : Kept). Some b) v bs) (closes-full v z t (eq-eqb (length (kept (fitted v (map Some bs)))) v many) k p (drop v bs) ended us rest),
+      rw (drop-map (λ (b : Kept). Some b) v bs)
           (packs-spread k v z p (drop v bs) ended us (omega (arith, length-drop v bs, suc-mul k v)) (omega (arith, length-drop v bs, suc-mul (suc k) v))
           (some_left ended (drop v bs) rest) h e),
     )
   where
-    again : (v : ℕ) (cs : List Kept) → length cs ≡ v → fitted v (map some cs) ≡ map some cs
+    again : (v : ℕ) (cs : List Kept) → length cs ≡ v → fitted v (map Some cs) ≡ map Some cs
     again v cs e =
-        let same : length (map {B = Option Kept} (λ (b : Kept). some b) cs) ≡ length cs = length-map cs (λ (b : Kept). some b) in
-        fitted-take v (map some cs) (omega arith) ∙ take_all v (map some cs) (omega arith)
+        let same : length (map {B = Option Kept} (λ (b : Kept). Some b) cs) ≡ length cs = length-map cs (λ (b : Kept). Some b) in
+        fitted-take v (map Some cs) (omega arith) ∙ take_all v (map Some cs) (omega arith)
 
     some_left : (ended : Bool) (cs : List Kept) → 0 < length cs → (ended || non_empty cs) ≡ true
     some_left ended [] h = absurd (omega arith)
@@ -95,7 +95,7 @@ stops_packed : (v : ℕ) (s : Stretch Kept) (ss : List (Stretch Kept)) → stops
 stops_packed v s [] h = refl
 stops_packed v s (t ∷ ts) h = go ((length t.bytes - 1) / v)
   where
-    go : (k : ℕ) → stops_at s.pair s.ended (spread k v t.pair (map some t.bytes) t.ended ++ pack_stretches v ts) ≡ true
+    go : (k : ℕ) → stops_at s.pair s.ended (spread k v t.pair (map Some t.bytes) t.ended ++ pack_stretches v ts) ≡ true
     go zero = h
     go (suc k) = h
 

@@ -1,9 +1,9 @@
 -- How much is harvested; and what an accepted harvest writes is a legal stream: its cycles had no bad field, and no rule is
 -- broken, so none of those with ARESETn and TVALID high has a reserved lane (R4). Assumes nothing.
+use Rattle.std.specs.Prelude.{Option, None, Some}
 use mathlib.Core.Path.{◌≡◌, refl, ap, ◌∙◌}
 use mathlib.Core.Bool.{Bool, true, false, ◌&&◌}
 use mathlib.Core.List.{List, [], ◌∷◌, ◌++◌, map}
-use mathlib.Core.Option.{Option, none, some}
 use Prim.Native.Nat.{ℕ, suc, ◌*◌, ◌≤◌, ◌<◌}
 use native.Mathlib.Nat.{le_trans, mul-mod_left, mul-le-mul_right, div-mul-le_self}
 use native.Mathlib.Omega.{arith}
@@ -36,15 +36,15 @@ abbrev Good : Shape → List (List ℕ) → Type 0
 Good s [] = Unit {0}
 Good s (c ∷ cs) = (field_fault cycle_flags s c ≡ false) × (r4 s c ≡ false) × Good s cs
 
-good : (s : Shape) (b : Option (List ℕ)) (cs : List (List ℕ)) (k i : ℕ) → first (cycle_checks s k cs) ≡ none → first (findings s i b cs) ≡ none → Good s cs
+good : (s : Shape) (b : Option (List ℕ)) (cs : List (List ℕ)) (k i : ℕ) → first (cycle_checks s k cs) ≡ None → first (findings s i b cs) ≡ None → Good s cs
 good s b [] k i e f = tt
 good s b (c ∷ cs) k i e f =
     let h = each_none (cycle_faults s) k c cs e in
     let field = first-none (check (field_fault cycle_flags s c) (Field k)) [] h.0 in
     let rules = none_here s b c cs i f in
-    (field.0, rules.0 4, good s (some c) cs (suc k) (suc i) h.1 rules.1)
+    (field.0, rules.0 4, good s (Some c) cs (suc k) (suc i) h.1 rules.1)
 
-unclean_none : (fs : List (Check Finding)) → first (map unclean_check fs) ≡ none → first fs ≡ none
+unclean_none : (fs : List (Check Finding)) → first (map unclean_check fs) ≡ None → first fs ≡ None
 unclean_none [] e = refl
 unclean_none (f ∷ fs) e = let h = first-none (unclean_check f) (map unclean_check fs) e in none_first f fs h.0 (unclean_none fs h.1)
 
@@ -150,14 +150,14 @@ module _ (s : Shape) (xs : List ℕ) where
 -- ---- harvest
 
 -- what the checks of harvest let through
-harvest_good : (s : Shape) (xs : List ℕ) (room : ℕ) → harvest_refusal s xs room ≡ none → Passed s xs × Good s (records s xs)
+harvest_good : (s : Shape) (xs : List ℕ) (room : ℕ) → harvest_refusal s xs room ≡ None → Passed s xs × Good s (records s xs)
 harvest_good s xs room e =
-    let rules = map unclean_check (findings s 0 none (records s xs)) in
+    let rules = map unclean_check (findings s 0 None (records s xs)) in
     let roomy = room_check (harvested s xs) room ∷ [] in
     let j = append-none (judge_checks s xs) (rules ++ roomy) e in
     let t = append-none (take_checks s xs) (cycle_checks s 0 (records s xs)) j.0 in
     let u = append-none rules roomy j.1 in
-    (checks-passed s xs t.0, good s none (records s xs) 0 0 t.1 (unclean_none (findings s 0 none (records s xs)) u.0))
+    (checks-passed s xs t.0, good s None (records s xs) 0 0 t.1 (unclean_none (findings s 0 None (records s xs)) u.0))
 
 pub harvest_legal : HarvestLegal
 harvest_legal s xs room o e =

@@ -1,9 +1,9 @@
 -- What is certain once more items follow: all packed records but the last, and the last too where it has TLAST. What is
 -- held is packed again with what follows. Assumes nothing.
+use Rattle.std.specs.Prelude.{Option, Some}
 use mathlib.Core.Path.{◌≡◌, refl, sym, ap, ap₂, ◌∙◌, subst}
 use mathlib.Core.Bool.{Bool, true, false}
 use mathlib.Core.List.{List, [], ◌∷◌, ◌++◌, map, append_assoc, append-nil}
-use mathlib.Core.Option.{Option, some}
 use Prim.Native.Nat.{ℕ, zero, suc, ◌+◌, ◌-◌, ◌*◌, ◌/◌, ◌≤◌, ◌<◌, min}
 use native.Mathlib.Nat.{suc-mul, zero-mul, div-add-mod', add-div_left}
 use native.Mathlib.Numerals.{add-one}
@@ -60,19 +60,19 @@ module _ {A : Type 0} where
 
   spread-full : (v : ℕ) → 0 < v → (p : Pair) (xs : List A) (y : A) (ys : List A) (ended : Bool) → length xs ≡ v
       → pack_stretch v (record { pair = p; bytes = xs ++ y ∷ ys; ended = ended })
-      ≡ record { pair = p; lanes = map some xs; last = false } ∷ pack_stretch v (record { pair = p; bytes = y ∷ ys; ended = ended })
+      ≡ record { pair = p; lanes = map Some xs; last = false } ∷ pack_stretch v (record { pair = p; bytes = y ∷ ys; ended = ended })
   spread-full v h p xs y ys ended e =
-      rw (length-append xs (y ∷ ys), count-full v (length xs) (length ys) h e, map-append (λ (a : A). some a) xs (y ∷ ys))
-      (rw (fitted-full v (map some xs) (map some (y ∷ ys)) (length-map xs some ∙ e), drop_at (map some xs) (map some (y ∷ ys)) v (length-map xs some ∙ e)) refl)
+      rw (length-append xs (y ∷ ys), count-full v (length xs) (length ys) h e, map-append (λ (a : A). Some a) xs (y ∷ ys))
+      (rw (fitted-full v (map Some xs) (map Some (y ∷ ys)) (length-map xs Some ∙ e), drop_at (map Some xs) (map Some (y ∷ ys)) v (length-map xs Some ∙ e)) refl)
 
   -- v bytes with one of the same pair behind them are a full record
   pub pack-full : (v : ℕ) → 0 < v → (p : Pair) (xs : List A) (y : A) (ys : List A) (js : List (Item A)) → length xs ≡ v
       → pack v (map (byte p) (xs ++ y ∷ ys) ++ js)
-      ≡ record { pair = p; lanes = map some xs; last = false } ∷ pack v (map (byte p) (y ∷ ys) ++ js)
+      ≡ record { pair = p; lanes = map Some xs; last = false } ∷ pack v (map (byte p) (y ∷ ys) ++ js)
   pack-full v h p xs y ys js e = go (attach-starts p y (cut (map (byte p) ys ++ js)))
     where
       go : Starts p y (cut (map (byte p) (y ∷ ys) ++ js)) → pack v (map (byte p) (xs ++ y ∷ ys) ++ js)
-          ≡ record { pair = p; lanes = map some xs; last = false } ∷ pack v (map (byte p) (y ∷ ys) ++ js)
+          ≡ record { pair = p; lanes = map Some xs; last = false } ∷ pack v (map (byte p) (y ∷ ys) ++ js)
       go s =
           rw (map-append (λ (a : A). byte p a) xs (y ∷ ys), append_assoc (map (byte p) xs) (map (byte p) (y ∷ ys)) js)
           (rw (cut-run p xs (y ∷ s.more) s.ended s.rest (map (byte p) (y ∷ ys) ++ js) s.is, s.is)
@@ -102,7 +102,7 @@ module _ {A : Type 0} where
   held_first t ts s = held_onto (t ∷ []) ts s
 
   stretches_some : (v : ℕ) (s : Stretch A) (ss : List (Stretch A)) → Spread (pack_stretches v (s ∷ ss))
-  stretches_some v s ss = go (spread-some ((length s.bytes - 1) / v) v s.pair (map some s.bytes) s.ended)
+  stretches_some v s ss = go (spread-some ((length s.bytes - 1) / v) v s.pair (map Some s.bytes) s.ended)
     where
       go : Spread (pack_stretch v s) → Spread (pack_stretches v (s ∷ ss))
       go f = rw f.is (record { first = f.first; rest = f.rest ++ pack_stretches v ss; is = refl })
@@ -112,37 +112,37 @@ module _ {A : Type 0} where
   HoldsAs v is ts js = pack v (is ++ js) ≡ settled ts ++ pack v (items (held ts) ++ js)
 
   hold_full : (k v : ℕ) → 0 < v → (p : Pair) (xs : List A) (y : A) (ys : List A) (js : List (Item A)) → length xs ≡ v
-      → HoldsAs v (map (byte p) (y ∷ ys)) (spread k v p (map some (y ∷ ys)) false) js
-      → HoldsAs v (map (byte p) (xs ++ y ∷ ys)) (spread (suc k) v p (map some (xs ++ y ∷ ys)) false) js
+      → HoldsAs v (map (byte p) (y ∷ ys)) (spread k v p (map Some (y ∷ ys)) false) js
+      → HoldsAs v (map (byte p) (xs ++ y ∷ ys)) (spread (suc k) v p (map Some (xs ++ y ∷ ys)) false) js
   hold_full k v h p xs y ys js e ih =
-      let t : Transfer A = record { pair = p; lanes = map some xs; last = false } in
-      let ts : List (Transfer A) = spread k v p (map some (y ∷ ys)) false in
-      let same : spread (suc k) v p (map some (xs ++ y ∷ ys)) false ≡ t ∷ ts =
-      rw (map-append (λ (a : A). some a) xs (y ∷ ys))
-      (rw (fitted-full v (map some xs) (map some (y ∷ ys)) (length-map xs some ∙ e), drop_at (map some xs) (map some (y ∷ ys)) v (length-map xs some ∙ e))
+      let t : Transfer A = record { pair = p; lanes = map Some xs; last = false } in
+      let ts : List (Transfer A) = spread k v p (map Some (y ∷ ys)) false in
+      let same : spread (suc k) v p (map Some (xs ++ y ∷ ys)) false ≡ t ∷ ts =
+      rw (map-append (λ (a : A). Some a) xs (y ∷ ys))
+      (rw (fitted-full v (map Some xs) (map Some (y ∷ ys)) (length-map xs Some ∙ e), drop_at (map Some xs) (map Some (y ∷ ys)) v (length-map xs Some ∙ e))
       refl) in
       subst (λ (us : List (Transfer A)). HoldsAs v (map (byte p) (xs ++ y ∷ ys)) us js) (sym same)
       (pack-full v h p xs y ys js e ∙ ap {B = List (Transfer A)} (λ l. t ∷ l) ih
       ∙ sym
-      (ap₂ (λ (a b : List (Transfer A)). a ++ pack v (items b ++ js)) (settled-first t ts (spread-some k v p (map some (y ∷ ys)) false))
-      (held_first t ts (spread-some k v p (map some (y ∷ ys)) false))))
+      (ap₂ (λ (a b : List (Transfer A)). a ++ pack v (items b ++ js)) (settled-first t ts (spread-some k v p (map Some (y ∷ ys)) false))
+      (held_first t ts (spread-some k v p (map Some (y ∷ ys)) false))))
 
   -- of bytes laid out without an end the full records are settled, and the last one is held
   hold_run : (k v : ℕ) → 0 < v → (p : Pair) (bs : List A) (js : List (Item A)) → k * v < length bs → length bs ≤ suc k * v
-      → HoldsAs v (map (byte p) bs) (spread k v p (map some bs) false) js
+      → HoldsAs v (map (byte p) bs) (spread k v p (map Some bs) false) js
   hold_run zero v h p bs js low high =
-      ap (λ (cs : List A). pack v (map (byte p) cs ++ js)) (sym (kept-fitted v (map some bs) (rw (length-map bs some) (omega (arith, suc-mul 0 v, zero-mul v))) ∙ kept-some bs))
+      ap (λ (cs : List A). pack v (map (byte p) cs ++ js)) (sym (kept-fitted v (map Some bs) (rw (length-map bs Some) (omega (arith, suc-mul 0 v, zero-mul v))) ∙ kept-some bs))
       ∙ simp append-nil
   hold_run (suc k) v h p bs js low high =
       go (λ (cs : List A). hold_run k v h p cs js) (drop v bs) refl (length-drop v bs) (length-take v bs)
     where
-      go : ((cs : List A) → k * v < length cs → length cs ≤ suc k * v → HoldsAs v (map (byte p) cs) (spread k v p (map some cs) false) js)
+      go : ((cs : List A) → k * v < length cs → length cs ≤ suc k * v → HoldsAs v (map (byte p) cs) (spread k v p (map Some cs) false) js)
           → (cs : List A) → drop v bs ≡ cs → length (drop v bs) ≡ length bs - v → length (take v bs) ≡ min v (length bs)
-          → HoldsAs v (map (byte p) bs) (spread (suc k) v p (map some bs) false) js
+          → HoldsAs v (map (byte p) bs) (spread (suc k) v p (map Some bs) false) js
       go ih [] e d t = absurd (omega (arith, ap length e, suc-mul k v))
       go ih (y ∷ ys) e d t =
           let long : length (y ∷ ys) ≡ length bs - v = ap length (sym e) ∙ d in
-          subst (λ (cs : List A). HoldsAs v (map (byte p) cs) (spread (suc k) v p (map some cs) false) js)
+          subst (λ (cs : List A). HoldsAs v (map (byte p) cs) (spread (suc k) v p (map Some cs) false) js)
           (ap (λ (cs : List A). take v bs ++ cs) (sym e) ∙ take-append-drop v bs)
           (hold_full k v h p (take v bs) y ys js (omega (arith, suc-mul k v))
           (ih (y ∷ ys) (omega (arith, suc-mul k v)) (omega (arith, suc-mul k v, suc-mul (suc k) v))))
@@ -172,7 +172,7 @@ module _ {A : Type 0} where
       → HoldsAs v (items_of p bs ended) (pack_stretch v (record { pair = p; bytes = bs; ended = ended })) js
   hold_stretch v h p bs true js k =
       let n = (length bs - 1) / v in
-      rw (settled-ended n v p (map some bs), held-ended n v p (map some bs))
+      rw (settled-ended n v p (map Some bs), held-ended n v p (map Some bs))
       (pack-stretch v (record { pair = p; bytes = bs; ended = true }) js refl (ended_stops p bs (cut js)))
   hold_stretch v h p [] false js k = let z : ◌≡◌ {A = ℕ} 0 1 = cc in absurd (omega arith)
   hold_stretch v h p (b ∷ bs) false js k =

@@ -1,9 +1,9 @@
 -- No shorter stream (T-07), over lists of items: a transfer's items lie in one stretch and are at most v bytes, so in front of
 -- other items they add one transfer at most. So no transfers of v lanes are fewer than the packed form of their items. Assumes nothing.
+use Rattle.std.specs.Prelude.{Option, None, Some}
 use mathlib.Core.Path.{◌≡◌, refl, sym, ap, ◌∙◌}
 use mathlib.Core.Bool.{Bool, true, false}
 use mathlib.Core.List.{List, [], ◌∷◌, ◌++◌, map, append-nil}
-use mathlib.Core.Option.{Option, none, some}
 use Prim.Native.Nat.{ℕ, suc, ◌+◌, ◌-◌, ◌*◌, ◌/◌, ◌≤◌, ◌<◌}
 use native.Mathlib.Nat.{div-lt_iff_lt-mul, lt-div-mul-add, suc-mul, div-eq_of_lt}
 use native.Mathlib.Omega.{arith}
@@ -25,8 +25,8 @@ one_more v k n h few =
 module _ {A : Type 0} where
   kept-few : (ls : List (Option A)) → length (kept ls) ≤ length ls
   kept-few [] = omega arith
-  kept-few (none ∷ ls) = omega (arith, kept-few ls)
-  kept-few (some a ∷ ls) = omega (arith, kept-few ls)
+  kept-few (None ∷ ls) = omega (arith, kept-few ls)
+  kept-few (Some a ∷ ls) = omega (arith, kept-few ls)
 
 module _ {A : Type 0} (v : ℕ) (h : 0 < v) where
   abbrev count : List (Stretch A) → ℕ
@@ -35,7 +35,7 @@ module _ {A : Type 0} (v : ℕ) (h : 0 < v) where
   count-first : (s : Stretch A) (ss : List (Stretch A)) → count (s ∷ ss) ≡ suc ((length s.bytes - 1) / v) + count ss
   count-first s ss =
       length-append (pack_stretch v s) (pack_stretches v ss)
-      ∙ ap (λ (n : ℕ). n + count ss) (length-spread ((length s.bytes - 1) / v) v s.pair (map some s.bytes) s.ended)
+      ∙ ap (λ (n : ℕ). n + count ss) (length-spread ((length s.bytes - 1) / v) v s.pair (map Some s.bytes) s.ended)
 
   -- what is to be shown of a transfer's items in front of others
   abbrev OneMore : List (Item A) → List (Item A) → Type 0

@@ -1,9 +1,9 @@
 -- Legal streams: what is known of their transfers, and that transfers with those facts make legal streams. So the packed
 -- form, lane-keeping slices and harvested takes are legal. Assumes nothing.
+use Rattle.std.specs.Prelude.{Option, None, Some}
 use mathlib.Core.Path.{◌≡◌, refl, ap, ◌∙◌}
 use mathlib.Core.Bool.{Bool, false}
 use mathlib.Core.List.{List, [], ◌∷◌, ◌++◌, map}
-use mathlib.Core.Option.{Option, none, some}
 use Prim.Native.Nat.{ℕ, zero, suc, ◌*◌, ◌/◌, ◌%◌, ◌^◌, ◌≤◌, ◌<◌}
 use native.Mathlib.Nat.{mul-mod_left, mod-lt}
 use native.Mathlib.Omega.{arith}
@@ -74,7 +74,7 @@ abbrev pub Faultless : Shape → List (List ℕ) → Type 0
 Faultless s [] = Unit {0}
 Faultless s (r ∷ rs) = (field_fault transfer_flags s r ≡ false) × (reserved_fault s r ≡ false) × Faultless s rs
 
-pub faultless_of : (s : Shape) (k : ℕ) (rs : List (List ℕ)) → first (transfer_checks s k rs) ≡ none → Faultless s rs
+pub faultless_of : (s : Shape) (k : ℕ) (rs : List (List ℕ)) → first (transfer_checks s k rs) ≡ None → Faultless s rs
 faultless_of s k [] e = tt
 faultless_of s k (r ∷ rs) e =
     let h = each_none (transfer_faults s) k r rs e in
@@ -82,7 +82,7 @@ faultless_of s k (r ∷ rs) e =
     let reserved = first-none (check (reserved_fault s r) (Reserved k)) [] field.1 in
     (field.0, reserved.0, faultless_of s (suc k) rs h.1)
 
-pub of_faultless : (s : Shape) (k : ℕ) (rs : List (List ℕ)) → Faultless s rs → first (transfer_checks s k rs) ≡ none
+pub of_faultless : (s : Shape) (k : ℕ) (rs : List (List ℕ)) → Faultless s rs → first (transfer_checks s k rs) ≡ None
 of_faultless s k [] h = refl
 of_faultless s k (r ∷ rs) h = none_each (transfer_faults s) k r rs (rw (h.0, h.1) refl) (of_faultless s (suc k) rs h.2)
 
@@ -152,9 +152,9 @@ bit-octet b = omega (arith, bit-one b)
 
 data-octets : (m : ℕ) (ls : List (Option Kept)) → EachLane PairFits (ByteFits m) ls → Octets (map lane_octet ls)
 data-octets m [] h = tt
-data-octets m (none ∷ ls) h = (omega arith, data-octets m ls h)
-data-octets m (some (octet d u) ∷ ls) h = (h.0.0, data-octets m ls h.1)
-data-octets m (some (position u) ∷ ls) h = (omega arith, data-octets m ls h.1)
+data-octets m (None ∷ ls) h = (omega arith, data-octets m ls h)
+data-octets m (Some (octet d u) ∷ ls) h = (h.0.0, data-octets m ls h.1)
+data-octets m (Some (position u) ∷ ls) h = (omega arith, data-octets m ls h.1)
 
 word-octets : (k n : ℕ) → Octets (octets_of_word k n)
 word-octets zero n = tt
@@ -183,9 +183,9 @@ transfers-octets m w (t ∷ ts) h k l =
 
 -- the two bits of a lane are never those of a reserved one
 lane_unreserved : (l : Option Kept) → is_reserved (lane_type (keep_bit l) (strb_bit l)) ≡ false
-lane_unreserved none = refl
-lane_unreserved (some (octet d u)) = refl
-lane_unreserved (some (position u)) = refl
+lane_unreserved None = refl
+lane_unreserved (Some (octet d u)) = refl
+lane_unreserved (Some (position u)) = refl
 
 lanes_unreserved : (ls : List (Option Kept)) → any_reserved (types_of (length ls) (mask_of (map keep_bit ls)) (mask_of (map strb_bit ls))) ≡ false
 lanes_unreserved [] = refl
@@ -204,9 +204,9 @@ bit-low b = omega (arith, bit-one b)
 -- what fits as a byte has bits that fit
 bytes-tagged : (m : ℕ) (ls : List (Option Kept)) → EachLane PairFits (ByteFits m) ls → LanesTagged m ls
 bytes-tagged m [] h = tt
-bytes-tagged m (none ∷ ls) h = bytes-tagged m ls h
-bytes-tagged m (some (octet d u) ∷ ls) h = (h.0.1, bytes-tagged m ls h.1)
-bytes-tagged m (some (position u) ∷ ls) h = (h.0, bytes-tagged m ls h.1)
+bytes-tagged m (None ∷ ls) h = bytes-tagged m ls h
+bytes-tagged m (Some (octet d u) ∷ ls) h = (h.0.1, bytes-tagged m ls h.1)
+bytes-tagged m (Some (position u) ∷ ls) h = (h.0, bytes-tagged m ls h.1)
 
 -- so the padding is zero
 pub record_user : (s : Shape) (t : Transfer Kept) → length t.lanes ≡ s.width → LanesTagged s.user t.lanes

@@ -1,10 +1,10 @@
 -- "may be longer than a take": there are legal streams of any number of records; demand 3 speaks of them, in calls and in parts, and so
 -- does T-07 of the stream that a packed form is compared with. The promise of archived files does not: slices that are longer than a
 -- take are refused with 2. Assumes nothing.
+use Rattle.std.specs.Prelude.{Option, None, Some}
 use mathlib.Core.Path.{◌≡◌, refl, sym, ap, ap₂, ◌∙◌}
 use mathlib.Core.Bool.{Bool, true, false, cond}
 use mathlib.Core.List.{List, [], ◌∷◌, ◌++◌, head?, get_last?}
-use mathlib.Core.Option.{Option, none, some}
 use Prim.Native.Nat.{ℕ, zero, suc, ◌+◌, ◌*◌, ◌/◌, ◌≤◌, ◌<◌}
 use native.Mathlib.Omega.{arith}
 use lib.Dec.{ltb, lit≤}
@@ -121,7 +121,7 @@ behind k =
 -- ---- any number of parts
 
 abbrev end_only : Transfer Kept
-end_only = transfer (none ∷ []) true
+end_only = transfer (None ∷ []) true
 
 many-octets : (n : ℕ) → whole (many_parts n) ≡ octets 0 (replicate n end_only)
 many-octets zero = refl
@@ -134,7 +134,7 @@ many-tagged (suc n) = (tt, tt, many-tagged n)
 many-accepted : (n : ℕ) → AllAccepted (lanes 1) 2 (many_parts n) (replicate {A = ℕ} n 1)
 unfolding size repack_answer
 many-accepted zero = refl
-many-accepted (suc n) = ap {B = List (Option ℕ)} (λ (l : List (Option ℕ)). some 1 ∷ l) (many-accepted n)
+many-accepted (suc n) = ap {B = List (Option ℕ)} (λ (l : List (Option ℕ)). Some 1 ∷ l) (many-accepted n)
 
 many-items : (n : ℕ) → stream_items (lanes 1) (whole (many_parts n)) ≡ items (replicate n end_only)
 many-items n =
@@ -151,8 +151,8 @@ before-many (suc n) (b ∷ before) after e =
 
 many-apart : (n : ℕ) (j : Option (Item Kept)) → apart (get_last? (items (replicate n end_only))) j ≡ true
 many-apart zero j = refl
-many-apart (suc zero) none = refl
-many-apart (suc zero) (some j) = refl
+many-apart (suc zero) None = refl
+many-apart (suc zero) (Some j) = refl
 many-apart (suc (suc n)) j = many-apart (suc n) j
 
 many-divides : (n : ℕ) → Divides (lanes 1) (many_parts n)
@@ -178,7 +178,7 @@ pub short_archives : ArchivesOf (λ (xs ys : List ℕ). length ys ≤ capture_mo
 short_archives = archives_repack
 
 -- such slices are refused with 2, and a legal stream that is as short as a take never is
-no_length : (b : Bool) (n m : ℕ) → written (some Length) n ≡ written (cond b (some Room) none) m → ⊥
+no_length : (b : Bool) (n m : ℕ) → written (Some Length) n ≡ written (cond b (Some Room) None) m → ⊥
 no_length true n m e = let z : ◌≡◌ {A = ℕ} 0 1 = cc in absurd (omega arith)
 no_length false n m e = let z : ◌≡◌ {A = ℕ} 0 1 = cc in absurd (omega arith)
 
@@ -187,9 +187,9 @@ never_alike : (s t : Shape) (u : ℕ) (xs ys : List ℕ) (room : ℕ) → WidthF
 unfolding repack_answer
 never_alike s t u xs ys room w l short shape long e =
     let later = transfer_checks t 0 (records t ys) ++ room_check (packed t u ys) room ∷ [] in
-    let two : repack_refusal t u ys room ≡ some Length =
+    let two : repack_refusal t u ys room ≡ Some Length =
     shapes_left t u (length_check t ys ∷ later) shape ∙ rw (fits_width u w, lt-ltb capture_most (length ys) long) refl in
-    let other : repack_refusal s u xs room ≡ cond (ltb room (length (packed s u xs))) (some Room) none =
+    let other : repack_refusal s u xs room ≡ cond (ltb room (length (packed s u xs))) (Some Room) None =
     legal_repacks s u xs room l short ∙ rw (fits_width u w) refl in
     no_length (ltb room (length (packed s u xs))) (length (packed_transfers t u ys)) (length (packed_transfers s u xs))
     (sym (ap (λ (o : Option Refusal). written o (length (packed_transfers t u ys))) two) ∙ e ∙ ap (λ (o : Option Refusal). written o (length (packed_transfers s u xs))) other)

@@ -1,9 +1,9 @@
 -- Transfers that are filled from lane 0, full where another one follows, and all-null only for an end that stands alone,
 -- are the packed form of their items: the properties of a packed form leave no choice. Assumes nothing.
+use Rattle.std.specs.Prelude.{Option, None, Some}
 use mathlib.Core.Path.{◌≡◌, refl, sym, ap, ◌∙◌}
 use mathlib.Core.Bool.{Bool, true, false, not, ◌&&◌, ◌||◌, cond}
 use mathlib.Core.List.{List, [], ◌∷◌, ◌++◌, map, append-nil, append_assoc}
-use mathlib.Core.Option.{Option, none, some}
 use Prim.Native.Nat.{ℕ, ◌-◌, ◌/◌, ◌≤◌, ◌<◌}
 use native.Mathlib.Nat.{div-eq_of_lt}
 use native.Mathlib.Omega.{arith}
@@ -21,17 +21,17 @@ use Rattle.stream_spec.proofs.Hold.{fitted-full, pack-stretch, pack-full}
 
 kept_fewer : (ls : List (Option Kept)) → length (kept ls) ≤ length ls
 kept_fewer [] = omega arith
-kept_fewer (none ∷ ls) = omega (arith, kept_fewer ls)
-kept_fewer (some a ∷ ls) = omega (arith, kept_fewer ls)
+kept_fewer (None ∷ ls) = omega (arith, kept_fewer ls)
+kept_fewer (Some a ∷ ls) = omega (arith, kept_fewer ls)
 
 -- the stretch of a transfer's items
 abbrev stretch_of : Transfer Kept → Stretch Kept
 stretch_of t = record { pair = t.pair; bytes = kept t.lanes; ended = t.last }
 
 -- a stretch that fits one transfer is that transfer
-one-transfer : (v : ℕ) → 0 < v → (t : Transfer Kept) → t.lanes ≡ fitted v (map some (kept t.lanes)) → pack_stretch v (stretch_of t) ≡ t ∷ []
+one-transfer : (v : ℕ) → 0 < v → (t : Transfer Kept) → t.lanes ≡ fitted v (map Some (kept t.lanes)) → pack_stretch v (stretch_of t) ≡ t ∷ []
 one-transfer v h t e =
-    let few : length (kept t.lanes) ≤ v = omega (arith, kept_fewer t.lanes, ap length e, length-fitted v (map some (kept t.lanes))) in
+    let few : length (kept t.lanes) ≤ v = omega (arith, kept_fewer t.lanes, ap length e, length-fitted v (map Some (kept t.lanes))) in
     let none_before : (length (kept t.lanes) - 1) / v ≡ 0 = div-eq_of_lt (omega arith) in
     rw none_before
     (ap {B = List (Transfer Kept)} (λ (ls : List (Option Kept)). record { pair = t.pair; lanes = ls; last = t.last } ∷ []) (sym e))
@@ -42,7 +42,7 @@ proper_of false [] h = h
 proper_of false (b ∷ bs) h = refl
 
 -- a transfer that stops before the next one is packed by itself
-only_stops : (v : ℕ) → 0 < v → (t : Transfer Kept) (is : List (Item Kept)) → t.lanes ≡ fitted v (map some (kept t.lanes))
+only_stops : (v : ℕ) → 0 < v → (t : Transfer Kept) (is : List (Item Kept)) → t.lanes ≡ fitted v (map Some (kept t.lanes))
     → (t.last || not (all_null t)) ≡ true → stops (stretch_of t) (cut is) ≡ true → t ∷ pack v is ≡ pack v (items_of t.pair (kept t.lanes) t.last ++ is)
 only_stops v h t is e i s =
     sym
@@ -51,12 +51,12 @@ only_stops v h t is e i s =
 
 -- a full transfer goes on into the next one, which has a byte of its pair
 only-full : (v : ℕ) → 0 < v → (p : Pair) (ls : List (Option Kept)) (last : Bool) (bs : List Kept) (js : List (Item Kept))
-    → ls ≡ fitted v (map some (kept ls)) → length (kept ls) ≡ v → (length bs ≡ 0 → ⊥)
+    → ls ≡ fitted v (map Some (kept ls)) → length (kept ls) ≡ v → (length bs ≡ 0 → ⊥)
     → record { pair = p; lanes = ls; last = false } ∷ pack v (items_of p bs last ++ js) ≡ pack v (items_of p (kept ls) false ++ (items_of p bs last ++ js))
 only-full v h p ls last [] js e n z = absurd (z refl)
 only-full v h p ls last (b ∷ bs) js e n z =
-    let lanes : ls ≡ map some (kept ls) =
-    e ∙ ap (fitted v) (sym (append-nil (map some (kept ls)))) ∙ fitted-full v (map some (kept ls)) [] (length-map (kept ls) some ∙ n) in
+    let lanes : ls ≡ map Some (kept ls) =
+    e ∙ ap (fitted v) (sym (append-nil (map Some (kept ls)))) ∙ fitted-full v (map Some (kept ls)) [] (length-map (kept ls) Some ∙ n) in
     let rest : List (Item Kept) = cond last (end p ∷ []) [] ++ js in
     ap (λ (l : List (Item Kept)). record { pair = p; lanes = ls; last = false } ∷ pack v l) (append_assoc (map (byte p) (b ∷ bs)) (cond last (end p ∷ []) []) js)
     ∙ ap {B = List (Transfer Kept)} (λ (l : List (Option Kept)). record { pair = p; lanes = l; last = false } ∷ pack v (map (byte p) (b ∷ bs) ++ rest)) lanes

@@ -1,9 +1,9 @@
 -- The packed form and lane-keeping slices carry the items they were made of, have the asked width, and their records are
 -- full but the last of a stretch. Packed forms join where demand 3's condition holds. Assumes nothing.
+use Rattle.std.specs.Prelude.{Option, None, Some}
 use mathlib.Core.Path.{◌≡◌, refl, sym, ap, ◌∙◌}
 use mathlib.Core.Bool.{Bool, true, false}
 use mathlib.Core.List.{List, [], ◌∷◌, ◌++◌, map, append_assoc, append-nil}
-use mathlib.Core.Option.{Option, none, some}
 use Prim.Native.Nat.{ℕ, zero, suc, ◌+◌, ◌-◌, ◌*◌, ◌/◌, ◌%◌, ◌≤◌, ◌<◌}
 use native.Mathlib.Nat.{suc-mul, zero-mul, div-add-mod', mod-lt, add-div_left}
 use native.Mathlib.Numerals.{add-one}
@@ -34,10 +34,10 @@ module _ {A : Type 0} where
 
   pub kept_append : (ls ms : List (Option A)) → kept (ls ++ ms) ≡ kept ls ++ kept ms
   kept_append [] ms = refl
-  kept_append (none ∷ ls) ms = kept_append ls ms
-  kept_append (some a ∷ ls) ms = ap {B = List A} (λ l. a ∷ l) (kept_append ls ms)
+  kept_append (None ∷ ls) ms = kept_append ls ms
+  kept_append (Some a ∷ ls) ms = ap {B = List A} (λ l. a ∷ l) (kept_append ls ms)
 
-  pub kept-some : (bs : List A) → kept (map some bs) ≡ bs
+  pub kept-some : (bs : List A) → kept (map Some bs) ≡ bs
   kept-some [] = refl
   kept-some (b ∷ bs) = ap {B = List A} (λ l. b ∷ l) (kept-some bs)
 
@@ -64,8 +64,8 @@ module _ {A : Type 0} where
   kept-fitted-drop : (v : ℕ) (ls : List (Option A)) → kept (fitted v ls) ++ kept (drop v ls) ≡ kept ls
   kept-fitted-drop zero ls = refl
   kept-fitted-drop (suc v) [] = rw (kept-fitted-nil v) refl
-  kept-fitted-drop (suc v) (none ∷ ls) = kept-fitted-drop v ls
-  kept-fitted-drop (suc v) (some a ∷ ls) = ap {B = List A} (λ l. a ∷ l) (kept-fitted-drop v ls)
+  kept-fitted-drop (suc v) (None ∷ ls) = kept-fitted-drop v ls
+  kept-fitted-drop (suc v) (Some a ∷ ls) = ap {B = List A} (λ l. a ∷ l) (kept-fitted-drop v ls)
 
   pub kept-fitted : (v : ℕ) (ls : List (Option A)) → length ls ≤ v → kept (fitted v ls) ≡ kept ls
   kept-fitted v ls h =
@@ -94,8 +94,8 @@ module _ {A : Type 0} where
   items-pack_stretches v h (s ∷ ss) =
       items-append (pack_stretch v s) (pack_stretches v ss)
       ∙ ap (λ (is : List (Item A)). is ++ items (pack_stretches v ss))
-      (items-spread ((length s.bytes - 1) / v) v s.pair (map some s.bytes) s.ended
-      (rw (length-map s.bytes some) (room_for (length s.bytes) v h))
+      (items-spread ((length s.bytes - 1) / v) v s.pair (map Some s.bytes) s.ended
+      (rw (length-map s.bytes Some) (room_for (length s.bytes) v h))
       ∙ ap (λ (bs : List A). items_of s.pair bs s.ended) (kept-some s.bytes))
       ∙ ap (λ (is : List (Item A)). stretch_items s ++ is) (items-pack_stretches v h ss)
 
@@ -123,7 +123,7 @@ module _ {A : Type 0} where
     where
       go : (ss : List (Stretch A)) → Wide v (pack_stretches v ss)
       go [] = tt
-      go (s ∷ ss) = wide-append v (pack_stretch v s) (pack_stretches v ss) (wide-spread ((length s.bytes - 1) / v) v s.pair (map some s.bytes) s.ended) (go ss)
+      go (s ∷ ss) = wide-append v (pack_stretch v s) (pack_stretches v ss) (wide-spread ((length s.bytes - 1) / v) v s.pair (map Some s.bytes) s.ended) (go ss)
 
   pub length-spread : (k v : ℕ) (p : Pair) (ls : List (Option A)) (last : Bool) → length (spread k v p ls last) ≡ suc k
   length-spread zero v p ls last = refl

@@ -1,9 +1,9 @@
 -- What the tests in front of a call let through, both ways: a width, a shape with the width of an output, a length, and a
 -- take. A new test of a shape is one field and one line here. Assumes nothing.
+use Rattle.std.specs.Prelude.{None}
 use mathlib.Core.Path.{◌≡◌, refl}
 use mathlib.Core.Bool.{false, not}
 use mathlib.Core.List.{List, [], ◌∷◌, ◌++◌}
-use mathlib.Core.Option.{none}
 use Prim.Native.Nat.{ℕ, ◌%◌, ◌≤◌}
 use native.Mathlib.Omega.{arith}
 use borrow.Author.Tests.{eqb-false, eqb-true, ltb-false, le-ltb, eq-eqb, ne_eqb, not-false}
@@ -41,7 +41,7 @@ pub record ShapeFits (s : Shape) : Type 0 where
   pub user : s.user ≤ user_most
 
 -- its two checks
-shape_of : (s : Shape) → (width_check s.width).found ≡ false → first (user_check s ∷ []) ≡ none → ShapeFits s
+shape_of : (s : Shape) → (width_check s.width).found ≡ false → first (user_check s ∷ []) ≡ None → ShapeFits s
 shape_of s e u =
     let w = width_fits s.width e in
     record { low = w.low; high = w.high; user = ltb-false user_most s.user (first-none (user_check s) [] u).0 }
@@ -49,22 +49,22 @@ shape_of s e u =
 of_width : (s : Shape) → ShapeFits s → (width_check s.width).found ≡ false
 of_width s h = fits_width s.width (record { low = h.low; high = h.high })
 
-of_user : (s : Shape) → ShapeFits s → first (user_check s ∷ []) ≡ none
+of_user : (s : Shape) → ShapeFits s → first (user_check s ∷ []) ≡ None
 of_user s h = none_first (user_check s) [] (le-ltb user_most s.user h.user) refl
 
-pub shape-fits : (s : Shape) → first (shape_checks s []) ≡ none → ShapeFits s
+pub shape-fits : (s : Shape) → first (shape_checks s []) ≡ None → ShapeFits s
 shape-fits s e = let w = first-none (width_check s.width) (user_check s ∷ []) e in shape_of s w.0 w.1
 
-pub fits-shape : (s : Shape) → ShapeFits s → first (shape_checks s []) ≡ none
+pub fits-shape : (s : Shape) → ShapeFits s → first (shape_checks s []) ≡ None
 fits-shape s h = none_first (width_check s.width) (user_check s ∷ []) (of_width s h) (of_user s h)
 
-pub shapes_fit : (s : Shape) (v : ℕ) → first (shape_checks s (v ∷ [])) ≡ none → ShapeFits s × WidthFits v
+pub shapes_fit : (s : Shape) (v : ℕ) → first (shape_checks s (v ∷ [])) ≡ None → ShapeFits s × WidthFits v
 shapes_fit s v e =
     let w = first-none (width_check s.width) (width_check v ∷ user_check s ∷ []) e in
     let o = first-none (width_check v) (user_check s ∷ []) w.1 in
     (shape_of s w.0 o.1, width_fits v o.0)
 
-pub fits-shapes : (s : Shape) (v : ℕ) → ShapeFits s → WidthFits v → first (shape_checks s (v ∷ [])) ≡ none
+pub fits-shapes : (s : Shape) (v : ℕ) → ShapeFits s → WidthFits v → first (shape_checks s (v ∷ [])) ≡ None
 fits-shapes s v h o =
     none_first (width_check s.width) (width_check v ∷ user_check s ∷ []) (of_width s h)
     (none_first (width_check v) (user_check s ∷ []) (fits_width v o) (of_user s h))
@@ -92,7 +92,7 @@ fits-length s xs h w = rw (le-ltb capture_most (length xs) h, eq-eqb (length xs 
 pub take-passed : (s : Shape) (xs : List ℕ) → ShapeFits s → (length_check s xs).found ≡ false → Passed s xs
 take-passed s xs h l = let n = length-fits s xs l in record { low = h.low; high = h.high; user = h.user; whole = n.1; short = n.0 }
 
-pub checks-passed : (s : Shape) (xs : List ℕ) → first (take_checks s xs) ≡ none → Passed s xs
+pub checks-passed : (s : Shape) (xs : List ℕ) → first (take_checks s xs) ≡ None → Passed s xs
 checks-passed s xs e =
     let t = append-none (shape_checks s []) (length_check s xs ∷ []) e in
     take-passed s xs (shape-fits s t.0) (first-none (length_check s xs) [] t.1).0
@@ -105,7 +105,7 @@ pub passed_narrow : (s : Shape) (xs : List ℕ) → Passed s xs → Narrow s
 passed_narrow s xs p = record { width = p.high; user = p.user }
 
 -- and it passes once more
-pub passed-checks : (s : Shape) (xs : List ℕ) → Passed s xs → first (take_checks s xs) ≡ none
+pub passed-checks : (s : Shape) (xs : List ℕ) → Passed s xs → first (take_checks s xs) ≡ None
 passed-checks s xs p =
     none-append (shape_checks s []) (length_check s xs ∷ []) (fits-shape s (passed-shape s xs p))
     (none_first (length_check s xs) [] (fits-length s xs p.short p.whole) refl)

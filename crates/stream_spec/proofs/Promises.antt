@@ -1,4 +1,5 @@
 -- Every statement of specs/Promises, proved: mostly by citing the law that carries it. Assumes nothing.
+use Rattle.std.specs.Prelude.{Option, None}
 use mathlib.Core.Path.{◌≡◌, refl, sym, ap, ap₂, ◌∙◌}
 use mathlib.Core.Logic.{inl, inr, ⊎_elim}
 use mathlib.Core.Bool.{Bool, true, false, not, ◌||◌, or-true}
@@ -10,7 +11,6 @@ use lib.Pow.{pow_pos, pow_mono, shr-shr}
 use native.Mathlib.Nat.{le_trans, one-mul, mod-le, le-div_iff_mul-le, suc-mul, zero-mul, div-add-mod', mul-le-mul_right, div-mul-le_self}
 use native.Mathlib.Omega.{arith}
 use lib.ListN.{length, get_or, drop, length-map, length-append, length-drop}
-use mathlib.Core.Option.{Option, none}
 use Rattle.refusal.specs.declared.Refusal.{Refusal}
 use Rattle.refusal.specs.Checks.{first}
 use Rattle.stream_spec.specs.declared.Shape.{Shape}
@@ -143,7 +143,7 @@ record_there s xs k h =
 data_of : (s : Shape) (xs : List ℕ) (k : ℕ) → k < record_count s xs → length (data_octets s (drop (k * size s) xs)) ≡ s.width
 data_of s xs k h = data_long s (drop (k * size s) xs) (omega (arith, length-drop (k * size s) xs, record_there s xs k h))
 
-pub data_there : (s : Shape) (xs : List ℕ) (k : ℕ) → data_refusal s xs k ≡ none → Passed s xs × (k < record_count s xs)
+pub data_there : (s : Shape) (xs : List ℕ) (k : ℕ) → data_refusal s xs k ≡ None → Passed s xs × (k < record_count s xs)
 data_there s xs k e =
     let t = append-none (take_checks s xs) (index_check s xs k ∷ []) e in
     let i = first-none (index_check s xs k) [] t.1 in

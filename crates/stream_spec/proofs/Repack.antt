@@ -1,9 +1,9 @@
 -- What an accepted repacking call means: its widths are from 1 to 16, its input is a take of whole records without fault,
 -- and its result is the packed form. Assumes nothing.
+use Rattle.std.specs.Prelude.{Option, None, Some}
 use mathlib.Core.Path.{◌≡◌, refl, ◌∙◌}
 use mathlib.Core.Bool.{false}
 use mathlib.Core.List.{List, [], ◌∷◌, ◌++◌}
-use mathlib.Core.Option.{Option, none, some}
 use Prim.Native.Nat.{ℕ, ◌*◌, ◌%◌, ◌≤◌}
 use native.Mathlib.Omega.{arith}
 use borrow.Author.Tests.{ltb-false, le-ltb}
@@ -25,7 +25,7 @@ use Rattle.stream_spec.proofs.Records.{length-packed}
 pub record Takes (s : Shape) (xs : List ℕ) : Type 0 where
   pub shape : ShapeFits s
   pub length : (length_check s xs).found ≡ false
-  pub faultless : first (transfer_checks s 0 (records s xs)) ≡ none
+  pub faultless : first (transfer_checks s 0 (records s xs)) ≡ None
 
 -- an accepted call
 pub record Repacks (s : Shape) (v : ℕ) (xs : List ℕ) (room : ℕ) : Type 0 where
@@ -33,7 +33,7 @@ pub record Repacks (s : Shape) (v : ℕ) (xs : List ℕ) (room : ℕ) : Type 0 w
   pub output : WidthFits v
   pub fits : length (packed s v xs) ≤ room
 
-pub repacks_of : (s : Shape) (v : ℕ) (xs : List ℕ) (room : ℕ) → repack_refusal s v xs room ≡ none → Repacks s v xs room
+pub repacks_of : (s : Shape) (v : ℕ) (xs : List ℕ) (room : ℕ) → repack_refusal s v xs room ≡ None → Repacks s v xs room
 repacks_of s v xs room e =
     let later = transfer_checks s 0 (records s xs) ++ room_check (packed s v xs) room ∷ [] in
     let w = append-none (shape_checks s (v ∷ [])) (length_check s xs ∷ later) e in
@@ -47,7 +47,7 @@ repacks_of s v xs room e =
       fits = ltb-false room (length (packed s v xs)) f.0;
     }
 
-pub of_repacks : (s : Shape) (v : ℕ) (xs : List ℕ) (room : ℕ) → Repacks s v xs room → repack_refusal s v xs room ≡ none
+pub of_repacks : (s : Shape) (v : ℕ) (xs : List ℕ) (room : ℕ) → Repacks s v xs room → repack_refusal s v xs room ≡ None
 of_repacks s v xs room h =
     let later = transfer_checks s 0 (records s xs) ++ room_check (packed s v xs) room ∷ [] in
     none-append (shape_checks s (v ∷ [])) (length_check s xs ∷ later) (fits-shapes s v h.input.shape h.output)
@@ -87,17 +87,17 @@ pub record Accepted (s : Shape) (v : ℕ) (xs : List ℕ) (room n : ℕ) : Type 
   pub repacks : Repacks s v xs room
   pub number : n ≡ length (packed_transfers s v xs)
 
-pub accepted_of : (s : Shape) (v : ℕ) (xs : List ℕ) (room n : ℕ) → accepted (repack_answer s v xs room) ≡ some n → Accepted s v xs room n
+pub accepted_of : (s : Shape) (v : ℕ) (xs : List ℕ) (room n : ℕ) → accepted (repack_answer s v xs room) ≡ Some n → Accepted s v xs room n
 unfolding repack_answer
 accepted_of s v xs room n e = go (repack_refusal s v xs room) refl e
   where
-    go : (r : Option Refusal) → repack_refusal s v xs room ≡ r → accepted (written r (length (packed_transfers s v xs))) ≡ some n
+    go : (r : Option Refusal) → repack_refusal s v xs room ≡ r → accepted (written r (length (packed_transfers s v xs))) ≡ Some n
         → Accepted s v xs room n
-    go none h k = record { repacks = repacks_of s v xs room h; number = cc }
-    go (some f) h k = let z : ◌≡◌ {A = ℕ} 0 1 = cc in absurd (omega arith)
+    go None h k = record { repacks = repacks_of s v xs room h; number = cc }
+    go (Some f) h k = let z : ◌≡◌ {A = ℕ} 0 1 = cc in absurd (omega arith)
 
 pub of_accepted : (s : Shape) (xs : List ℕ) (c : Call) → Repacks s c.width xs (length c.lent)
-    → accepted (answer_to s xs c) ≡ some (length (packed_transfers s c.width xs))
+    → accepted (answer_to s xs c) ≡ Some (length (packed_transfers s c.width xs))
 unfolding repack_answer
 of_accepted s xs c h = rw (of_repacks s c.width xs (length c.lent) h) refl
 

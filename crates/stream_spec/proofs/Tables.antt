@@ -1,8 +1,8 @@
 -- The tests of specs/Tables say what the premises say, both ways, and the tables hold by computation. Assumes nothing.
+use Rattle.std.specs.Prelude.{Option, None, Some}
 use mathlib.Core.Path.{◌≡◌, refl, ap, ap₂}
 use mathlib.Core.Bool.{Bool, true, ◌&&◌}
 use mathlib.Core.List.{List, [], ◌∷◌, ◌++◌, map, append_assoc, append-nil}
-use mathlib.Core.Option.{Option, none, some}
 use mathlib.Core.Logic.{◌↔◌}
 use Prim.Native.Nat.{ℕ, ◌%◌}
 use native.Mathlib.Omega.{arith}
@@ -39,9 +39,9 @@ octets_tested (x ∷ xs) = (
   (λ e. let h = both (ltb x 256) (are_octets xs) e in (ltb-true x 256 h.0, (octets_tested xs).1 h.1)),
 )
 
-none_tested : (r : Option Refusal) → is_none r ≡ true → r ≡ none
-none_tested none e = refl
-none_tested (some r) e = no_such refl e
+none_tested : (r : Option Refusal) → is_none r ≡ true → r ≡ None
+none_tested None e = refl
+none_tested (Some r) e = no_such refl e
 
 pub legal_tested : LegalTested
 legal_tested s xs = (tested, legal)
@@ -131,19 +131,19 @@ divides_table = (refl, refl)
 pub accepted_table : AcceptedTable
 accepted_table = refl
 
-numbers_tested : (os : List (Option ℕ)) (ns : List ℕ) → (os ≡ map some ns) ↔ (numbers_are os ns ≡ true)
+numbers_tested : (os : List (Option ℕ)) (ns : List ℕ) → (os ≡ map Some ns) ↔ (numbers_are os ns ≡ true)
 numbers_tested [] [] = ((λ e. refl), (λ e. refl))
 numbers_tested [] (n ∷ ns) = ((λ e. let z : ◌≡◌ {A = ℕ} 0 1 = cc in absurd (omega arith)), (λ e. no_such refl e))
 numbers_tested (o ∷ os) [] = ((λ e. let z : ◌≡◌ {A = ℕ} 0 1 = cc in absurd (omega arith)), (λ e. no_such refl e))
-numbers_tested (none ∷ os) (n ∷ ns) = ((λ e. let z : ◌≡◌ {A = ℕ} 0 1 = cc in absurd (omega arith)), (λ e. no_such refl e))
-numbers_tested (some m ∷ os) (n ∷ ns) = (
+numbers_tested (None ∷ os) (n ∷ ns) = ((λ e. let z : ◌≡◌ {A = ℕ} 0 1 = cc in absurd (omega arith)), (λ e. no_such refl e))
+numbers_tested (Some m ∷ os) (n ∷ ns) = (
   (λ e.
       let h : m ≡ n = cc in
-      let t : os ≡ map some ns = cc in
+      let t : os ≡ map Some ns = cc in
       rw (eq-eqb m n h) ((numbers_tested os ns).0 t)),
   (λ e.
       let h = both (eqb m n) (numbers_are os ns) e in
-      ap₂ {C = List (Option ℕ)} (λ (k : ℕ) (l : List (Option ℕ)). some k ∷ l) (eqb-true m n h.0) ((numbers_tested os ns).1 h.1)),
+      ap₂ {C = List (Option ℕ)} (λ (k : ℕ) (l : List (Option ℕ)). Some k ∷ l) (eqb-true m n h.0) ((numbers_tested os ns).1 h.1)),
 )
 
 pub all_accepted_tested : AllAcceptedTested

@@ -1,9 +1,9 @@
 -- User bits, bit by bit: which bit of which octet is which bit of a lane, the padding, and the zero bits of null lanes in what is
 -- written. Assumes nothing.
+use Rattle.std.specs.Prelude.{Option, None, Some}
 use mathlib.Core.Path.{◌≡◌, refl, sym, ap, ◌∙◌}
 use mathlib.Core.Bool.{true, false}
 use mathlib.Core.List.{List, [], ◌∷◌, map}
-use mathlib.Core.Option.{Option, none, some}
 use Prim.Native.Nat.{ℕ, zero, suc, ◌+◌, ◌-◌, ◌*◌, ◌/◌, ◌%◌, ◌^◌, ◌≤◌, ◌<◌}
 use native.Mathlib.Decide.{dec_lt}
 use native.Mathlib.Nat.{div-one, div-add-mod, suc-mul, zero-mul, mul-le-mul_right, mod-lt, div-eq_of_lt, add_comm}
@@ -56,7 +56,7 @@ part-bits n a m j h =
 -- ---- what a lane carries
 
 lanes_at : (m : ℕ) (ts : List LaneType) (u : ℕ) (ds : List ℕ) (x : ℕ) → x < length ts
-    → get_or (lanes_of m ts u ds) x none ≡ lane_of (get_or ts x null_lane) (get_or ds x 0) (u / 2 ^ (x * m) % 2 ^ m)
+    → get_or (lanes_of m ts u ds) x None ≡ lane_of (get_or ts x null_lane) (get_or ds x 0) (u / 2 ^ (x * m) % 2 ^ m)
 lanes_at m [] u ds x h = absurd (omega arith)
 lanes_at m (t ∷ ts) u [] zero h = rw (zero-mul m, div-one u) refl
 lanes_at m (t ∷ ts) u (d ∷ ds) zero h = rw (zero-mul m, div-one u) refl
@@ -122,7 +122,7 @@ module _ (s : Shape) (r : List ℕ) (o : Octets r) where
 -- ---- null lanes in what is written
 
 users_at : (m : ℕ) (ls : List (Option Kept)) (x : ℕ) → LanesTagged m ls → x < length ls
-    → users_of m ls / 2 ^ (x * m) % 2 ^ m ≡ lane_user (get_or ls x none)
+    → users_of m ls / 2 ^ (x * m) % 2 ^ m ≡ lane_user (get_or ls x None)
 users_at m [] x k h = absurd (omega arith)
 users_at m (l ∷ ls) zero k h = rw (zero-mul m, div-one (users_of m (l ∷ ls))) (users_low m (lane_user l) (users_of m ls) (lane_first m l ls k).0)
 users_at m (l ∷ ls) (suc x) k h =
@@ -132,7 +132,7 @@ users_at m (l ∷ ls) (suc x) k h =
 
 types_back : (ls : List (Option Kept)) (x : ℕ) → x < length ls
     → get_or (types_of (length ls) (mask_of (map keep_bit ls)) (mask_of (map strb_bit ls))) x data_lane
-    ≡ lane_type (keep_bit (get_or ls x none)) (strb_bit (get_or ls x none))
+    ≡ lane_type (keep_bit (get_or ls x None)) (strb_bit (get_or ls x None))
 types_back [] x h = absurd (omega arith)
 types_back (l ∷ ls) zero h = rw (odd_mask (keep_bit l) (mask_of (map keep_bit ls)), odd_mask (strb_bit l) (mask_of (map strb_bit ls))) refl
 types_back (l ∷ ls) (suc x) h =
@@ -140,18 +140,18 @@ types_back (l ∷ ls) (suc x) h =
 
 -- a lane of null type is none, and so has no bits
 null_none : (l : Option Kept) → lane_type (keep_bit l) (strb_bit l) ≡ null_lane → lane_user l ≡ 0
-null_none none e = refl
-null_none (some (octet d u)) e = let z : ◌≡◌ {A = ℕ} 0 1 = cc in absurd (omega arith)
-null_none (some (position u)) e = let z : ◌≡◌ {A = ℕ} 0 1 = cc in absurd (omega arith)
+null_none None e = refl
+null_none (Some (octet d u)) e = let z : ◌≡◌ {A = ℕ} 0 1 = cc in absurd (omega arith)
+null_none (Some (position u)) e = let z : ◌≡◌ {A = ℕ} 0 1 = cc in absurd (omega arith)
 
 record_nulls : (s : Shape) (t : Transfer Kept) (x : ℕ) → length t.lanes ≡ s.width → LanesTagged s.user t.lanes → x < s.width
     → get_or (lane_types s (octets_of s.user t)) x data_lane ≡ null_lane → lane_bits s (octets_of s.user t) x ≡ 0
 record_nulls s t x h k l e =
     let there : x < length t.lanes = rw h l in
-    let type : lane_type (keep_bit (get_or t.lanes x none)) (strb_bit (get_or t.lanes x none)) ≡ null_lane =
+    let type : lane_type (keep_bit (get_or t.lanes x None)) (strb_bit (get_or t.lanes x None)) ≡ null_lane =
     sym (types_back t.lanes x there)
     ∙ (rw (two-octets (mask_of (map keep_bit t.lanes)), two-octets (mask_of (map strb_bit t.lanes)), ← h) at e) in
-    rw (users_back s t h k) (users_at s.user t.lanes x k there ∙ null_none (get_or t.lanes x none) type)
+    rw (users_back s t h k) (users_at s.user t.lanes x k there ∙ null_none (get_or t.lanes x None) type)
 
 pub transfers-nulls : (s : Shape) (ts : List (Transfer Kept)) → Wide s.width ts → Tagged s.user ts → NullsZero s (map (octets_of s.user) ts)
 transfers-nulls s [] h k i x l b e = absurd (omega arith)

@@ -1,9 +1,9 @@
 -- User bits (T-06): all lanes' bits as one number, which lies behind the data octets; a lane's bits in that number; and that lanes
 -- come back from their octets. Assumes nothing.
+use Rattle.std.specs.Prelude.{Option, None, Some}
 use mathlib.Core.Path.{◌≡◌, refl, sym, ap, ◌∙◌}
 use mathlib.Core.Bool.{Bool, true, false}
 use mathlib.Core.List.{List, [], ◌∷◌, map}
-use mathlib.Core.Option.{Option, none, some}
 use Prim.Native.Nat.{ℕ, suc, ◌+◌, ◌-◌, ◌*◌, ◌/◌, ◌%◌, ◌^◌, ◌≤◌, ◌<◌}
 use native.Mathlib.Nat.{add-zero, zero-mul, suc-mul, mul_comm, mul-add, mul-le-mul_left, div-eq_of_lt, mod-eq_of_lt, zero-add, add-mul-div_left, add-mul-mod_self_left, mod-lt}
 use native.Mathlib.Omega.{arith}
@@ -74,9 +74,9 @@ transfers-tagged s (r ∷ rs) =
 
 -- lane 0's bits, and those of the others
 pub lane_first : (m : ℕ) (l : Option Kept) (ls : List (Option Kept)) → LanesTagged m (l ∷ ls) → (lane_user l < 2 ^ m) × LanesTagged m ls
-lane_first m none ls h = (pow_pos m, h)
-lane_first m (some (octet d u)) ls h = (h.0, h.1)
-lane_first m (some (position u)) ls h = (h.0, h.1)
+lane_first m None ls h = (pow_pos m, h)
+lane_first m (Some (octet d u)) ls h = (h.0, h.1)
+lane_first m (Some (position u)) ls h = (h.0, h.1)
 
 pub users_low : (m a b : ℕ) → a < 2 ^ m → (a + 2 ^ m * b) % 2 ^ m ≡ a
 users_low m a b h = add-mul-mod_self_left a (2 ^ m) b ∙ mod-eq_of_lt h
@@ -98,9 +98,9 @@ users_held w m = pow_mono (omega arith)
 
 -- a lane comes back from its two bits, its octet and its user bits
 lane_back : (l : Option Kept) → lane_of (lane_type (keep_bit l) (strb_bit l)) (lane_octet l) (lane_user l) ≡ l
-lane_back none = refl
-lane_back (some (octet d u)) = refl
-lane_back (some (position u)) = refl
+lane_back None = refl
+lane_back (Some (octet d u)) = refl
+lane_back (Some (position u)) = refl
 
 pub lanes_back : (m : ℕ) (ls : List (Option Kept)) → LanesTagged m ls
     → lanes_of m (types_of (length ls) (mask_of (map keep_bit ls)) (mask_of (map strb_bit ls))) (users_of m ls) (map lane_octet ls) ≡ ls

@@ -1,10 +1,10 @@
 -- Every promise that has a premise, applied to the worked data of specs/Witnesses: all its premises hold there, and what it
 -- says is what was typed by hand. Assumes nothing.
+use Rattle.std.specs.Prelude.{None, Some}
 use mathlib.Core.Path.{◌≡◌, refl, ap, ◌∙◌}
 use mathlib.Core.Bool.{true, false}
 use mathlib.Core.List.{List, [], ◌∷◌, ◌++◌}
 use mathlib.Core.Logic.{◌⊎◌}
-use mathlib.Core.Option.{none, some}
 use Prim.Native.Nat.{ℕ, ◌*◌, ◌/◌, ◌%◌, ◌≤◌, ◌<◌}
 use native.Mathlib.Omega.{arith}
 use lib.Dec.{lit<, lit≤}
@@ -54,7 +54,7 @@ unfolding size repack_answer repack_after
 refused = (calls first legal-first refused_calls).stands
 
 -- one call straight there, with exactly the room it needs
-pub straight : (accepted_at first (lends 1 24) ≡ some 3) × (next first (lends 1 24) ≡ stream 1 at_one)
+pub straight : (accepted_at first (lends 1 24) ≡ Some 3) × (next first (lends 1 24) ≡ stream 1 at_one)
 unfolding size repack_answer repack_after
 straight = (calls first legal-first mixed_calls).straight (lends 1 24) refl (lit≤ tt)
 
@@ -252,7 +252,7 @@ unfolding size
 harvests = harvest_legal (lanes 1) clean_take 16 ((octets_tested clean_take).1 refl) refl
 
 -- and repacked with one octet too few, and with exactly the room it needs
-pub repacks : (repack_refusal (lanes 1) 2 harvest 17 ≡ some Room) × (repack_refusal (lanes 1) 2 harvest 18 ≡ none)
+pub repacks : (repack_refusal (lanes 1) 2 harvest 17 ≡ Some Room) × (repack_refusal (lanes 1) 2 harvest 18 ≡ None)
 unfolding size
 repacks = (
   harvest_repacks (lanes 1) clean_take 16 2 17 ((octets_tested clean_take).1 refl) refl (width 2 refl),
@@ -293,7 +293,7 @@ pub five_refused : 4 < 5
 five_refused = (user_exactly (shaped 1 5)).0 refl
 
 -- lane 2's three bits are bits 6 and 7 of octet 10 and bit 0 of octet 11; the lane is a position item with 6
-pub lane-two : (get_or (transfer_of (shaped 3 3) straddled).lanes 2 none ≡ some (position 6)) × (bit 2 6 ≡ bit 0 0x01) × (bit 0 6 ≡ bit 6 0xBD)
+pub lane-two : (get_or (transfer_of (shaped 3 3) straddled).lanes 2 None ≡ Some (position 6)) × (bit 2 6 ≡ bit 0 0x01) × (bit 0 6 ≡ bit 6 0xBD)
 lane-two = let l = lane_user_bits (shaped 3 3) straddled 2 octets-straddled (lit< tt) in (l.carries, l.bits 2 (lit< tt), l.bits 0 (lit< tt))
 
 -- bit 9 is the lowest of the padding, and it is found both ways
@@ -341,7 +341,7 @@ pub tags_stand : after_calls tags tags_calls ≡ tagged 2 3 tags_at_two
 unfolding size repack_answer repack_after
 tags_stand = (calls tags legal-tags tags_calls).stands
 
-pub tags-straight : (accepted_at tags (lends 2 10) ≡ some 1) × (next tags (lends 2 10) ≡ tagged 2 3 tags_at_two)
+pub tags-straight : (accepted_at tags (lends 2 10) ≡ Some 1) × (next tags (lends 2 10) ≡ tagged 2 3 tags_at_two)
 unfolding size repack_answer repack_after
 tags-straight = (calls tags legal-tags tags_calls).straight (lends 2 10) refl (lit≤ tt)
 
@@ -388,7 +388,7 @@ unfolding size
 tags-harvested = harvest_legal (shaped 1 2) tags_take 9 ((octets_tested tags_take).1 refl) refl
 
 -- and repacked with one octet too few, and with exactly the room it needs
-pub tags_repacked : (repack_refusal (shaped 1 2) 2 tags_harvest 9 ≡ some Room) × (repack_refusal (shaped 1 2) 2 tags_harvest 10 ≡ none)
+pub tags_repacked : (repack_refusal (shaped 1 2) 2 tags_harvest 9 ≡ Some Room) × (repack_refusal (shaped 1 2) 2 tags_harvest 10 ≡ None)
 unfolding size
 tags_repacked = (
   harvest_repacks (shaped 1 2) tags_take 9 2 9 ((octets_tested tags_take).1 refl) refl (width 2 refl),

@@ -2,8 +2,7 @@
 -- numbers', 'How much each answer must say'). Order on streams: 1, 6, 2, 13, then records in order with 3 before 4 in
 -- each, then 14, 5; T-06's 16 is straight after 1. Each call has its list of checks in that order; the contracts of the calls
 -- cite these definitions.
-use Rattle.std.specs.Prelude.{◌≡◌, Bool, List, [], ◌∷◌, ◌++◌, map, ℕ, ◌+◌, ◌*◌, length, drop}
-use Rattle.std.proofs.Math.Option.{Option, none, some}
+use Rattle.std.specs.Prelude.{◌≡◌, Bool, List, [], ◌∷◌, ◌++◌, map, ℕ, ◌+◌, ◌*◌, length, drop, Option, None, Some}
 use Rattle.refusal.specs.Code.{code_of}
 use Rattle.refusal.specs.declared.Refusal.{Refusal}
 use Rattle.refusal.specs.declared.Refusal.TheVariants.{Unclean}
@@ -23,28 +22,28 @@ use Rattle.stream_spec.specs.Handshake.{Finding, findings, first_finding, transf
 -- ---- how an answer is made of the first refusal, if there is one
 
 abbrev pub verdict : Option Refusal → Option Finding → ℕ → Verdict
-verdict (some r) f n = Refused r
-verdict none (some f) n = Broken f.cycle f.rule
-verdict none none n = Clean n
+verdict (Some r) f n = Refused r
+verdict None (Some f) n = Broken f.cycle f.rule
+verdict None None n = Clean n
 
 -- "An accepted writing call answers the number of records .."
 abbrev pub written : Option Refusal → ℕ → Written
-written (some r) n = NotWritten r
-written none n = Records n
+written (Some r) n = NotWritten r
+written None n = Records n
 
 -- ".. and leaves the output after them unchanged"; refused, "lent memory keeps its content"
 abbrev pub lent_after : Option Refusal → List ℕ → List ℕ → List ℕ
-lent_after (some r) result lent = lent
-lent_after none result lent = in_front result lent
+lent_after (Some r) result lent = lent
+lent_after None result lent = in_front result lent
 
 abbrev pub lookup : Option Refusal → Lookup
-lookup (some r) = NoPart r
-lookup none = Present
+lookup (Some r) = NoPart r
+lookup None = Present
 
 -- "a part handed out is empty" where the call is refused
 abbrev pub part_for : Option Refusal → List ℕ → List ℕ
-part_for (some r) part = []
-part_for none part = part
+part_for (Some r) part = []
+part_for None part = part
 
 -- ---- judge: 1, 16, 2, 3
 
@@ -64,7 +63,7 @@ abbrev pub harvest_refusal : Shape → List ℕ → ℕ → Option Refusal
 harvest_refusal s capture room =
     first
     (judge_checks s capture
-    ++ (map unclean_check (findings s 0 none (records s capture)) ++ room_check (harvested s capture) room ∷ []))
+    ++ (map unclean_check (findings s 0 None (records s capture)) ++ room_check (harvested s capture) room ∷ []))
 
 unfoldable pub harvest_answer : Shape → List ℕ → ℕ → Written
 harvest_answer s capture room = written (harvest_refusal s capture room) (transfer_count s capture)
@@ -96,8 +95,8 @@ data_part s capture k = part_for (data_refusal s capture k) (data_octets s (drop
 
 -- where that part starts in the take, for callers who cannot be handed a part; 0 where the call is refused
 abbrev pub start_for : Option Refusal → ℕ → ℕ
-start_for (some r) start = 0
-start_for none start = start
+start_for (Some r) start = 0
+start_for None start = start
 
 unfoldable pub data_start : Shape → List ℕ → ℕ → ℕ
 data_start s capture k = start_for (data_refusal s capture k) (k * size s + head_octets)

@@ -1,7 +1,6 @@
 -- Demand 3's two statements (the demand's own words in quotes; paper 01 explains them), over the answers of the repacking call as Answers has them.
 -- Their proofs are `calls` and `parts` of proofs/Demand3.
-use Rattle.std.specs.Prelude.{◌≡◌, true, List, [], ◌∷◌, ◌++◌, map, ℕ, ◌+◌, ◌*◌, ◌≤◌, length, take}
-use Rattle.std.proofs.Math.Option.{Option, none, some}
+use Rattle.std.specs.Prelude.{◌≡◌, true, List, [], ◌∷◌, ◌++◌, map, ℕ, ◌+◌, ◌*◌, ◌≤◌, length, take, Option, None, Some}
 use Rattle.stream_spec.specs.declared.Shape.{Shape}
 use Rattle.stream_spec.specs.declared.Written.{Written}
 use Rattle.stream_spec.specs.declared.Written.TheVariants.{Records, Refused as NotWritten}
@@ -21,8 +20,8 @@ abbrev pub answer_to : Shape → List ℕ → Call → Written
 answer_to s xs c = repack_answer s c.width xs (length c.lent)
 
 abbrev pub accepted : Written → Option ℕ
-accepted (Records n) = some n
-accepted (NotWritten r) = none
+accepted (Records n) = Some n
+accepted (NotWritten r) = None
 
 -- "The result of an accepted repacking call is the octets of the records it writes; the number it answers counts those
 -- records."
@@ -38,8 +37,8 @@ pub record Standing : Type 0 where
 
 -- "An accepted call's result takes its place, a refused call leaves it."
 abbrev pub stands_next : Standing → Call → Option ℕ → Standing
-stands_next st c none = st
-stands_next st c (some n) =
+stands_next st c None = st
+stands_next st c (Some n) =
     record { shape = at_width st.shape c.width; octets = result_of st.shape st.octets c n }
 
 abbrev pub accepted_at : Standing → Call → Option ℕ
@@ -54,19 +53,19 @@ after_calls st (c ∷ cs) = after_calls (next st c) cs
 
 -- the later of two accepted calls' widths: the later call's, if that was accepted, else the earlier one's
 abbrev pub later : Option ℕ → Option ℕ → ℕ → Option ℕ
-later (some v) n w = some v
-later none none w = none
-later none (some n) w = some w
+later (Some v) n w = Some v
+later None None w = None
+later None (Some n) w = Some w
 
 -- the width of the last accepted call of a list, if one was accepted
 abbrev pub last_accepted : Standing → List Call → Option ℕ
-last_accepted st [] = none
+last_accepted st [] = None
 last_accepted st (c ∷ cs) = later (last_accepted (next st c) cs) (accepted_at st c) c.width
 
 -- "the packed form of the first stream at the last accepted width .. if none was accepted, the first stream"
 abbrev pub packed_at : Standing → Option ℕ → Standing
-packed_at st none = st
-packed_at st (some v) = record { shape = at_width st.shape v; octets = packed st.shape v st.octets }
+packed_at st None = st
+packed_at st (Some v) = record { shape = at_width st.shape v; octets = packed st.shape v st.octets }
 
 -- "Start from any legal stream and make any list of repacking calls .. After every such list there stands the packed form
 -- of the first stream at the last accepted width, the same octets as from one accepted call straight there": any call to
@@ -75,8 +74,8 @@ packed_at st (some v) = record { shape = at_width st.shape v; octets = packed st
 pub record CallsKeep (st : Standing) (cs : List Call) : Type 0 where
   pub stands : after_calls st cs ≡ packed_at st (last_accepted st cs)
   pub straight :
-      (c : Call) → last_accepted st cs ≡ some c.width → length (packed st.shape c.width st.octets) ≤ length c.lent
-      → (accepted_at st c ≡ some (length (packed_transfers st.shape c.width st.octets))) × (next st c ≡ after_calls st cs)
+      (c : Call) → last_accepted st cs ≡ Some c.width → length (packed st.shape c.width st.octets) ≤ length c.lent
+      → (accepted_at st c ≡ Some (length (packed_transfers st.shape c.width st.octets))) × (next st c ≡ after_calls st cs)
   pub legal : Legal (after_calls st cs).shape (after_calls st cs).octets
 
 abbrev pub Demand3·calls : Type 0
@@ -98,7 +97,7 @@ part_call v p = record { width = v; lent = p.lent }
 
 -- the call on each part is accepted, with these numbers
 abbrev pub AllAccepted : Shape → ℕ → List Part → List ℕ → Type 0
-AllAccepted s v ps ns = map (λ (p : Part). accepted (answer_to s p.octets (part_call v p))) ps ≡ map some ns
+AllAccepted s v ps ns = map (λ (p : Part). accepted (answer_to s p.octets (part_call v p))) ps ≡ map Some ns
 
 -- "their results joined in order"
 abbrev pub results_joined : Shape → ℕ → List Part → List ℕ → List ℕ

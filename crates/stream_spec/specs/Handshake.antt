@@ -1,8 +1,7 @@
 -- Handshake findings (paper 01, 'Handshake findings', with paper 02's T-01 and T-03; Arm IHI 0051A 2.2.1, 2.4.3, 2.7.2,
 -- 3.1.3): rules R1 to R4 on a cycle and the cycle before it, the first finding of a take, its transfers, and fill-in of TLAST.
-use Rattle.std.specs.Prelude.{Bool, true, false, not, ◌&&◌, ◌||◌, cond, List, [], ◌∷◌, ◌++◌, map, ℕ, suc, eqb, length}
+use Rattle.std.specs.Prelude.{Bool, true, false, not, ◌&&◌, ◌||◌, cond, List, [], ◌∷◌, ◌++◌, map, ℕ, suc, eqb, length, Option, None, Some}
 use Rattle.std.specs.Bool.{beq}
-use Rattle.std.proofs.Math.Option.{Option, none, some}
 use Rattle.stream_spec.specs.declared.Shape.{Shape}
 use Rattle.stream_spec.specs.Layout.{last_alone, last_set, tlast, tvalid, tready, aresetn, body, lane_types, any_reserved, records, joined}
 use Rattle.refusal.specs.Checks.{Check, check, first}
@@ -14,8 +13,8 @@ abbrev pub waits : List ℕ → Bool
 waits c = aresetn c && tvalid c && not (tready c)
 
 abbrev pub waited : Option (List ℕ) → Bool
-waited none = false
-waited (some b) = waits b
+waited None = false
+waited (Some b) = waits b
 
 abbrev pub same_octets : List ℕ → List ℕ → Bool
 same_octets [] [] = true
@@ -25,13 +24,13 @@ same_octets (x ∷ xs) (y ∷ ys) = eqb x y && same_octets xs ys
 
 -- "some octet from 1 on, or TLAST, differs"
 abbrev pub differs : Option (List ℕ) → List ℕ → Bool
-differs none c = false
-differs (some b) c = not (same_octets (body b) (body c) && beq (tlast b) (tlast c))
+differs None c = false
+differs (Some b) c = not (same_octets (body b) (body c) && beq (tlast b) (tlast c))
 
 -- T-01: "the record before it in the take had ARESETn low". "A take's first record is judged on its own ARESETn only."
 abbrev pub was_reset : Option (List ℕ) → Bool
-was_reset none = false
-was_reset (some b) = not (aresetn b)
+was_reset None = false
+was_reset (Some b) = not (aresetn b)
 
 -- T-01: "R1 becomes: TVALID high while ARESETn is low, or while the record before it in the take had ARESETn low." (2.7.2,
 -- figure 2-4: TVALID begins only at an edge after one where ARESETn was high)
@@ -67,11 +66,11 @@ rule_checks s k before c =
 -- the rules at each cycle, the earliest cycle first, counted from k
 abbrev pub findings : Shape → ℕ → Option (List ℕ) → List (List ℕ) → List (Check Finding)
 findings s k before [] = []
-findings s k before (c ∷ cs) = rule_checks s k before c ++ findings s (suc k) (some c) cs
+findings s k before (c ∷ cs) = rule_checks s k before c ++ findings s (suc k) (Some c) cs
 
 -- "the earliest breaking cycle and its lowest rule"
 abbrev pub first_finding : Shape → List ℕ → Option Finding
-first_finding s xs = first (findings s 0 none (records s xs))
+first_finding s xs = first (findings s 0 None (records s xs))
 
 -- the "cycles that have ARESETn, TVALID and TREADY all high"
 abbrev pub transferred : List ℕ → Bool

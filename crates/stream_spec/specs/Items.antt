@@ -1,7 +1,6 @@
 -- What a stream carries (paper 01, 'What a stream carries'; Arm IHI 0051A 2.3.1, 2.3.2, 2.5), over any type A of what a
 -- kept byte lane carries. No octet is known here: which octets make a record is in Layout.
-use Rattle.std.specs.Prelude.{Bool, ◌&&◌, cond, List, [], ◌∷◌, ◌++◌, map, ℕ, eqb}
-use Rattle.std.proofs.Math.Option.{Option, none, some}
+use Rattle.std.specs.Prelude.{Bool, ◌&&◌, cond, List, [], ◌∷◌, ◌++◌, map, ℕ, eqb, Option, None, Some}
 
 -- The pair (TID, TDEST). Transfers of one pair belong to one stream (2.6).
 pub record Pair : Type 0 where
@@ -30,8 +29,8 @@ module _ {A : Type 0} where
   -- what the lanes that are not null carry, "read upwards"
   abbrev pub kept : List (Option A) → List A
   kept [] = []
-  kept (none ∷ ls) = kept ls
-  kept (some a ∷ ls) = a ∷ kept ls
+  kept (None ∷ ls) = kept ls
+  kept (Some a ∷ ls) = a ∷ kept ls
 
   -- items of one pair, with an end behind them where `last` says so
   abbrev pub items_of : Pair → List A → Bool → List (Item A)

@@ -1,7 +1,6 @@
 -- The octets of a record (paper 01, 'One record of a take'; paper 02, T-06; Arm IHI 0051A 2.1, 2.4, 2.8): which octet or bit is what, a name
 -- for each number of 01's table. Everything else in specs/ goes through the names below, or through transfers and items.
-use Rattle.std.specs.Prelude.{Bool, true, false, ◌||◌, List, [], ◌∷◌, ◌++◌, map, ℕ, zero, suc, ◌+◌, ◌*◌, ◌/◌, ◌%◌, ◌^◌, eqb, length, get_or, take, drop}
-use Rattle.std.proofs.Math.Option.{Option, none, some}
+use Rattle.std.specs.Prelude.{Bool, true, false, ◌||◌, List, [], ◌∷◌, ◌++◌, map, ℕ, zero, suc, ◌+◌, ◌*◌, ◌/◌, ◌%◌, ◌^◌, eqb, length, get_or, take, drop, Option, None, Some}
 use Rattle.words.specs.Words.{word_at, octets_of_word}
 use Rattle.stream_spec.specs.declared.Shape.{Shape}
 use Rattle.stream_spec.specs.Items.{Pair, Transfer, Item, items}
@@ -193,10 +192,10 @@ pub data Kept : Type 0 where
 -- what a lane of this type with this data octet and these user bits carries. A reserved lane is refused before anything
 -- reads it.
 abbrev pub lane_of : LaneType → ℕ → ℕ → Option Kept
-lane_of data_lane d u = some (octet d u)
-lane_of position_lane d u = some (position u)
-lane_of null_lane d u = none
-lane_of reserved_lane d u = none
+lane_of data_lane d u = Some (octet d u)
+lane_of position_lane d u = Some (position u)
+lane_of null_lane d u = None
+lane_of reserved_lane d u = None
 
 -- lanes of these types: lane 0 has the m lowest bits of the user bits, and the lanes above it have the others, whatever
 -- their types are
@@ -213,25 +212,25 @@ transfer_of s r =
     record { pair = pair_of r; lanes = lanes_of s.user (lane_types s r) (user_number s r) (data_octets s r); last = tlast r }
 
 abbrev pub strb_bit : Option Kept → Bool
-strb_bit none = false
-strb_bit (some (octet d u)) = true
-strb_bit (some (position u)) = false
+strb_bit None = false
+strb_bit (Some (octet d u)) = true
+strb_bit (Some (position u)) = false
 
 abbrev pub keep_bit : Option Kept → Bool
-keep_bit none = false
-keep_bit (some k) = true
+keep_bit None = false
+keep_bit (Some k) = true
 
 -- "Null and position lanes carry data 00."
 abbrev pub lane_octet : Option Kept → ℕ
-lane_octet none = 0
-lane_octet (some (octet d u)) = d
-lane_octet (some (position u)) = 0
+lane_octet None = 0
+lane_octet (Some (octet d u)) = d
+lane_octet (Some (position u)) = 0
 
 -- T-06: "null lanes get zero bits"
 abbrev pub lane_user : Option Kept → ℕ
-lane_user none = 0
-lane_user (some (octet d u)) = u
-lane_user (some (position u)) = u
+lane_user None = 0
+lane_user (Some (octet d u)) = u
+lane_user (Some (position u)) = u
 
 -- the user bits of lanes as one number, those of lane 0 the lowest
 abbrev pub users_of : ℕ → List (Option Kept) → ℕ

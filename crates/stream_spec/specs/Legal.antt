@@ -1,6 +1,5 @@
 -- Legal streams (paper 01, "Demand 3's words").
-use Rattle.std.specs.Prelude.{◌≡◌, List, [], ◌∷◌, ℕ, ◌≤◌, ◌<◌, ◌%◌, length}
-use Rattle.std.proofs.Math.Option.{none}
+use Rattle.std.specs.Prelude.{◌≡◌, List, [], ◌∷◌, ℕ, ◌≤◌, ◌<◌, ◌%◌, length, None}
 use Rattle.stream_spec.specs.declared.Shape.{Shape}
 use Rattle.stream_spec.specs.Layout.{octet_values, width_most, user_most, size, records}
 use Rattle.refusal.specs.Checks.{first}
@@ -19,4 +18,4 @@ pub record Legal (s : Shape) (xs : List ℕ) : Type 0 where
   pub user_high : s.user ≤ user_most
   pub octets : Octets xs
   pub whole : length xs % size s ≡ 0
-  pub faultless : first (transfer_checks s 0 (records s xs)) ≡ none
+  pub faultless : first (transfer_checks s 0 (records s xs)) ≡ None

@@ -1,8 +1,7 @@
 -- The packed form at width v, and lane-keeping slices (paper 01, 'Packed form at width v', 'Lane-keeping downsizing';
 -- Arm IHI 0051A 2.3.3, 2.4.1, 2.5.1), over any type A of what a kept byte lane carries. Octets are in Layout.
-use Rattle.std.specs.Prelude.{Bool, true, false, not, cond, ℕ, zero, suc, ◌-◌, ◌/◌, length, drop}
+use Rattle.std.specs.Prelude.{Bool, true, false, not, cond, ℕ, zero, suc, ◌-◌, ◌/◌, length, drop, Option, None, Some}
 use mathlib.Core.List.{List, [], ◌∷◌, ◌++◌, map, head?, get_last?}
-use Rattle.std.proofs.Math.Option.{Option, none, some}
 use Rattle.stream_spec.specs.Items.{Pair, same_pair, Transfer, Item, byte, end, item_pair}
 
 -- A stretch: items of one pair with no end among them, but perhaps one behind them.
@@ -29,7 +28,7 @@ module _ {A : Type 0} where
   -- v lanes: the first v of those given, and null lanes where they run out
   abbrev pub fitted : ℕ → List (Option A) → List (Option A)
   fitted zero ls = []
-  fitted (suc v) [] = none ∷ fitted v []
+  fitted (suc v) [] = None ∷ fitted v []
   fitted (suc v) (l ∷ ls) = l ∷ fitted v ls
 
   -- lanes laid out over k transfers of v lanes without TLAST and one more, which has TLAST where `last` says so
@@ -41,7 +40,7 @@ module _ {A : Type 0} where
   -- the last. An end sets TLAST on the last record of its stretch; a stretch with only an end gives one all-null TLAST
   -- record." So there are (n - 1)/v records before the last one, and n = 0 (where 0 - 1 is 0) gives the last one alone.
   abbrev pub pack_stretch : ℕ → Stretch A → List (Transfer A)
-  pack_stretch v s = spread ((length s.bytes - 1) / v) v s.pair (map some s.bytes) s.ended
+  pack_stretch v s = spread ((length s.bytes - 1) / v) v s.pair (map Some s.bytes) s.ended
 
   abbrev pub pack_stretches : ℕ → List (Stretch A) → List (Transfer A)
   pack_stretches v [] = []
@@ -75,10 +74,10 @@ module _ {A : Type 0} where
   -- packet end, or its first item after it has another TID or TDEST than that last item". The last item before a division
   -- and the first item after it, where there are such:
   abbrev pub apart : Option (Item A) → Option (Item A) → Bool
-  apart none j = true
-  apart (some i) none = true
-  apart (some (end p)) (some j) = true
-  apart (some (byte p a)) (some j) = not (same_pair p (item_pair j))
+  apart None j = true
+  apart (Some i) None = true
+  apart (Some (end p)) (Some j) = true
+  apart (Some (byte p a)) (Some j) = not (same_pair p (item_pair j))
 
   abbrev pub parted : List (Item A) → List (Item A) → Bool
   parted before after = apart (get_last? before) (head? after)

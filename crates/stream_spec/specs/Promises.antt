@@ -1,7 +1,6 @@
 -- What is proved of the definitions, a statement each. Words in quotes are paper 01's or, where it is said, a demand's or a
 -- request's. Demand 3 has a page of its own. The proofs are in proofs/Promises.
-use Rattle.std.specs.Prelude.{◌≡◌, Bool, true, false, not, ◌&&◌, ◌||◌, cond, List, [], ◌∷◌, ◌++◌, map, ℕ, zero, suc, ◌+◌, ◌*◌, ◌/◌, ◌%◌, ◌^◌, ◌≤◌, ◌<◌, ◌⊎◌, ◌↔◌, ◌≢◌, eqb, leb, ltb, length, get_or, take, drop}
-use Rattle.std.proofs.Math.Option.{Option, none, some}
+use Rattle.std.specs.Prelude.{◌≡◌, Bool, true, false, not, ◌&&◌, ◌||◌, cond, List, [], ◌∷◌, ◌++◌, map, ℕ, zero, suc, ◌+◌, ◌*◌, ◌/◌, ◌%◌, ◌^◌, ◌≤◌, ◌<◌, ◌⊎◌, ◌↔◌, ◌≢◌, eqb, leb, ltb, length, get_or, take, drop, Option, None, Some}
 use Rattle.refusal.specs.declared.Refusal.{Refusal}
 use Rattle.refusal.specs.declared.Refusal.TheVariants.{Room}
 use Rattle.stream_spec.specs.declared.Shape.{Shape}
@@ -104,7 +103,7 @@ pub record LaneReads (s : Shape) (r : List ℕ) (x : ℕ) : Type 0 where
       (j : ℕ) → j < s.user
       → bit j (lane_bits s r x) ≡ bit ((x * s.user + j) % 8) (get_or r (7 + s.width + (x * s.user + j) / 8) 0)
   pub carries :
-      get_or (transfer_of s r).lanes x none ≡ lane_of (get_or (lane_types s r) x null_lane) (get_or (data_octets s r) x 0) (lane_bits s r x)
+      get_or (transfer_of s r).lanes x None ≡ lane_of (get_or (lane_types s r) x null_lane) (get_or (data_octets s r) x 0) (lane_bits s r x)
 
 abbrev pub LaneUserBits : Type 0
 LaneUserBits = (s : Shape) (r : List ℕ) (x : ℕ) → Octets r → x < s.width → LaneReads s r x
@@ -140,8 +139,8 @@ ByteTypes = (s : Shape) (r : List ℕ) (x : ℕ) → x < s.width → get_or (lan
 
 -- The part handed out has an octet for each lane, or is empty: it is empty exactly where the call is refused.
 pub record HandsOut (s : Shape) (xs : List ℕ) (k : ℕ) : Type 0 where
-  pub present : data_refusal s xs k ≡ none → (length (data_part s xs k) ≡ s.width) × (0 < s.width)
-  pub refused : (r : Refusal) → data_refusal s xs k ≡ some r → data_part s xs k ≡ []
+  pub present : data_refusal s xs k ≡ None → (length (data_part s xs k) ≡ s.width) × (0 < s.width)
+  pub refused : (r : Refusal) → data_refusal s xs k ≡ Some r → data_part s xs k ≡ []
 
 abbrev pub DataHandedOut : Type 0
 DataHandedOut = (s : Shape) (xs : List ℕ) (k : ℕ) → HandsOut s xs k
@@ -162,7 +161,7 @@ PackedLength = (s : Shape) (v : ℕ) (xs : List ℕ) → length (packed s v xs) 
 
 -- "filled from lane 0": the kept lanes of a transfer stand below its null lanes
 abbrev pub FromLaneZero : ℕ → Transfer Kept → Type 0
-FromLaneZero v t = t.lanes ≡ fitted v (map some (kept t.lanes))
+FromLaneZero v t = t.lanes ≡ fitted v (map Some (kept t.lanes))
 
 -- whether a transfer keeps a byte in each of v lanes, or in none
 abbrev pub full : ℕ → Transfer Kept → Bool
@@ -264,8 +263,8 @@ rule s before c (suc (suc (suc (suc (suc n))))) = false
 
 -- the cycle before cycle k
 abbrev pub cycle_before : List (List ℕ) → ℕ → Option (List ℕ)
-cycle_before cs zero = none
-cycle_before cs (suc k) = some (get_or cs k [])
+cycle_before cs zero = None
+cycle_before cs (suc k) = Some (get_or cs k [])
 
 -- cycle k breaks rule n
 abbrev pub breaks : Shape → List (List ℕ) → ℕ → ℕ → Bool
@@ -278,8 +277,8 @@ pub record IsEarliest (s : Shape) (cs : List (List ℕ)) (f : Finding) : Type 0 
   pub others : (k n : ℕ) → k < length cs → breaks s cs k n ≡ true → (f.cycle < k) ⊎ ((f.cycle ≡ k) × (f.rule ≤ n))
 
 pub record FindsEarliest (s : Shape) (xs : List ℕ) : Type 0 where
-  pub found : (f : Finding) → first_finding s xs ≡ some f → IsEarliest s (records s xs) f
-  pub clean : first_finding s xs ≡ none → (k n : ℕ) → k < length (records s xs) → breaks s (records s xs) k n ≡ false
+  pub found : (f : Finding) → first_finding s xs ≡ Some f → IsEarliest s (records s xs) f
+  pub clean : first_finding s xs ≡ None → (k n : ℕ) → k < length (records s xs) → breaks s (records s xs) k n ≡ false
 
 abbrev pub Findings : Type 0
 Findings = (s : Shape) (xs : List ℕ) → FindsEarliest s xs
@@ -300,15 +299,15 @@ ResetQuiet =
 -- What an accepted harvest writes is a legal stream of the same width, no longer than the take.
 abbrev pub HarvestLegal : Type 0
 HarvestLegal =
-    (s : Shape) (xs : List ℕ) (room : ℕ) → Octets xs → harvest_refusal s xs room ≡ none
+    (s : Shape) (xs : List ℕ) (room : ℕ) → Octets xs → harvest_refusal s xs room ≡ None
     → Legal s (harvested s xs) × (length (harvested s xs) ≤ length xs)
 
 -- So repacking what was harvested is refused for a bad output width or for want of room, and for nothing else: never 2, 3
 -- or 4.
 abbrev pub HarvestRepacks : Type 0
 HarvestRepacks =
-    (s : Shape) (xs : List ℕ) (room v lent : ℕ) → Octets xs → harvest_refusal s xs room ≡ none → Width v
-    → repack_refusal s v (harvested s xs) lent ≡ cond (ltb lent (length (packed s v (harvested s xs)))) (some Room) none
+    (s : Shape) (xs : List ℕ) (room v lent : ℕ) → Octets xs → harvest_refusal s xs room ≡ None → Width v
+    → repack_refusal s v (harvested s xs) lent ≡ cond (ltb lent (length (packed s v (harvested s xs)))) (Some Room) None
 
 -- ---- fill-in (T-03)
 

@@ -1,8 +1,7 @@
 -- What the premises of the promises let in: a promise says nothing where a premise never holds. There is a table, typed by
 -- hand, of the premise or of a test that computes and says the same both ways. The proofs are in proofs/Tables;
 -- examples that meet all premises of a promise are in Witnesses.
-use Rattle.std.specs.Prelude.{◌≡◌, Bool, true, false, ◌&&◌, List, [], ◌∷◌, ◌++◌, map, ◌↔◌, ℕ, ◌*◌, ◌%◌, ◌≤◌, eqb, leb, ltb, length}
-use Rattle.std.proofs.Math.Option.{Option, none, some}
+use Rattle.std.specs.Prelude.{◌≡◌, Bool, true, false, ◌&&◌, List, [], ◌∷◌, ◌++◌, map, ◌↔◌, ℕ, ◌*◌, ◌%◌, ◌≤◌, eqb, leb, ltb, length, Option, None, Some}
 use Rattle.refusal.specs.declared.Refusal.{Refusal}
 use Rattle.refusal.specs.declared.Refusal.TheVariants.{Room}
 use Rattle.stream_spec.specs.declared.Shape.{Shape}
@@ -40,8 +39,8 @@ are_octets [] = true
 are_octets (x ∷ xs) = ltb x 256 && are_octets xs
 
 abbrev pub is_none : Option Refusal → Bool
-is_none none = true
-is_none (some r) = false
+is_none None = true
+is_none (Some r) = false
 
 abbrev pub is_legal : Shape → List ℕ → Bool
 is_legal s xs =
@@ -100,13 +99,13 @@ pair tid tdest = record { tid = tid; tdest = tdest }
 
 -- nothing, then an end and a byte of the pair (1, 2)
 abbrev pub lasts : List (Option (Item Kept))
-lasts = none ∷ some (end (pair 1 2)) ∷ some (byte (pair 1 2) (position 0)) ∷ []
+lasts = None ∷ Some (end (pair 1 2)) ∷ Some (byte (pair 1 2) (position 0)) ∷ []
 
 -- nothing, then a byte and an end of the same pair, of another TID, and of another TDEST
 abbrev pub firsts : List (Option (Item Kept))
 firsts =
-    none ∷ some (byte (pair 1 2) (position 0)) ∷ some (end (pair 1 2)) ∷ some (byte (pair 3 2) (position 0)) ∷ some (end (pair 3 2))
-    ∷ some (byte (pair 1 3) (position 0)) ∷ some (end (pair 1 3)) ∷ []
+    None ∷ Some (byte (pair 1 2) (position 0)) ∷ Some (end (pair 1 2)) ∷ Some (byte (pair 3 2) (position 0)) ∷ Some (end (pair 3 2))
+    ∷ Some (byte (pair 1 3) (position 0)) ∷ Some (end (pair 1 3)) ∷ []
 
 -- a row for each last item before a division, in it a column for each first item after it
 abbrev pub ApartTable : Type 0
@@ -169,15 +168,15 @@ DividesTable = AllTold divides_parts true divided × AllTold divides_parts false
 -- ---- accepted calls
 
 abbrev pub AcceptedTable : Type 0
-AcceptedTable = map accepted (Records 0 ∷ Records 3 ∷ NotWritten Room ∷ []) ≡ some 0 ∷ some 3 ∷ none ∷ []
+AcceptedTable = map accepted (Records 0 ∷ Records 3 ∷ NotWritten Room ∷ []) ≡ Some 0 ∷ Some 3 ∷ None ∷ []
 
 -- these numbers, and no refused call among them
 abbrev pub numbers_are : List (Option ℕ) → List ℕ → Bool
 numbers_are [] [] = true
 numbers_are [] (n ∷ ns) = false
 numbers_are (a ∷ rest) [] = false
-numbers_are (none ∷ rest) (n ∷ ns) = false
-numbers_are (some m ∷ rest) (n ∷ ns) = eqb m n && numbers_are rest ns
+numbers_are (None ∷ rest) (n ∷ ns) = false
+numbers_are (Some m ∷ rest) (n ∷ ns) = eqb m n && numbers_are rest ns
 
 abbrev pub all_accepted : Shape → ℕ → List Part → List ℕ → Bool
 all_accepted s v ps ns = numbers_are (map (λ (p : Part). accepted (answer_to s p.octets (part_call v p))) ps) ns

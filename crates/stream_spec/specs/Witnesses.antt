@@ -1,8 +1,7 @@
 -- Worked data for each promise that has a premise: examples that meet all its premises, and what it then says of them,
 -- typed by hand and never computed. proofs/Witnesses applies the proved promise to each, so a premise that lets in less
 -- is refused there. Which streams, divisions and numbers a premise lets in is in Tables.
-use Rattle.std.specs.Prelude.{◌≡◌, Bool, true, false, List, [], ◌∷◌, ◌++◌, map, ℕ, ◌+◌, ◌*◌, ◌%◌, ◌≤◌, length, replicate}
-use Rattle.std.proofs.Math.Option.{Option, none, some}
+use Rattle.std.specs.Prelude.{◌≡◌, Bool, true, false, List, [], ◌∷◌, ◌++◌, map, ℕ, ◌+◌, ◌*◌, ◌%◌, ◌≤◌, length, replicate, Option, None, Some}
 use Rattle.stream_spec.specs.declared.Shape.{Shape}
 use Rattle.stream_spec.specs.declared.Written.TheVariants.{Records}
 use Rattle.stream_spec.specs.Items.{Transfer, Item, byte, end}
@@ -87,7 +86,7 @@ transfer lanes last = record { pair = pair 1 2; lanes = lanes; last = last }
 
 -- two full transfers of width 1, the second with TLAST, and one that is all-null
 abbrev pub packed_ones : List (Transfer Kept)
-packed_ones = transfer (some (octet 17 0) ∷ []) false ∷ transfer (some (position 0) ∷ []) true ∷ transfer (none ∷ []) true ∷ []
+packed_ones = transfer (Some (octet 17 0) ∷ []) false ∷ transfer (Some (position 0) ∷ []) true ∷ transfer (None ∷ []) true ∷ []
 
 abbrev pub ones_bytes : List (Item Kept)
 ones_bytes = byte (pair 1 2) (octet 17 0) ∷ byte (pair 1 2) (position 0) ∷ []

@@ -1,7 +1,7 @@
 -- The lowest rule that a beat breaks, as the code finds it, against the checks of the rules. Assumes nothing.
+use Rattle.std.specs.Prelude.{None, Some}
 use mathlib.Core.Bool.{Bool, true, false, cond, and-false}
 use mathlib.Core.List.{List, [], ◌∷◌}
-use mathlib.Core.Option.{none, some}
 use mathlib.Core.Path.{◌≡◌, refl, sym, ◌∙◌}
 use Prim.Native.Nat.{ℕ, ◌+◌, ◌≤◌, ◌<◌}
 use native.Mathlib.Omega.{arith}
@@ -78,22 +78,22 @@ module _ (b : Burst) (k : ℕ) (r : List ℕ) where
 
   -- ---- what it says of the checks
 
-  pub lowest_found : (n : ℕ) → n ≡ lowest_rule b k r → (n ≡ 0 → ⊥) → first (rule_checks b k r) ≡ some (finding k n)
+  pub lowest_found : (n : ℕ) → n ≡ lowest_rule b k r → (n ≡ 0 → ⊥) → first (rule_checks b k r) ≡ Some (finding k n)
   lowest_found n e h = go (w1 b k r) (w2 b k r) (w3 b k r) (w4 b k) e
     where
       go : (a1 a2 a3 a4 : Bool) → n ≡ cond a1 1 (cond a2 2 (cond a3 3 (cond a4 4 0)))
-          → first (check a1 (finding k 1) ∷ check a2 (finding k 2) ∷ check a3 (finding k 3) ∷ check a4 (finding k 4) ∷ []) ≡ some (finding k n)
+          → first (check a1 (finding k 1) ∷ check a2 (finding k 2) ∷ check a3 (finding k 3) ∷ check a4 (finding k 4) ∷ []) ≡ Some (finding k n)
       go true a2 a3 a4 f = rw f refl
       go false true a3 a4 f = rw f refl
       go false false true a4 f = rw f refl
       go false false false true f = rw f refl
       go false false false false f = absurd (h f)
 
-  pub lowest_none : (n : ℕ) → n ≡ lowest_rule b k r → n ≡ 0 → first (rule_checks b k r) ≡ none
+  pub lowest_none : (n : ℕ) → n ≡ lowest_rule b k r → n ≡ 0 → first (rule_checks b k r) ≡ None
   lowest_none n e h = go (w1 b k r) (w2 b k r) (w3 b k r) (w4 b k) e
     where
       go : (a1 a2 a3 a4 : Bool) → n ≡ cond a1 1 (cond a2 2 (cond a3 3 (cond a4 4 0)))
-          → first (check a1 (finding k 1) ∷ check a2 (finding k 2) ∷ check a3 (finding k 3) ∷ check a4 (finding k 4) ∷ []) ≡ none
+          → first (check a1 (finding k 1) ∷ check a2 (finding k 2) ∷ check a3 (finding k 3) ∷ check a4 (finding k 4) ∷ []) ≡ None
       go true a2 a3 a4 f = absurd (omega arith)
       go false true a3 a4 f = absurd (omega arith)
       go false false true a4 f = absurd (omega arith)

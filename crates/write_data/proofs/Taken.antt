@@ -1,7 +1,7 @@
 -- The refusals of a take as the code finds them, and its answer. Assumes nothing.
+use Rattle.std.specs.Prelude.{Option, None, Some}
 use mathlib.Core.Bool.{Bool, true, false, cond}
 use mathlib.Core.List.{List, [], ◌∷◌, ◌++◌}
-use mathlib.Core.Option.{Option, none, some}
 use mathlib.Core.Path.{◌≡◌, sym, ap, ap₂, ◌∙◌}
 use Prim.Native.Nat.{ℕ, ◌+◌}
 use native.Mathlib.Nat.{zero-add}
@@ -39,8 +39,8 @@ module _ (b : Burst) (xs : List ℕ) where
   take_judged r e = sym (ap judgement_for (refusal_judged b xs r e))
 
   by_length : {t : Bool} → length_fault b.bus xs ≡ t
-      → first (take_checks b.bus xs) ≡ cond t (some Length) (fault_from b.bus 0 (write_beats b.bus xs))
-  by_length f = ap (λ t. cond t (some Length) (fault_from b.bus 0 (write_beats b.bus xs))) f
+      → first (take_checks b.bus xs) ≡ cond t (Some Length) (fault_from b.bus 0 (write_beats b.bus xs))
+  by_length f = ap (λ t. cond t (Some Length) (fault_from b.bus 0 (write_beats b.bus xs))) f
 
   pub take-length : IsAccepted b → length_fault b.bus xs ≡ true → judged.Refused Length ≡ judgement_for (write_refusal b xs)
   take-length e f = sym (ap judgement_for (refusal-accepted b xs e ∙ by_length f))
@@ -55,10 +55,10 @@ module _ (b : Burst) (xs : List ℕ) where
   refuses r e = judged_is b xs (Refused r) (sym ((refused-answer b xs r).1 (refused-some (write_refusal b xs) r e)))
 
   module _ (e : judgement_for (write_refusal b xs) ≡ judged.Accepted) where
-    none-refused : write_refusal b xs ≡ none
+    none-refused : write_refusal b xs ≡ None
     none-refused = accepted-none (write_refusal b xs) e
 
-    parts : (first (checks b) ≡ none) × (first (take_checks b.bus xs) ≡ none)
+    parts : (first (checks b) ≡ None) × (first (take_checks b.bus xs) ≡ None)
     parts = append-none (checks b) (take_checks b.bus xs) none-refused
 
     pub judgeable : Judgeable b xs
@@ -71,7 +71,7 @@ module _ (b : Burst) (xs : List ℕ) where
     answers r f =
         judged_is b xs r
         (f
-        ∙ ap₂ (λ (o : Option Finding) (n : ℕ). verdict none o n) (counted (length (write_beats b.bus xs))) (zero-add (all_strobes b.bus (write_beats b.bus xs)))
+        ∙ ap₂ (λ (o : Option Finding) (n : ℕ). verdict None o n) (counted (length (write_beats b.bus xs))) (zero-add (all_strobes b.bus (write_beats b.bus xs)))
         ∙ sym (ap (λ (o : Option Refusal). verdict o (first_finding b (write_beats b.bus xs)) (all_strobes b.bus (write_beats b.bus xs))) none-refused))
       where
         counted : (n : ℕ) → first (each (rule_checks b) 0 (write_beats b.bus xs) ++ count_check b (0 + n) ∷ [])

@@ -1,7 +1,7 @@
 -- The two passes over a take, turn by turn: the beats left decide, and a turn takes one off them. Assumes nothing.
+use Rattle.std.specs.Prelude.{Option, None, Some}
 use mathlib.Core.Bool.{Bool, true, false}
 use mathlib.Core.List.{List, [], ◌∷◌, ◌++◌, append_assoc}
-use mathlib.Core.Option.{Option, none, some}
 use mathlib.Core.Path.{◌≡◌, refl, sym, ap, ap₂, ◌∙◌}
 use Prim.Native.Nat.{ℕ, suc, ◌+◌, ◌≤◌, ◌<◌}
 use native.Mathlib.Nat.{add-zero, add-suc, suc-add, add_assoc}
@@ -83,13 +83,13 @@ module _ (bus : ℕ) (xs : List ℕ) (at k : ℕ) (l : Looking bus xs at k) wher
 
 module _ (b : Burst) (k : ℕ) (r : List ℕ) (rs : List (List ℕ)) (n : ℕ) where
   -- what the beat breaks is told
-  from_found : (f : Finding) → first (rule_checks b k r) ≡ some f → verdict_from b k (r ∷ rs) n ≡ Broken f.place f.rule
+  from_found : (f : Finding) → first (rule_checks b k r) ≡ Some f → verdict_from b k (r ∷ rs) n ≡ Broken f.place f.rule
   from_found f e =
-      ap (λ o. verdict none o (n + all_strobes b.bus (r ∷ rs)))
+      ap (λ o. verdict None o (n + all_strobes b.bus (r ∷ rs)))
       (append-found (each (rule_checks b) k (r ∷ rs)) (count_check b (k + length (r ∷ rs)) ∷ []) f (each-found (rule_checks b) k r rs f e))
 
   -- a beat that breaks none leaves it to the others
-  others : first (rule_checks b k r) ≡ none
+  others : first (rule_checks b k r) ≡ None
       → first (each (rule_checks b) k (r ∷ rs) ++ count_check b (k + length (r ∷ rs)) ∷ [])
       ≡ first (each (rule_checks b) (suc k) rs ++ count_check b (suc k + length rs) ∷ [])
   others e =
@@ -98,11 +98,11 @@ module _ (b : Burst) (k : ℕ) (r : List ℕ) (rs : List (List ℕ)) (n : ℕ) w
       ∙ append-passed (rule_checks b k r) (each (rule_checks b) (suc k) rs ++ count_check b (k + length (r ∷ rs)) ∷ []) e
       ∙ ap (λ (i : ℕ). first (each (rule_checks b) (suc k) rs ++ count_check b i ∷ [])) (add-suc k (length rs) ∙ sym (suc-add k (length rs)))
 
-  from-passed : first (rule_checks b k r) ≡ none → verdict_from b (k + 1) rs (n + high_strobes b.bus r) ≡ verdict_from b k (r ∷ rs) n
+  from-passed : first (rule_checks b k r) ≡ None → verdict_from b (k + 1) rs (n + high_strobes b.bus r) ≡ verdict_from b k (r ∷ rs) n
   from-passed e =
       ap (λ (i : ℕ). verdict_from b i rs (n + high_strobes b.bus r)) (add-one k)
       ∙ sym
-      (ap₂ (λ (o : Option Finding) (m : ℕ). verdict none o m) (others e) (sym (add_assoc n (high_strobes b.bus r) (all_strobes b.bus rs))))
+      (ap₂ (λ (o : Option Finding) (m : ℕ). verdict None o m) (others e) (sym (add_assoc n (high_strobes b.bus r) (all_strobes b.bus rs))))
 
 -- ---- the second pass
 
@@ -127,7 +127,7 @@ module _ (b : Burst) (xs : List ℕ) (at k high : ℕ) (t : Turning b xs at k hi
     next : write_beats b.bus (drop at xs) ≡ rec ∷ later
     next = beats-next b.bus xs at t.left more z q
 
-    sound-all : (first (field_checks b.bus k rec) ≡ none) × (fault_from b.bus (suc k) later ≡ none)
+    sound-all : (first (field_checks b.bus k rec) ≡ None) × (fault_from b.bus (suc k) later ≡ None)
     sound-all = each_none (field_checks b.bus) k rec later (sym (ap (fault_from b.bus k) next) ∙ t.sound)
 
     pub asks : BeatRecord b.bus rec
@@ -135,7 +135,7 @@ module _ (b : Burst) (xs : List ℕ) (at k high : ℕ) (t : Turning b xs at k hi
         record {
           allowed = allowed;
           long = long b.bus xs at t.left more z q;
-          sound = (cond-none (field_fault b.bus rec) (Field k) none sound-all.0).0;
+          sound = (cond-none (field_fault b.bus rec) (Field k) None sound-all.0).0;
         }
 
     left_is : verdict_from b k (rec ∷ later) high ≡ verdict_from b 0 (write_beats b.bus xs) 0

@@ -1,7 +1,6 @@
 -- Judging write beats as two passes over the take, against write_data_spec: what is known of a beat where it is judged, and what is
 -- known between two beats. Each is said by what is left: the verdict on the beats left is the verdict on all.
-use Rattle.std.specs.Prelude.{Bool, true, false, not, ◌&&◌, cond, List, [], ◌∷◌, ◌++◌, ◌≡◌, ℕ, ◌+◌, ◌*◌, ◌%◌, ◌≤◌, length, drop}
-use Rattle.std.proofs.Math.Option.{Option, none}
+use Rattle.std.specs.Prelude.{Bool, true, false, not, ◌&&◌, cond, List, [], ◌∷◌, ◌++◌, ◌≡◌, ℕ, ◌+◌, ◌*◌, ◌%◌, ◌≤◌, length, drop, Option, None}
 use Rattle.refusal.specs.declared.Refusal.{Refusal}
 use Rattle.refusal.specs.Checks.{first}
 use Rattle.stream_spec.specs.Checks.{capture_most, each}
@@ -65,16 +64,16 @@ pub record Looking (bus : ℕ) (xs : List ℕ) (at k : ℕ) : Type 0 where
 pub record Judgeable (b : Burst) (xs : List ℕ) : Type 0 where
   pub accepted : Accepted b
   pub whole : Whole b.bus xs
-  pub sound : fault_from b.bus 0 (write_beats b.bus xs) ≡ none
+  pub sound : fault_from b.bus 0 (write_beats b.bus xs) ≡ None
 
 -- the verdict on the beats from beat k on, where n high strobes are counted so far
 abbrev pub verdict_from : Burst → ℕ → List (List ℕ) → ℕ → WriteVerdict
-verdict_from b k rs n = verdict none (first (each (rule_checks b) k rs ++ count_check b (k + length rs) ∷ [])) (n + all_strobes b.bus rs)
+verdict_from b k rs n = verdict None (first (each (rule_checks b) k rs ++ count_check b (k + length rs) ∷ [])) (n + all_strobes b.bus rs)
 
 -- the second pass: k beats, up to octet `at`, break no rule and have so many high strobes
 pub record Turning (b : Burst) (xs : List ℕ) (at k high : ℕ) : Type 0 where
   pub left : LeftBy (beat_size b.bus) xs at
   pub few : k ≤ at
   pub counted : high ≤ bus_most * k
-  pub sound : fault_from b.bus k (write_beats b.bus (drop at xs)) ≡ none
+  pub sound : fault_from b.bus k (write_beats b.bus (drop at xs)) ≡ None
   pub same : verdict_from b k (write_beats b.bus (drop at xs)) high ≡ verdict_from b 0 (write_beats b.bus xs) 0

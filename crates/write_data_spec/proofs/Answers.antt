@@ -1,7 +1,7 @@
 -- Which answer is given for which refusal and finding, and that it shows the paper's numbers. Assumes nothing.
+use Rattle.std.specs.Prelude.{Option, None, Some}
 use mathlib.Core.List.{List}
 use mathlib.Core.Logic.{◌↔◌}
-use mathlib.Core.Option.{Option, none, some}
 use mathlib.Core.Path.{◌≡◌, refl, ap, ◌∙◌}
 use Prim.Native.Nat.{ℕ}
 use Rattle.refusal.specs.Checks.{first}
@@ -21,39 +21,39 @@ use Rattle.write_data_spec.specs.Answers.{take_checks, write_refusal, verdict, w
 use Rattle.write_data_spec.specs.Promises.{IsAccepted}
 
 verdict-shows : (o : Option Refusal) (f : Option Finding) (n : ℕ) → write_values (verdict o f n) ≡ values_for o f n
-verdict-shows (some r) f n = refl
-verdict-shows none (some f) n = refl
-verdict-shows none none n = refl
+verdict-shows (Some r) f n = refl
+verdict-shows None (Some f) n = refl
+verdict-shows None None n = refl
 
 -- ---- each verdict comes of one refusal and finding
 
 module _ (o : Option Refusal) (f : Option Finding) (m : ℕ) where
-  verdict-clean : (n : ℕ) → (verdict o f m ≡ Clean n) ↔ ((o ≡ none) × (f ≡ none) × (n ≡ m))
+  verdict-clean : (n : ℕ) → (verdict o f m ≡ Clean n) ↔ ((o ≡ None) × (f ≡ None) × (n ≡ m))
   verdict-clean n = (there o f, λ h. rw (h.0, h.1, h.2) refl)
     where
-      there : (o : Option Refusal) (f : Option Finding) → verdict o f m ≡ Clean n → (o ≡ none) × (f ≡ none) × (n ≡ m)
-      there (some r) f e = absurd (clash cc)
-      there none (some g) e = absurd (clash cc)
-      there none none e = (refl, refl, cc)
+      there : (o : Option Refusal) (f : Option Finding) → verdict o f m ≡ Clean n → (o ≡ None) × (f ≡ None) × (n ≡ m)
+      there (Some r) f e = absurd (clash cc)
+      there None (Some g) e = absurd (clash cc)
+      there None None e = (refl, refl, cc)
 
-  verdict-broken : (p n : ℕ) → (verdict o f m ≡ Broken p n) ↔ ((o ≡ none) × (f ≡ some (finding p n)))
+  verdict-broken : (p n : ℕ) → (verdict o f m ≡ Broken p n) ↔ ((o ≡ None) × (f ≡ Some (finding p n)))
   verdict-broken p n = (there o f, λ h. rw (h.0, h.1) refl)
     where
-      there : (o : Option Refusal) (f : Option Finding) → verdict o f m ≡ Broken p n → (o ≡ none) × (f ≡ some (finding p n))
-      there (some r) f e = absurd (clash cc)
-      there none (some g) e =
+      there : (o : Option Refusal) (f : Option Finding) → verdict o f m ≡ Broken p n → (o ≡ None) × (f ≡ Some (finding p n))
+      there (Some r) f e = absurd (clash cc)
+      there None (Some g) e =
           let place : g.place ≡ p = cc in
           let rule : g.rule ≡ n = cc in
-          (refl, λ i. some (record { place = place i; rule = rule i }))
-      there none none e = absurd (clash cc)
+          (refl, λ i. Some (record { place = place i; rule = rule i }))
+      there None None e = absurd (clash cc)
 
-  verdict-refused : (r : Refusal) → (verdict o f m ≡ Refused r) ↔ (o ≡ some r)
+  verdict-refused : (r : Refusal) → (verdict o f m ≡ Refused r) ↔ (o ≡ Some r)
   verdict-refused r = (there o f, λ h. rw h refl)
     where
-      there : (o : Option Refusal) (f : Option Finding) → verdict o f m ≡ Refused r → o ≡ some r
-      there (some q) f e = cc
-      there none (some g) e = absurd (clash cc)
-      there none none e = absurd (clash cc)
+      there : (o : Option Refusal) (f : Option Finding) → verdict o f m ≡ Refused r → o ≡ Some r
+      there (Some q) f e = cc
+      there None (Some g) e = absurd (clash cc)
+      there None None e = absurd (clash cc)
 
 -- ---- the answer
 
@@ -68,17 +68,17 @@ module _ (b : Burst) (xs : List ℕ) where
   pub judged_is : (r : WriteVerdict) → r ≡ write_answer b xs → WritesJudged b xs r
   judged_is r e = record { is = e; shows = ap write_values e ∙ verdict-shows (write_refusal b xs) found strobes }
 
-  pub clean-answer : (n : ℕ) → (write_answer b xs ≡ Clean n) ↔ ((write_refusal b xs ≡ none) × (found ≡ none) × (n ≡ strobes))
+  pub clean-answer : (n : ℕ) → (write_answer b xs ≡ Clean n) ↔ ((write_refusal b xs ≡ None) × (found ≡ None) × (n ≡ strobes))
   clean-answer = verdict-clean (write_refusal b xs) found strobes
 
-  pub broken-answer : (p n : ℕ) → (write_answer b xs ≡ Broken p n) ↔ ((write_refusal b xs ≡ none) × (found ≡ some (finding p n)))
+  pub broken-answer : (p n : ℕ) → (write_answer b xs ≡ Broken p n) ↔ ((write_refusal b xs ≡ None) × (found ≡ Some (finding p n)))
   broken-answer = verdict-broken (write_refusal b xs) found strobes
 
-  pub refused-answer : (r : Refusal) → (write_answer b xs ≡ Refused r) ↔ (write_refusal b xs ≡ some r)
+  pub refused-answer : (r : Refusal) → (write_answer b xs ≡ Refused r) ↔ (write_refusal b xs ≡ Some r)
   refused-answer = verdict-refused (write_refusal b xs) found strobes
 
   -- the refusal, from how the burst was judged
-  pub refusal_judged : (r : Refusal) → judgement b ≡ judged.Refused r → write_refusal b xs ≡ some r
+  pub refusal_judged : (r : Refusal) → judgement b ≡ judged.Refused r → write_refusal b xs ≡ Some r
   refusal_judged r e = append-found (checks b) (take_checks b.bus xs) r (refused-some (first (checks b)) r e)
 
   pub refusal-accepted : IsAccepted b → write_refusal b xs ≡ first (take_checks b.bus xs)

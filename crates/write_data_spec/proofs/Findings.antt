@@ -1,9 +1,9 @@
 -- The first finding of a take is at the earliest beat that breaks a rule, with the lowest rule broken there, and there is none exactly
 -- where nothing breaks a rule. First the rules at one beat, then all beats and the count. Assumes nothing.
+use Rattle.std.specs.Prelude.{Option, None, Some}
 use mathlib.Core.Bool.{Bool, true, false, cond}
 use mathlib.Core.List.{List, [], ◌∷◌}
 use mathlib.Core.Logic.{◌⊎◌, inl, inr, ◌↔◌}
-use mathlib.Core.Option.{Option, none, some}
 use mathlib.Core.Path.{◌≡◌, refl, sym, ap, ◌∙◌, subst}
 use Prim.Native.Nat.{ℕ, suc, ◌+◌, ◌-◌, ◌≤◌, ◌<◌}
 use native.Mathlib.Decide.{dec_le, dec_lt}
@@ -35,8 +35,8 @@ pub record IsLowest (b : Burst) (k : ℕ) (r : List ℕ) (f : Finding) : Type 0 
 module _ (b : Burst) (k : ℕ) (r : List ℕ) where
   -- what the first finding of the beat is, or that there is none
   abbrev AtBeat : Option Finding → Type 0
-  AtBeat none = (n : ℕ) → rule b k r n ≡ false
-  AtBeat (some f) = IsLowest b k r f
+  AtBeat None = (n : ℕ) → rule b k r n ≡ false
+  AtBeat (Some f) = IsLowest b k r f
 
   -- no rule below n is broken
   abbrev From : ℕ → Type 0
@@ -68,7 +68,7 @@ module _ (b : Burst) (k : ℕ) (r : List ℕ) where
   at_next : (n : ℕ) (cs : List (Check Finding)) → From n → (From (suc n) → AtBeat (first cs)) → AtBeat (first (rule_check n ∷ cs))
   at_next n cs h rest = go (rule b k r n) refl
     where
-      go : (t : Bool) → rule b k r n ≡ t → AtBeat (cond t (some (finding k n)) (first cs))
+      go : (t : Bool) → rule b k r n ≡ t → AtBeat (cond t (Some (finding k n)) (first cs))
       go true e = record { place = refl; broken = e; others = h }
       go false e = rest (from_next n h e)
 
@@ -78,31 +78,31 @@ module _ (b : Burst) (k : ℕ) (r : List ℕ) where
       (λ h2. at_next 2 (rule_check 3 ∷ rule_check 4 ∷ []) h2 (λ h3. at_next 3 (rule_check 4 ∷ []) h3 (λ h4. at_next 4 [] h4 from_five)))
 
   -- the first finding of a beat is the lowest rule that it breaks, and the other way round
-  pub lowest_exactly : (f : Finding) → (first (rule_checks b k r) ≡ some f) ↔ IsLowest b k r f
+  pub lowest_exactly : (f : Finding) → (first (rule_checks b k r) ≡ Some f) ↔ IsLowest b k r f
   lowest_exactly f = (λ e. subst AtBeat e at-beat, λ h. go h (first (rule_checks b k r)) at-beat)
     where
-      go : IsLowest b k r f → (o : Option Finding) → AtBeat o → o ≡ some f
-      go h none a = no_such (a f.rule) h.broken
-      go h (some g) a =
-          ap some
+      go : IsLowest b k r f → (o : Option Finding) → AtBeat o → o ≡ Some f
+      go h None a = no_such (a f.rule) h.broken
+      go h (Some g) a =
+          ap Some
           (same-finding g f (a.place ∙ sym h.place)
           (le_antisymm (a.others f.rule h.broken) (h.others g.rule a.broken)))
 
   -- a beat without finding breaks no rule, and the other way round
-  pub no-rule_exactly : (first (rule_checks b k r) ≡ none) ↔ ((n : ℕ) → rule b k r n ≡ false)
+  pub no-rule_exactly : (first (rule_checks b k r) ≡ None) ↔ ((n : ℕ) → rule b k r n ≡ false)
   no-rule_exactly = (λ e. subst AtBeat e at-beat, λ h. go h (first (rule_checks b k r)) at-beat)
     where
-      go : ((n : ℕ) → rule b k r n ≡ false) → (o : Option Finding) → AtBeat o → o ≡ none
-      go h none a = refl
-      go h (some f) a = no_such (h f.rule) a.broken
+      go : ((n : ℕ) → rule b k r n ≡ false) → (o : Option Finding) → AtBeat o → o ≡ None
+      go h None a = refl
+      go h (Some f) a = no_such (h f.rule) a.broken
 
 -- ---- all beats, and the count
 
 module _ (b : Burst) (rs : List (List ℕ)) where
   -- what the first finding of the take is, or that there is none
   abbrev InTake : Option Finding → Type 0
-  InTake none = (k n : ℕ) → Breaks b rs k n → ⊥
-  InTake (some f) = IsEarliest b rs f
+  InTake None = (k n : ℕ) → Breaks b rs k n → ⊥
+  InTake (Some f) = IsEarliest b rs f
 
   -- the lowest rule of a beat is the earliest where no beat before it breaks a rule
   pub at-beat-first : (k : ℕ) (f : Finding) → k < length rs → IsLowest b k (beat rs k) f → Sound b rs k → IsEarliest b rs f
@@ -138,8 +138,8 @@ module _ (b : Burst) (rs : List (List ℕ)) where
   found_first : (f : Finding) → FoundIn Finding (rule_checks b) 0 rs f → IsEarliest b rs f
   found_first f h =
       at-beat-first h.place f h.within
-      ((lowest_exactly b h.place (beat rs h.place) f).0 (counted h.place (some f) h.here))
-      (λ j l. (no-rule_exactly b j (beat rs j)).0 (counted j none (h.earlier j l)))
+      ((lowest_exactly b h.place (beat rs h.place) f).0 (counted h.place (Some f) h.here))
+      (λ j l. (no-rule_exactly b j (beat rs j)).0 (counted j None (h.earlier j l)))
 
   -- with no finding at a beat the count decides
   count-last : Sound b rs (length rs) → InTake (first (count_check b (length rs) ∷ []))
@@ -149,7 +149,7 @@ module _ (b : Burst) (rs : List (List ℕ)) where
       nothing l k n (inl e) = no_such (sound k e.0 n) e.1
       nothing l k n (inr e) = omega (arith, e.1, e.2)
 
-      go : (t : Bool) → w5 b (length rs) ≡ t → InTake (cond t (some (finding (length rs) 5)) none)
+      go : (t : Bool) → w5 b (length rs) ≡ t → InTake (cond t (Some (finding (length rs) 5)) None)
       go true e = at-count-first (ltb-true (length rs) (beats b) e) sound
       go false e = nothing (ltb-false (length rs) (beats b) e)
 
@@ -157,12 +157,12 @@ module _ (b : Burst) (rs : List (List ℕ)) where
   in_take = go (first (each (rule_checks b) 0 rs)) refl
     where
       go : (o : Option Finding) → first (each (rule_checks b) 0 rs) ≡ o → InTake (first_finding b rs)
-      go (some f) e =
+      go (Some f) e =
           subst InTake (sym (append-found (each (rule_checks b) 0 rs) (count_check b (length rs) ∷ []) f e))
           (found_first f (each_at (rule_checks b) 0 rs f e))
-      go none e =
+      go None e =
           subst InTake (sym (append-passed (each (rule_checks b) 0 rs) (count_check b (length rs) ∷ []) e))
-          (count-last (λ j l. (no-rule_exactly b j (beat rs j)).0 (counted j none (each_all (rule_checks b) 0 rs e j l))))
+          (count-last (λ j l. (no-rule_exactly b j (beat rs j)).0 (counted j None (each_all (rule_checks b) 0 rs e j l))))
 
   -- two findings that are both the earliest are the same
   one_earliest : (f g : Finding) → IsEarliest b rs f → IsEarliest b rs g → f ≡ g
@@ -176,16 +176,16 @@ module _ (b : Burst) (rs : List (List ℕ)) where
       go (inr p) (inr q) = same-finding f g p.0 (le_antisymm p.1 q.1)
 
   -- no finding is nothing that breaks a rule, and the other way round
-  pub no-finding_exactly : (first_finding b rs ≡ none) ↔ ((k n : ℕ) → Breaks b rs k n → ⊥)
+  pub no-finding_exactly : (first_finding b rs ≡ None) ↔ ((k n : ℕ) → Breaks b rs k n → ⊥)
   no-finding_exactly = (λ e. subst InTake e in_take, λ h. go h (first_finding b rs) in_take)
     where
-      go : ((k n : ℕ) → Breaks b rs k n → ⊥) → (o : Option Finding) → InTake o → o ≡ none
-      go h none a = refl
-      go h (some f) a = absurd (h f.place f.rule a.broken)
+      go : ((k n : ℕ) → Breaks b rs k n → ⊥) → (o : Option Finding) → InTake o → o ≡ None
+      go h None a = refl
+      go h (Some f) a = absurd (h f.place f.rule a.broken)
 
-pub earliest_exactly : (b : Burst) (rs : List (List ℕ)) (f : Finding) → (first_finding b rs ≡ some f) ↔ IsEarliest b rs f
+pub earliest_exactly : (b : Burst) (rs : List (List ℕ)) (f : Finding) → (first_finding b rs ≡ Some f) ↔ IsEarliest b rs f
 earliest_exactly b rs f = (λ e. subst (InTake b rs) e (in_take b rs), λ h. go h (first_finding b rs) (in_take b rs))
   where
-    go : IsEarliest b rs f → (o : Option Finding) → InTake b rs o → o ≡ some f
-    go h none a = absurd (a f.place f.rule h.broken)
-    go h (some g) a = ap some (one_earliest b rs g f a h)
+    go : IsEarliest b rs f → (o : Option Finding) → InTake b rs o → o ≡ Some f
+    go h None a = absurd (a f.place f.rule h.broken)
+    go h (Some g) a = ap Some (one_earliest b rs g f a h)

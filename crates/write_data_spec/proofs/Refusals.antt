@@ -1,8 +1,8 @@
 -- The refusals of a take in plain words: a burst's own come first, then LENGTH, then FIELD at the first bad record. Assumes nothing.
+use Rattle.std.specs.Prelude.{Option, None, Some}
 use mathlib.Core.Bool.{Bool, true, false, not, cond, or-true}
 use mathlib.Core.List.{List}
 use mathlib.Core.Logic.{◌⊎◌, inl, inr, ◌≢◌}
-use mathlib.Core.Option.{Option, none, some}
 use mathlib.Core.Path.{◌≡◌, refl, sym, ap, ◌∙◌, subst}
 use Prim.Native.Nat.{ℕ, ◌+◌, ◌%◌, ◌≤◌, ◌<◌}
 use native.Mathlib.Nat.{zero-add}
@@ -31,15 +31,15 @@ use Rattle.write_data_spec.proofs.Answers.{refused-answer, refusal_judged, refus
 
 -- ---- a refusal below 7 is not the burst's own
 
-after-own : (b : Burst) (xs : List ℕ) (r : Refusal) → (code_of r).0 < 7 → write_refusal b xs ≡ some r
-    → IsAccepted b × (first (take_checks b.bus xs) ≡ some r)
+after-own : (b : Burst) (xs : List ℕ) (r : Refusal) → (code_of r).0 < 7 → write_refusal b xs ≡ Some r
+    → IsAccepted b × (first (take_checks b.bus xs) ≡ Some r)
 after-own b xs r l e = go (first (checks b)) refl
   where
-    go : (o : Option Refusal) → first (checks b) ≡ o → IsAccepted b × (first (take_checks b.bus xs) ≡ some r)
-    go (some q) f =
-        let same : some q ≡ some r = sym (refusal_judged b xs q (ap judgement_for f)) ∙ e in
+    go : (o : Option Refusal) → first (checks b) ≡ o → IsAccepted b × (first (take_checks b.bus xs) ≡ Some r)
+    go (Some q) f =
+        let same : Some q ≡ Some r = sym (refusal_judged b xs q (ap judgement_for f)) ∙ e in
         absurd (let h = own-number b r (f ∙ same) in omega arith)
-    go none f = let a : IsAccepted b = ap judgement_for f in (a, sym (refusal-accepted b xs a) ∙ e)
+    go None f = let a : IsAccepted b = ap judgement_for f in (a, sym (refusal-accepted b xs a) ∙ e)
 
 -- ---- LENGTH
 
@@ -76,10 +76,10 @@ module _ (bus : ℕ) (xs : List ℕ) where
 -- ---- FIELD
 
 -- a record that is refused has the fault, and its place is told
-field_found : (bus k : ℕ) (r : List ℕ) (q : Refusal) → first (field_checks bus k r) ≡ some q → (field_fault bus r ≡ true) × (q ≡ Field k)
+field_found : (bus k : ℕ) (r : List ℕ) (q : Refusal) → first (field_checks bus k r) ≡ Some q → (field_fault bus r ≡ true) × (q ≡ Field k)
 field_found bus k r q e = go (field_fault bus r) refl e
   where
-    go : (t : Bool) → field_fault bus r ≡ t → cond t (some (Field k)) none ≡ some q → (field_fault bus r ≡ true) × (q ≡ Field k)
+    go : (t : Bool) → field_fault bus r ≡ t → cond t (Some (Field k)) None ≡ Some q → (field_fault bus r ≡ true) × (q ≡ Field k)
     go true h f = (h, cc)
     go false h f = absurd (clash cc)
 
@@ -92,7 +92,7 @@ module _ (b : Burst) (xs : List ℕ) where
       let h = after-own b xs Length (omega arith) ((refused-answer b xs Length).0 e) in
       (h.0, go (length_fault b.bus xs) refl h.1)
     where
-      go : (t : Bool) → length_fault b.bus xs ≡ t → cond t (some Length) (first (each (field_checks b.bus) 0 taken)) ≡ some Length
+      go : (t : Bool) → length_fault b.bus xs ≡ t → cond t (Some Length) (first (each (field_checks b.bus) 0 taken)) ≡ Some Length
           → BadLength b.bus xs
       go true f h = length-bad b.bus xs f
       go false f h =
@@ -119,11 +119,11 @@ module _ (b : Burst) (xs : List ℕ) where
             whole = long.1;
             within = omega (arith, f.within);
             bad = subst (λ (j : ℕ). field_fault b.bus (beat taken j) ≡ true) (sym same) h.0;
-            earlier = λ j m. (cond-none (field_fault b.bus (beat taken j)) (Field (0 + j)) none (f.earlier j (omega arith))).0;
+            earlier = λ j m. (cond-none (field_fault b.bus (beat taken j)) (Field (0 + j)) None (f.earlier j (omega arith))).0;
           }
 
       go : IsAccepted b → (t : Bool) → length_fault b.bus xs ≡ t
-          → cond t (some Length) (first (each (field_checks b.bus) 0 taken)) ≡ some (Field k) → FirstBad b xs k
+          → cond t (Some Length) (first (each (field_checks b.bus) 0 taken)) ≡ Some (Field k) → FirstBad b xs k
       go a true l h = absurd (clash cc)
       go a false l h =
           let f = each_at (field_checks b.bus) 0 taken (Field k) h in
@@ -138,11 +138,11 @@ module _ (b : Burst) (xs : List ℕ) where
       (record {
         place = k;
         within = f.within;
-        here = rw f.bad (ap (λ (j : ℕ). some (Field j)) (zero-add k));
+        here = rw f.bad (ap (λ (j : ℕ). Some (Field j)) (zero-add k));
         earlier = λ j l. rw (f.earlier j l) refl;
       })))
 
-  refused_none : write_refusal b xs ≡ none → WellFormed b xs
+  refused_none : write_refusal b xs ≡ None → WellFormed b xs
   refused_none e =
       let h = append-none (checks b) (take_checks b.bus xs) e in
       let l = cond-none (length_fault b.bus xs) Length (first (each (field_checks b.bus) 0 taken)) h.1 in
@@ -151,10 +151,10 @@ module _ (b : Burst) (xs : List ℕ) where
         accepted = ap judgement_for h.0;
         short = long.0;
         whole = long.1;
-        sound = λ k m. (cond-none (field_fault b.bus (beat taken k)) (Field (0 + k)) none (each_all (field_checks b.bus) 0 taken l.1 k m)).0;
+        sound = λ k m. (cond-none (field_fault b.bus (beat taken k)) (Field (0 + k)) None (each_all (field_checks b.bus) 0 taken l.1 k m)).0;
       }
 
-  none-refused : WellFormed b xs → write_refusal b xs ≡ none
+  none-refused : WellFormed b xs → write_refusal b xs ≡ None
   none-refused w =
       refusal-accepted b xs w.accepted
       ∙ rw (good_length b.bus xs w.short w.whole) (all-each (field_checks b.bus) 0 taken (λ k m. rw (w.sound k m) refl))

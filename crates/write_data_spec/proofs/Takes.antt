@@ -1,8 +1,8 @@
 -- Takes of which no beat that the burst has breaks a rule: clean ones, and those with beats too many or too few. Assumes nothing.
+use Rattle.std.specs.Prelude.{None, Some}
 use mathlib.Core.Bool.{Bool, true, false, not, ◌&&◌, and-not_self}
 use mathlib.Core.List.{List}
 use mathlib.Core.Logic.{◌⊎◌, inl, inr, ◌↔◌}
-use mathlib.Core.Option.{none, some}
 use mathlib.Core.Path.{◌≡◌, refl, sym, ◌∙◌, subst}
 use Prim.Native.Nat.{ℕ, zero, suc, ◌+◌, ◌≤◌, ◌<◌}
 use native.Mathlib.Decide.{dec_le, dec_lt}
@@ -102,7 +102,7 @@ module _ (b : Burst) (rs : List (List ℕ)) where
   sound_back c s k n (inl e) = no_such (s k (omega (arith, e.0)) n) e.1
 
   -- no finding is so, and the other way round
-  pub sound_exactly : (first_finding b rs ≡ none) ↔ ((length rs ≡ beats b) × Sound b rs (beats b))
+  pub sound_exactly : (first_finding b rs ≡ None) ↔ ((length rs ≡ beats b) × Sound b rs (beats b))
   sound_exactly = (λ e. sound_there ((no-finding_exactly b rs).0 e), λ h. (no-finding_exactly b rs).1 (sound_back h.0 h.1))
 
   clean_there : (length rs ≡ beats b) × Sound b rs (beats b) → CleanTake b rs
@@ -125,7 +125,7 @@ module _ (b : Burst) (rs : List (List ℕ)) where
       go (suc (suc (suc (suc (suc n))))) h = no_such refl h
 
   -- no finding is a clean take, and the other way round
-  pub clean-exactly : (first_finding b rs ≡ none) ↔ CleanTake b rs
+  pub clean-exactly : (first_finding b rs ≡ None) ↔ CleanTake b rs
   clean-exactly = (λ e. clean_there (sound_exactly.0 e), λ c. sound_exactly.1 (c.count, clean_back c))
 
   -- no beat before the earliest finding breaks a rule
@@ -140,7 +140,7 @@ module _ (b : Burst) (rs : List (List ℕ)) where
       apart (inl p) = omega arith
       apart (inr p) = omega (arith, p.0)
 
-  pub too-many-exactly : (p : ℕ) → (first_finding b rs ≡ some (finding p 4)) ↔ ((p ≡ beats b) × (beats b < length rs) × Sound b rs (beats b))
+  pub too-many-exactly : (p : ℕ) → (first_finding b rs ≡ Some (finding p 4)) ↔ ((p ≡ beats b) × (beats b < length rs) × Sound b rs (beats b))
   too-many-exactly p = (λ e. there ((earliest_exactly b rs (finding p 4)).0 e), back)
     where
       there : IsEarliest b rs (finding p 4) → (p ≡ beats b) × (beats b < length rs) × Sound b rs (beats b)
@@ -161,13 +161,13 @@ module _ (b : Burst) (rs : List (List ℕ)) where
               at m l (first l)
           go (inr e) = absurd (omega (arith, e.0))
 
-      back : (p ≡ beats b) × (beats b < length rs) × Sound b rs (beats b) → first_finding b rs ≡ some (finding p 4)
+      back : (p ≡ beats b) × (beats b < length rs) × Sound b rs (beats b) → first_finding b rs ≡ Some (finding p 4)
       back h =
           (earliest_exactly b rs (finding p 4)).1
           (subst (λ (q : ℕ). IsEarliest b rs (finding q 4)) (sym h.0)
           (at-beat-first b rs (beats b) (finding (beats b) 4) h.1 (past_last b (beats b) (beat rs (beats b)) (omega arith)) h.2))
 
-  pub too-few-exactly : (p : ℕ) → (first_finding b rs ≡ some (finding p 5)) ↔ ((p ≡ length rs) × (p < beats b) × Sound b rs p)
+  pub too-few-exactly : (p : ℕ) → (first_finding b rs ≡ Some (finding p 5)) ↔ ((p ≡ length rs) × (p < beats b) × Sound b rs p)
   too-few-exactly p = (λ e. there ((earliest_exactly b rs (finding p 5)).0 e), back)
     where
       there : IsEarliest b rs (finding p 5) → (p ≡ length rs) × (p < beats b) × Sound b rs p
@@ -177,7 +177,7 @@ module _ (b : Burst) (rs : List (List ℕ)) where
           go (inl e) = no_such refl e.1
           go (inr e) = (e.1, e.2, sound-before (finding p 5) h)
 
-      back : (p ≡ length rs) × (p < beats b) × Sound b rs p → first_finding b rs ≡ some (finding p 5)
+      back : (p ≡ length rs) × (p < beats b) × Sound b rs p → first_finding b rs ≡ Some (finding p 5)
       back h =
           (earliest_exactly b rs (finding p 5)).1
           (subst (λ (q : ℕ). IsEarliest b rs (finding q 5)) (sym h.0)

@@ -1,8 +1,8 @@
 -- Each statement with a premise, applied to a worked take: so the premises can be met. Assumes nothing.
+use Rattle.std.specs.Prelude.{None}
 use mathlib.Core.Bool.{true, false}
 use mathlib.Core.List.{List, [], ◌∷◌}
 use mathlib.Core.Logic.{◌⊎◌, inl, inr, ◌≢◌}
-use mathlib.Core.Option.{none}
 use mathlib.Core.Path.{◌≡◌, refl, sym}
 use Prim.Native.Nat.{ℕ, zero, suc, ◌%◌, ◌≤◌, ◌<◌}
 use native.Mathlib.Omega.{arith}
@@ -87,7 +87,7 @@ legal_judged : WritesJudged wrapping legal (Clean 16)
 unfolding round_down wrap_address address_by some_below bus_allowed count_allowed misaligned crosses_by beat_size strobe count_below w1 field_fault
 legal_judged = judged_is wrapping legal (Clean 16) refl
 
-legal-take : (write_refusal wrapping legal ≡ none) × CleanTake wrapping (write_beats 8 legal) × (16 ≡ all_strobes 8 (write_beats 8 legal))
+legal-take : (write_refusal wrapping legal ≡ None) × CleanTake wrapping (write_beats 8 legal) × (16 ≡ all_strobes 8 (write_beats 8 legal))
 legal-take = (clean_exactly wrapping legal 16).0 (sym legal_judged.is)
 
 -- the strobe of lane 5 is high in beat 2
@@ -118,7 +118,7 @@ many = 0x00 ∷ 0x0F ∷ 0x01 ∷ 0x0F ∷ 0x01 ∷ 0x0F ∷ []
 abbrev few : List ℕ
 few = 0x00 ∷ 0x0F ∷ []
 
-too_many : (write_refusal two many ≡ none) × (2 ≡ beats two) × (2 < 3) × Sound two (write_beats 4 many) 2
+too_many : (write_refusal two many ≡ None) × (2 ≡ beats two) × (2 < 3) × Sound two (write_beats 4 many) 2
 unfolding round_down incr_address address_by some_below bus_allowed count_allowed misaligned crosses_by beat_size strobe w1 field_fault
 too_many = (too_many_exactly two many 2).0 refl
 
@@ -126,7 +126,7 @@ pub many-broken : write_answer two many ≡ Broken 2 4
 unfolding beat_size
 many-broken = (too_many_exactly two many 2).1 too_many
 
-too_few : (write_refusal two few ≡ none) × (1 ≡ length (write_beats 4 few)) × (1 < 2) × Sound two (write_beats 4 few) 1
+too_few : (write_refusal two few ≡ None) × (1 ≡ length (write_beats 4 few)) × (1 < 2) × Sound two (write_beats 4 few) 1
 unfolding round_down incr_address address_by some_below bus_allowed count_allowed misaligned crosses_by beat_size strobe w1 field_fault
 too_few = (too_few_exactly two few 1).0 refl
 

@@ -1,7 +1,6 @@
 -- What judging write beats answers, over all its arguments; and the numbers that each answer shows (paper 02, T-05; paper 01,
 -- 'How much each answer must say'). The contract of the call cites these definitions.
-use Rattle.std.specs.Prelude.{Bool, ◌||◌, List, [], ◌∷◌, ◌++◌, ◌≡◌, ℕ, ◌+◌, ◌-◌, ◌*◌, leb}
-use Rattle.std.proofs.Math.Option.{Option, none, some}
+use Rattle.std.specs.Prelude.{Bool, ◌||◌, List, [], ◌∷◌, ◌++◌, ◌≡◌, ℕ, ◌+◌, ◌-◌, ◌*◌, leb, Option, None, Some}
 use Rattle.refusal.specs.Checks.{Check, check, first}
 use Rattle.refusal.specs.Code.{code_of}
 use Rattle.refusal.specs.declared.Refusal.{Refusal}
@@ -43,9 +42,9 @@ write_refusal b xs = first (checks b ++ take_checks b.bus xs)
 -- ---- the answer
 
 abbrev pub verdict : Option Refusal → Option Finding → ℕ → WriteVerdict
-verdict (some r) f n = Refused r
-verdict none (some f) n = Broken f.place f.rule
-verdict none none n = Clean n
+verdict (Some r) f n = Refused r
+verdict None (Some f) n = Broken f.place f.rule
+verdict None None n = Clean n
 
 abbrev pub write_answer : Burst → List ℕ → WriteVerdict
 write_answer b xs =
@@ -73,9 +72,9 @@ write_values (Refused r) = refusal_values r
 
 -- the same of the first refusal and the first finding
 abbrev pub values_for : Option Refusal → Option Finding → ℕ → Values
-values_for (some r) f n = refusal_values r
-values_for none (some f) n = values 0 f.place f.rule 0
-values_for none none n = values 0 0 0 n
+values_for (Some r) f n = refusal_values r
+values_for None (Some f) n = values 0 f.place f.rule 0
+values_for None None n = values 0 0 0 n
 
 -- ---- the contract of the call: the answer is the definition's, with these numbers. They are said through the checks and not through
 -- the answer, so that a wrong line of `write_values` breaks the contract itself.

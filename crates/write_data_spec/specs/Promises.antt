@@ -1,7 +1,6 @@
 -- What is proved of judging write beats, a statement each. Words in quotes are the request's (paper 02, T-05); its numbers are typed here
 -- once more, which pins the named ones. The proofs are in proofs/Promises.
-use Rattle.std.specs.Prelude.{Bool, true, false, List, [], ◌∷◌, ◌⊎◌, ◌↔◌, ◌≢◌, ◌≡◌, ℕ, zero, suc, ◌+◌, ◌*◌, ◌/◌, ◌%◌, ◌≤◌, ◌<◌, eqb, length, get_or}
-use Rattle.std.proofs.Math.Option.{none}
+use Rattle.std.specs.Prelude.{Bool, true, false, List, [], ◌∷◌, ◌⊎◌, ◌↔◌, ◌≢◌, ◌≡◌, ℕ, zero, suc, ◌+◌, ◌*◌, ◌/◌, ◌%◌, ◌≤◌, ◌<◌, eqb, length, get_or, None}
 use Rattle.refusal.specs.declared.Refusal.{Refusal}
 use Rattle.refusal.specs.declared.Refusal.TheVariants.{Length, Field}
 use Rattle.stream_spec.specs.Layout.{bit}
@@ -64,7 +63,7 @@ pub record IsEarliest (b : Burst) (rs : List (List ℕ)) (f : Finding) : Type 0 
 abbrev pub BrokenExactly : Type 0
 BrokenExactly =
     (b : Burst) (xs : List ℕ) (p n : ℕ)
-    → (write_answer b xs ≡ Broken p n) ↔ ((write_refusal b xs ≡ none) × IsEarliest b (write_beats b.bus xs) (finding p n))
+    → (write_answer b xs ≡ Broken p n) ↔ ((write_refusal b xs ≡ None) × IsEarliest b (write_beats b.bus xs) (finding p n))
 
 -- no rule is broken at any of the first n beats
 abbrev pub Sound : Burst → List (List ℕ) → ℕ → Type 0
@@ -89,7 +88,7 @@ abbrev pub CleanSound : Type 0
 CleanSound =
     (b : Burst) (xs : List ℕ) (n : ℕ)
     → (write_answer b xs ≡ Clean n)
-    ↔ ((write_refusal b xs ≡ none) × (length (write_beats b.bus xs) ≡ beats b) × Sound b (write_beats b.bus xs) (beats b)
+    ↔ ((write_refusal b xs ≡ None) × (length (write_beats b.bus xs) ≡ beats b) × Sound b (write_beats b.bus xs) (beats b)
     × (n ≡ all_strobes b.bus (write_beats b.bus xs)))
 
 -- what is so of a clean take: as many beats as the burst has, WLAST on the last one alone, every high strobe on a lane of its beat
@@ -103,7 +102,7 @@ abbrev pub CleanExactly : Type 0
 CleanExactly =
     (b : Burst) (xs : List ℕ) (n : ℕ)
     → (write_answer b xs ≡ Clean n)
-    ↔ ((write_refusal b xs ≡ none) × CleanTake b (write_beats b.bus xs) × (n ≡ all_strobes b.bus (write_beats b.bus xs)))
+    ↔ ((write_refusal b xs ≡ None) × CleanTake b (write_beats b.bus xs) × (n ≡ all_strobes b.bus (write_beats b.bus xs)))
 
 -- "W4 a beat past the last": exactly where there are more beats than the burst has and none of the burst's breaks a rule, at the
 -- first one too many, whatever its octets
@@ -111,14 +110,14 @@ abbrev pub TooManyExactly : Type 0
 TooManyExactly =
     (b : Burst) (xs : List ℕ) (p : ℕ)
     → (write_answer b xs ≡ Broken p 4)
-    ↔ ((write_refusal b xs ≡ none) × (p ≡ beats b) × (beats b < length (write_beats b.bus xs)) × Sound b (write_beats b.bus xs) (beats b))
+    ↔ ((write_refusal b xs ≡ None) × (p ≡ beats b) × (beats b < length (write_beats b.bus xs)) × Sound b (write_beats b.bus xs) (beats b))
 
 -- "W5, too few beats, names the count given as its place": exactly where there are fewer and none given breaks a rule
 abbrev pub TooFewExactly : Type 0
 TooFewExactly =
     (b : Burst) (xs : List ℕ) (p : ℕ)
     → (write_answer b xs ≡ Broken p 5)
-    ↔ ((write_refusal b xs ≡ none) × (p ≡ length (write_beats b.bus xs)) × (p < beats b) × Sound b (write_beats b.bus xs) p)
+    ↔ ((write_refusal b xs ≡ None) × (p ≡ length (write_beats b.bus xs)) × (p < beats b) × Sound b (write_beats b.bus xs) p)
 
 -- ---- the refusals
 
@@ -130,7 +129,7 @@ pub record WellFormed (b : Burst) (xs : List ℕ) : Type 0 where
   pub sound : (k : ℕ) → k < length (write_beats b.bus xs) → field_fault b.bus (beat (write_beats b.bus xs) k) ≡ false
 
 abbrev pub NothingRefused : Type 0
-NothingRefused = (b : Burst) (xs : List ℕ) → (write_refusal b xs ≡ none) ↔ WellFormed b xs
+NothingRefused = (b : Burst) (xs : List ℕ) → (write_refusal b xs ≡ None) ↔ WellFormed b xs
 
 -- "the burst's own": what judging refuses is refused with the same, whatever the octets
 abbrev pub RefusedAsJudged : Type 0

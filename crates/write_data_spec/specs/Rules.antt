@@ -1,7 +1,6 @@
 -- The rules W1 to W5 of the write data channel (paper 02, T-05), and the first finding of a take. Arm's words for them are in source 004:
 -- A3.4.4 on WSTRB, A3.2.2 on WLAST, A3.4.1 on the number of beats. A beat is judged by its place k, counted from 0, and by its record.
-use Rattle.std.specs.Prelude.{Bool, not, ◌&&◌, List, [], ◌∷◌, ◌++◌, ℕ, ◌+◌, eqb, leb, ltb, length}
-use Rattle.std.proofs.Math.Option.{Option}
+use Rattle.std.specs.Prelude.{Bool, not, ◌&&◌, List, [], ◌∷◌, ◌++◌, ℕ, ◌+◌, eqb, leb, ltb, length, Option}
 use Rattle.refusal.specs.Checks.{Check, check, first}
 use Rattle.stream_spec.specs.Checks.{each}
 use Rattle.burst_spec.specs.declared.Burst.{Burst}

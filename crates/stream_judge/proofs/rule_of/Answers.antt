@@ -1,7 +1,7 @@
 -- `stream_judge::rule_of` meets its contract: each way through the flags gives the lowest rule. Assumes nothing.
+use Rattle.std.specs.Prelude.{Some}
 use mathlib.Core.Path.{◌≡◌, sym, ◌∙◌}
 use mathlib.Core.Bool.{Bool, true, false, ◌&&◌, cond}
-use mathlib.Core.Option.{some}
 use Rattle.stream_spec.specs.Layout.{bit, tvalid_bit, aresetn_bit, lane_types, any_reserved}
 use Rattle.stream_spec.specs.Handshake.{differs}
 use Rattle.stream_judge.specs.Scan.{before_of, lowest_rule}
@@ -57,7 +57,7 @@ returns-then-moved c =
     let high : (bit aresetn_bit c.args.h.flags && bit aresetn_bit c.args.prev_flags) ≡ true = reset-told true c.if-not-clear_of_reset.false in
     let valid : bit tvalid_bit c.args.h.flags ≡ true = valid-told true c.if-not-valid.false in
     let moved_told : (t : Bool) → c.moved.result ≡ t
-    → (c.waiting-waited.result && differs (some c.args.prev.now) c.args.rec.now) ≡ t = λ t e. sym c.moved.ensures ∙ e in
+    → (c.waiting-waited.result && differs (Some c.args.prev.now) c.args.rec.now) ≡ t = λ t e. sym c.moved.ensures ∙ e in
     rule_3 c.requires c.waiting-waited.result c.waiting-waited.ensures high valid (moved_told true c.if-moved.true)
 
 pub returns-then-reserved : goal.returns-then-reserved
@@ -68,7 +68,7 @@ returns-then-reserved c =
     let high : (bit aresetn_bit c.args.h.flags && bit aresetn_bit c.args.prev_flags) ≡ true = reset-told true c.if-not-clear_of_reset.false in
     let valid : bit tvalid_bit c.args.h.flags ≡ true = valid-told true c.if-not-valid.false in
     let moved_told : (t : Bool) → c.moved.result ≡ t
-    → (c.waiting-waited.result && differs (some c.args.prev.now) c.args.rec.now) ≡ t = λ t e. sym c.moved.ensures ∙ e in
+    → (c.waiting-waited.result && differs (Some c.args.prev.now) c.args.rec.now) ≡ t = λ t e. sym c.moved.ensures ∙ e in
     let reserved-told : (t : Bool) → c.reserved.result ≡ t → any_reserved (lane_types c.args.s c.args.rec.now) ≡ t = λ t e. reserved-is c.requires c.reserved.result c.reserved.ensures ∙ e in
     let last : (t : Bool) → c.reserved.result ≡ t → cond t 4 0 ≡ lowest_rule c.args.s (before_of c.args.prev.now) c.args.rec.now = λ t e. rule_4 c.requires c.waiting-waited.result c.waiting-waited.ensures high valid (moved_told false c.if-moved.false) t (reserved-told t e) in
     last true c.if-reserved.true
@@ -81,7 +81,7 @@ returns c =
     let high : (bit aresetn_bit c.args.h.flags && bit aresetn_bit c.args.prev_flags) ≡ true = reset-told true c.if-not-clear_of_reset.false in
     let valid : bit tvalid_bit c.args.h.flags ≡ true = valid-told true c.if-not-valid.false in
     let moved_told : (t : Bool) → c.moved.result ≡ t
-    → (c.waiting-waited.result && differs (some c.args.prev.now) c.args.rec.now) ≡ t = λ t e. sym c.moved.ensures ∙ e in
+    → (c.waiting-waited.result && differs (Some c.args.prev.now) c.args.rec.now) ≡ t = λ t e. sym c.moved.ensures ∙ e in
     let reserved-told : (t : Bool) → c.reserved.result ≡ t → any_reserved (lane_types c.args.s c.args.rec.now) ≡ t = λ t e. reserved-is c.requires c.reserved.result c.reserved.ensures ∙ e in
     let last : (t : Bool) → c.reserved.result ≡ t → cond t 4 0 ≡ lowest_rule c.args.s (before_of c.args.prev.now) c.args.rec.now = λ t e. rule_4 c.requires c.waiting-waited.result c.waiting-waited.ensures high valid (moved_told false c.if-moved.false) t (reserved-told t e) in
     last false c.if-reserved.false

@@ -1,7 +1,7 @@
 -- `stream_merge::merge` meets its contract: the tests in the paper's order, each with what those before it have passed, then both lists.
 -- Assumes nothing.
+use Rattle.std.specs.Prelude.{None}
 use mathlib.Core.List.{List, [], ◌∷◌}
-use mathlib.Core.Option.{none}
 use mathlib.Core.Path.{◌≡◌}
 use Prim.Native.Nat.{ℕ}
 use native.Mathlib.Omega.{arith}
@@ -29,7 +29,7 @@ check_length-requires c =
     let xs : List ℕ = c.args.first.now in
     let ys : List ℕ = c.args.second.now in
     let lent : List ℕ = c.args.out.now in
-    let take : first (take_checks shape xs) ≡ none = passed_is c.check_take.result (take_checks shape xs) c.check_take.ensures c.in-Passed.is in
+    let take : first (take_checks shape xs) ≡ None = passed_is c.check_take.result (take_checks shape xs) c.check_take.ensures c.in-Passed.is in
     shape_narrow shape xs ys lent take
 
 pub returns-in-Refused-check_length : goal.returns-in-Refused-check_length
@@ -38,7 +38,7 @@ returns-in-Refused-check_length c =
     let xs : List ℕ = c.args.first.now in
     let ys : List ℕ = c.args.second.now in
     let lent : List ℕ = c.args.out.now in
-    let take : first (take_checks shape xs) ≡ none = passed_is c.check_take.result (take_checks shape xs) c.check_take.ensures c.in-Passed.is in
+    let take : first (take_checks shape xs) ≡ None = passed_is c.check_take.result (take_checks shape xs) c.check_take.ensures c.in-Passed.is in
     let r = c.check_length in
     bad-other shape xs ys lent take c.in-Refused-check_length.why
     (refused-is r.result (length_check shape ys ∷ []) r.ensures c.in-Refused-check_length.why c.in-Refused-check_length.is)
@@ -49,7 +49,7 @@ find_port_fault-requires c =
     let xs : List ℕ = c.args.first.now in
     let ys : List ℕ = c.args.second.now in
     let lent : List ℕ = c.args.out.now in
-    let take : first (take_checks shape xs) ≡ none = passed_is c.check_take.result (take_checks shape xs) c.check_take.ensures c.in-Passed.is in
+    let take : first (take_checks shape xs) ≡ None = passed_is c.check_take.result (take_checks shape xs) c.check_take.ensures c.in-Passed.is in
     first-passed shape xs ys lent take
 
 pub returns-in-Refused-find_port_fault : goal.returns-in-Refused-find_port_fault
@@ -58,8 +58,8 @@ returns-in-Refused-find_port_fault c =
     let xs : List ℕ = c.args.first.now in
     let ys : List ℕ = c.args.second.now in
     let lent : List ℕ = c.args.out.now in
-    let take : first (take_checks shape xs) ≡ none = passed_is c.check_take.result (take_checks shape xs) c.check_take.ensures c.in-Passed.is in
-    let other : first (length_check shape ys ∷ []) ≡ none = passed_is c.check_length.result (length_check shape ys ∷ []) c.check_length.ensures c.in-Passed-check_length.is in
+    let take : first (take_checks shape xs) ≡ None = passed_is c.check_take.result (take_checks shape xs) c.check_take.ensures c.in-Passed.is in
+    let other : first (length_check shape ys ∷ []) ≡ None = passed_is c.check_length.result (length_check shape ys ∷ []) c.check_length.ensures c.in-Passed-check_length.is in
     let r = c.find_port_fault in
     bad-first shape xs ys lent take other c.in-Refused-find_port_fault.why
     (refused-is r.result (port_checks shape xs) r.ensures c.in-Refused-find_port_fault.why c.in-Refused-find_port_fault.is)
@@ -70,8 +70,8 @@ find_port_fault-requires-2 c =
     let xs : List ℕ = c.args.first.now in
     let ys : List ℕ = c.args.second.now in
     let lent : List ℕ = c.args.out.now in
-    let take : first (take_checks shape xs) ≡ none = passed_is c.check_take.result (take_checks shape xs) c.check_take.ensures c.in-Passed.is in
-    let other : first (length_check shape ys ∷ []) ≡ none = passed_is c.check_length.result (length_check shape ys ∷ []) c.check_length.ensures c.in-Passed-check_length.is in
+    let take : first (take_checks shape xs) ≡ None = passed_is c.check_take.result (take_checks shape xs) c.check_take.ensures c.in-Passed.is in
+    let other : first (length_check shape ys ∷ []) ≡ None = passed_is c.check_length.result (length_check shape ys ∷ []) c.check_length.ensures c.in-Passed-check_length.is in
     second-passed shape xs ys lent take other
 
 pub returns-in-Refused-find_port_fault-2 : goal.returns-in-Refused-find_port_fault-2
@@ -80,9 +80,9 @@ returns-in-Refused-find_port_fault-2 c =
     let xs : List ℕ = c.args.first.now in
     let ys : List ℕ = c.args.second.now in
     let lent : List ℕ = c.args.out.now in
-    let take : first (take_checks shape xs) ≡ none = passed_is c.check_take.result (take_checks shape xs) c.check_take.ensures c.in-Passed.is in
-    let other : first (length_check shape ys ∷ []) ≡ none = passed_is c.check_length.result (length_check shape ys ∷ []) c.check_length.ensures c.in-Passed-check_length.is in
-    let firsts : first (port_checks shape xs) ≡ none = passed_is c.find_port_fault.result (port_checks shape xs) c.find_port_fault.ensures
+    let take : first (take_checks shape xs) ≡ None = passed_is c.check_take.result (take_checks shape xs) c.check_take.ensures c.in-Passed.is in
+    let other : first (length_check shape ys ∷ []) ≡ None = passed_is c.check_length.result (length_check shape ys ∷ []) c.check_length.ensures c.in-Passed-check_length.is in
+    let firsts : first (port_checks shape xs) ≡ None = passed_is c.find_port_fault.result (port_checks shape xs) c.find_port_fault.ensures
     c.in-Passed-find_port_fault.is in
     let r = c.find_port_fault-2 in
     bad-second shape xs ys lent take other firsts c.in-Refused-find_port_fault-2.why
@@ -94,11 +94,11 @@ returns-then-out-first c =
     let xs : List ℕ = c.args.first.now in
     let ys : List ℕ = c.args.second.now in
     let lent : List ℕ = c.args.out.now in
-    let take : first (take_checks shape xs) ≡ none = passed_is c.check_take.result (take_checks shape xs) c.check_take.ensures c.in-Passed.is in
-    let other : first (length_check shape ys ∷ []) ≡ none = passed_is c.check_length.result (length_check shape ys ∷ []) c.check_length.ensures c.in-Passed-check_length.is in
-    let firsts : first (port_checks shape xs) ≡ none = passed_is c.find_port_fault.result (port_checks shape xs) c.find_port_fault.ensures
+    let take : first (take_checks shape xs) ≡ None = passed_is c.check_take.result (take_checks shape xs) c.check_take.ensures c.in-Passed.is in
+    let other : first (length_check shape ys ∷ []) ≡ None = passed_is c.check_length.result (length_check shape ys ∷ []) c.check_length.ensures c.in-Passed-check_length.is in
+    let firsts : first (port_checks shape xs) ≡ None = passed_is c.find_port_fault.result (port_checks shape xs) c.find_port_fault.ensures
     c.in-Passed-find_port_fault.is in
-    let seconds : first (port_checks shape ys) ≡ none = passed_is c.find_port_fault-2.result (port_checks shape ys) c.find_port_fault-2.ensures
+    let seconds : first (port_checks shape ys) ≡ None = passed_is c.find_port_fault-2.result (port_checks shape ys) c.find_port_fault-2.ensures
     c.in-Passed-find_port_fault-2.is in
     no_room shape xs ys lent take other firsts seconds c.if-out-first.true
 
@@ -108,11 +108,11 @@ put_all-requires c =
     let xs : List ℕ = c.args.first.now in
     let ys : List ℕ = c.args.second.now in
     let lent : List ℕ = c.args.out.now in
-    let take : first (take_checks shape xs) ≡ none = passed_is c.check_take.result (take_checks shape xs) c.check_take.ensures c.in-Passed.is in
-    let other : first (length_check shape ys ∷ []) ≡ none = passed_is c.check_length.result (length_check shape ys ∷ []) c.check_length.ensures c.in-Passed-check_length.is in
-    let firsts : first (port_checks shape xs) ≡ none = passed_is c.find_port_fault.result (port_checks shape xs) c.find_port_fault.ensures
+    let take : first (take_checks shape xs) ≡ None = passed_is c.check_take.result (take_checks shape xs) c.check_take.ensures c.in-Passed.is in
+    let other : first (length_check shape ys ∷ []) ≡ None = passed_is c.check_length.result (length_check shape ys ∷ []) c.check_length.ensures c.in-Passed-check_length.is in
+    let firsts : first (port_checks shape xs) ≡ None = passed_is c.find_port_fault.result (port_checks shape xs) c.find_port_fault.ensures
     c.in-Passed-find_port_fault.is in
-    let seconds : first (port_checks shape ys) ≡ none = passed_is c.find_port_fault-2.result (port_checks shape ys) c.find_port_fault-2.ensures
+    let seconds : first (port_checks shape ys) ≡ None = passed_is c.find_port_fault-2.result (port_checks shape ys) c.find_port_fault-2.ensures
     c.in-Passed-find_port_fault-2.is in
     lists_fit shape xs ys lent take other firsts seconds c.if-out-first.false
 
@@ -122,7 +122,7 @@ record_size-requires c =
     let xs : List ℕ = c.args.first.now in
     let ys : List ℕ = c.args.second.now in
     let lent : List ℕ = c.args.out.now in
-    let take : first (take_checks shape xs) ≡ none = passed_is c.check_take.result (take_checks shape xs) c.check_take.ensures c.in-Passed.is in
+    let take : first (take_checks shape xs) ≡ None = passed_is c.check_take.result (take_checks shape xs) c.check_take.ensures c.in-Passed.is in
     shape_narrow shape xs ys lent take
 
 pub nonzero_div-result : goal.nonzero_div-result
@@ -136,11 +136,11 @@ returns c =
     let xs : List ℕ = c.args.first.now in
     let ys : List ℕ = c.args.second.now in
     let lent : List ℕ = c.args.out.now in
-    let take : first (take_checks shape xs) ≡ none = passed_is c.check_take.result (take_checks shape xs) c.check_take.ensures c.in-Passed.is in
-    let other : first (length_check shape ys ∷ []) ≡ none = passed_is c.check_length.result (length_check shape ys ∷ []) c.check_length.ensures c.in-Passed-check_length.is in
-    let firsts : first (port_checks shape xs) ≡ none = passed_is c.find_port_fault.result (port_checks shape xs) c.find_port_fault.ensures
+    let take : first (take_checks shape xs) ≡ None = passed_is c.check_take.result (take_checks shape xs) c.check_take.ensures c.in-Passed.is in
+    let other : first (length_check shape ys ∷ []) ≡ None = passed_is c.check_length.result (length_check shape ys ∷ []) c.check_length.ensures c.in-Passed-check_length.is in
+    let firsts : first (port_checks shape xs) ≡ None = passed_is c.find_port_fault.result (port_checks shape xs) c.find_port_fault.ensures
     c.in-Passed-find_port_fault.is in
-    let seconds : first (port_checks shape ys) ≡ none = passed_is c.find_port_fault-2.result (port_checks shape ys) c.find_port_fault-2.ensures
+    let seconds : first (port_checks shape ys) ≡ None = passed_is c.find_port_fault-2.result (port_checks shape ys) c.find_port_fault-2.ensures
     c.in-Passed-find_port_fault-2.is in
     let put = c.put_all in
     all-written shape xs ys lent take other firsts seconds c.if-out-first.false
