@@ -1,5 +1,5 @@
 -- When a cut is refused and with what, and that an answer shows the paper's numbers. Assumes nothing.
-use Rattle.std.specs.Prelude.{Option, None, Some}
+use Rattle.std.specs.Prelude.{Option, None, Some, Ok, Err, Result}
 use mathlib.Core.List.{List, [], ◌∷◌}
 use mathlib.Core.Path.{◌≡◌, refl, sym, ap, ◌∙◌}
 use Prim.Native.Nat.{ℕ, ◌≤◌, ◌<◌}
@@ -11,13 +11,10 @@ use Rattle.refusal.specs.declared.Refusal.TheVariants.{Room}
 use Rattle.refusal.specs.Checks.{Check, check, first}
 use Rattle.refusal.proofs.First.{cond-none, append-none, append-found, append-passed}
 use Rattle.burst_spec.specs.declared.Burst.{Burst}
-use Rattle.burst_spec.specs.declared.Judgement.TheVariants as judged
 use Rattle.burst_spec.specs.Answers.{judgement_for, judgement}
 use Rattle.burst_spec.specs.Checks.{checks}
 use Rattle.burst_spec.proofs.Answers.{accepted-none, refused-some}
 use Rattle.burst_spec.proofs.Known.{clash}
-use Rattle.axi3_spec.specs.declared.CutAnswer.{CutAnswer}
-use Rattle.axi3_spec.specs.declared.CutAnswer.TheVariants.{Bursts, Refused}
 use Rattle.axi3_spec.specs.Cut.{piece_count}
 use Rattle.axi3_spec.specs.Answers.{cut_refusal, cut_for, cut_answer, cut_values, values_for, Answered}
 use Rattle.axi3_spec.specs.Promises.{IsAccepted}
@@ -27,7 +24,7 @@ cut-shows (Some r) n = refl
 cut-shows None n = refl
 
 -- an answer that is the defined one shows the paper's numbers
-pub answered : (x : Burst) (room : ℕ) (r : CutAnswer) → r ≡ cut_answer x room → Answered x room r
+pub answered : (x : Burst) (room : ℕ) (r : Result ℕ Refusal) → r ≡ cut_answer x room → Answered x room r
 answered x room r e = record { is = e; shows = ap cut_values e ∙ cut-shows (cut_refusal x room) (piece_count x) }
 
 module _ (x : Burst) (room : ℕ) where
@@ -36,7 +33,7 @@ module _ (x : Burst) (room : ℕ) where
 
   -- ---- the three cases, from how the burst was judged
 
-  pub refusal_judged : (r : Refusal) → judgement x ≡ judged.Refused r → cut_refusal x room ≡ Some r
+  pub refusal_judged : (r : Refusal) → judgement x ≡ Err r → cut_refusal x room ≡ Some r
   refusal_judged r e = append-found (checks x) room_checks r (refused-some (first (checks x)) r e)
 
   pub refusal-room : IsAccepted x → room < piece_count x → cut_refusal x room ≡ Some Room
@@ -53,28 +50,28 @@ module _ (x : Burst) (room : ℕ) where
 
   -- ---- the answer in each case
 
-  pub answer_judged : (r : Refusal) → judgement x ≡ judged.Refused r → Answered x room (Refused r)
-  answer_judged r e = answered x room (Refused r) (sym (ap (λ o. cut_for o (piece_count x)) (refusal_judged r e)))
+  pub answer_judged : (r : Refusal) → judgement x ≡ Err r → Answered x room (Err r)
+  answer_judged r e = answered x room (Err r) (sym (ap (λ o. cut_for o (piece_count x)) (refusal_judged r e)))
 
-  pub answer-room : IsAccepted x → room < piece_count x → Answered x room (Refused Room)
-  answer-room e h = answered x room (Refused Room) (sym (ap (λ o. cut_for o (piece_count x)) (refusal-room e h)))
+  pub answer-room : IsAccepted x → room < piece_count x → Answered x room (Err Room)
+  answer-room e h = answered x room (Err Room) (sym (ap (λ o. cut_for o (piece_count x)) (refusal-room e h)))
 
-  pub answer-bursts : IsAccepted x → (n : ℕ) → n ≡ piece_count x → n ≤ room → Answered x room (Bursts n)
+  pub answer-bursts : IsAccepted x → (n : ℕ) → n ≡ piece_count x → n ≤ room → Answered x room (Ok n)
   answer-bursts e n f h =
       let few : piece_count x ≤ room = omega arith in
-      answered x room (Bursts n) (ap Bursts f ∙ sym (ap (λ o. cut_for o (piece_count x)) (refusal-none e few)))
+      answered x room (Ok n) (ap Ok f ∙ sym (ap (λ o. cut_for o (piece_count x)) (refusal-none e few)))
 
   -- an answer of n bursts was not refused
-  pub bursts-none : (n : ℕ) → Bursts n ≡ cut_answer x room → (cut_refusal x room ≡ None) × (n ≡ piece_count x)
+  pub bursts-none : (n : ℕ) → Ok n ≡ cut_answer x room → (cut_refusal x room ≡ None) × (n ≡ piece_count x)
   bursts-none n e = go (cut_refusal x room) refl e
     where
-      go : (o : Option Refusal) → cut_refusal x room ≡ o → Bursts n ≡ cut_for o (piece_count x) → (cut_refusal x room ≡ None) × (n ≡ piece_count x)
+      go : (o : Option Refusal) → cut_refusal x room ≡ o → Ok n ≡ cut_for o (piece_count x) → (cut_refusal x room ≡ None) × (n ≡ piece_count x)
       go (Some r) h f = absurd (clash cc)
       go None h f = (h, cc)
 
-  pub refused-is : (r : Refusal) → Refused r ≡ cut_answer x room → cut_refusal x room ≡ Some r
+  pub refused-is : (r : Refusal) → Err r ≡ cut_answer x room → cut_refusal x room ≡ Some r
   refused-is r e = go (cut_refusal x room) refl e
     where
-      go : (o : Option Refusal) → cut_refusal x room ≡ o → Refused r ≡ cut_for o (piece_count x) → cut_refusal x room ≡ Some r
+      go : (o : Option Refusal) → cut_refusal x room ≡ o → Err r ≡ cut_for o (piece_count x) → cut_refusal x room ≡ Some r
       go (Some q) h f = let same : q ≡ r = cc in h ∙ ap Some same
       go None h f = absurd (clash cc)

@@ -1,5 +1,5 @@
 -- Each statement of specs/Promises, from the laws below it. Assumes nothing.
-use Rattle.std.specs.Prelude.{Option, None, Some}
+use Rattle.std.specs.Prelude.{Option, None, Some, Ok, Err}
 use mathlib.Core.Bool.{Bool, true, false}
 use mathlib.Core.List.{List, [], ◌∷◌, ◌++◌, map}
 use mathlib.Core.Logic.{◌⊎◌, inl, inr, ◌≢◌}
@@ -22,7 +22,6 @@ use Rattle.burst_spec.specs.Checks.{checks}
 use Rattle.burst_spec.specs.Legal.{Legal, Accepted}
 use Rattle.burst_spec.proofs.Answers.{accepted_exactly, own-number}
 use Rattle.burst_spec.proofs.Known.{clash, known}
-use Rattle.axi3_spec.specs.declared.CutAnswer.TheVariants.{Bursts, Refused}
 use Rattle.axi3_spec.specs.Cut.{beats_most, piece_count, piece_beats, piece, run, joined, pieces, beats_of_all}
 use Rattle.axi3_spec.specs.Answers.{cut_refusal, cut_for, cut_answer, row_for, numbers_of, numbers_room}
 use Rattle.axi3_spec.specs.Promises.{IsAccepted, Every, sixteens, InSixteens, Stands}
@@ -148,7 +147,7 @@ room_exactly x room = (λ e. there (first (checks x)) refl (refused-is x room Ro
         let a : IsAccepted x = ap judgement_for f in
         (a, omega (arith, short a (ltb room (piece_count x)) refl e, count-is x (accepts x a).legal))
 
-    back : IsAccepted x × (room < sixteens (beats x)) → cut_answer x room ≡ Refused Room
+    back : IsAccepted x × (room < sixteens (beats x)) → cut_answer x room ≡ Err Room
     back h =
         let few : room < piece_count x = omega (arith, h.1, count-is x (accepts x h.0).legal) in
         ap (λ o. cut_for o (piece_count x)) (refusal-room x room h.0 few)
@@ -156,16 +155,16 @@ room_exactly x room = (λ e. there (first (checks x)) refl (refused-is x room Ro
 pub cut_exactly : CutExactly
 cut_exactly x room n = (there, back)
   where
-    there : cut_answer x room ≡ Bursts n → IsAccepted x × (n ≡ sixteens (beats x)) × (n ≤ room)
+    there : cut_answer x room ≡ Ok n → IsAccepted x × (n ≡ sixteens (beats x)) × (n ≤ room)
     there e =
         let h = bursts-none x room n (sym e) in
         let f = none-refused x room h.0 in
         (f.0, h.1 ∙ count-is x (accepts x f.0).legal, omega (arith, h.1, f.1))
 
-    back : IsAccepted x × (n ≡ sixteens (beats x)) × (n ≤ room) → cut_answer x room ≡ Bursts n
+    back : IsAccepted x × (n ≡ sixteens (beats x)) × (n ≤ room) → cut_answer x room ≡ Ok n
     back h =
         let c : piece_count x ≡ n = count-is x (accepts x h.0).legal ∙ sym h.1 in
-        ap (λ o. cut_for o (piece_count x)) (refusal-none x room h.0 (omega (arith, h.2))) ∙ ap Bursts c
+        ap (λ o. cut_for o (piece_count x)) (refusal-none x room h.0 (omega (arith, h.2))) ∙ ap Ok c
 
 -- ---- the row
 

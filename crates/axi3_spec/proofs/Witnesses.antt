@@ -1,4 +1,5 @@
 -- Each statement with a premise, applied to a worked cut: so the premises can be met. Assumes nothing.
+use Rattle.std.specs.Prelude.{Ok, Err}
 use mathlib.Core.List.{List, [], ◌∷◌}
 use mathlib.Core.Logic.{inl, inr}
 use mathlib.Core.Path.{◌≡◌, refl}
@@ -12,7 +13,6 @@ use Rattle.burst_spec.specs.Address.{round_down, incr_address, wrap_address, add
 use Rattle.burst_spec.specs.Checks.{some_below, bus_allowed, count_allowed, misaligned, crosses_by}
 use Rattle.burst_spec.specs.Answers.{burst_of}
 use Rattle.burst_spec.proofs.Known.{clash}
-use Rattle.axi3_spec.specs.declared.CutAnswer.TheVariants.{Bursts, Refused}
 use Rattle.axi3_spec.specs.Cut.{count_by, piece, run, joined, pieces, beats_of_all}
 use Rattle.axi3_spec.specs.Answers.{cut_answer, Cut, CutNumbers}
 use Rattle.axi3_spec.specs.Promises.{IsAccepted, InSixteens, read_back}
@@ -71,29 +71,29 @@ pub wraps : pieces wrapping ≡ wrapping ∷ []
 wraps = itself wrapping wrapping_accepted (inr (λ e. clash cc))
 
 -- a burst that leaves its block, and an empty row
-pub refused : cut_answer (burst_of 0xFFC 16 2 1 4) 0 ≡ Refused Boundary
+pub refused : cut_answer (burst_of 0xFFC 16 2 1 4) 0 ≡ Err Boundary
 unfolding round_down incr_address address_by some_below bus_allowed count_allowed misaligned crosses_by
 refused = refused_as_judged (burst_of 0xFFC 16 2 1 4) 0 Boundary refl
 
 -- the contract of the call, met: into a row of three, and into one of one
-cut-long : Cut long (wrapping ∷ long ∷ first ∷ []) (Bursts 2) (first ∷ second ∷ first ∷ [])
+cut-long : Cut long (wrapping ∷ long ∷ first ∷ []) (Ok 2) (first ∷ second ∷ first ∷ [])
 unfolding round_down incr_address address_by some_below bus_allowed count_allowed misaligned crosses_by count_by piece run
-cut-long = record { answers = answered long 3 (Bursts 2) refl; leaves = refl }
+cut-long = record { answers = answered long 3 (Ok 2) refl; leaves = refl }
 
 pub beyond : drop 2 (first ∷ second ∷ first ∷ []) ≡ drop 2 (wrapping ∷ long ∷ first ∷ [])
 beyond = (row_stands long (wrapping ∷ long ∷ first ∷ []) 2 (first ∷ second ∷ first ∷ []) cut-long).beyond
 
-cut-none : Cut long (wrapping ∷ []) (Refused Room) (wrapping ∷ [])
+cut-none : Cut long (wrapping ∷ []) (Err Room) (wrapping ∷ [])
 unfolding round_down incr_address address_by some_below bus_allowed count_allowed misaligned crosses_by count_by piece run
-cut-none = record { answers = answered long 1 (Refused Room) refl; leaves = refl }
+cut-none = record { answers = answered long 1 (Err Room) refl; leaves = refl }
 
 pub untouched : wrapping ∷ [] ≡ wrapping ∷ []
 untouched = row_kept long (wrapping ∷ []) Room (wrapping ∷ []) cut-none
 
 -- the same of rows of numbers: eleven, and four
-numbers-long : CutNumbers long (1 ∷ 2 ∷ 3 ∷ 4 ∷ 5 ∷ 6 ∷ 7 ∷ 8 ∷ 9 ∷ 10 ∷ 11 ∷ []) (Bursts 2) (0x1002 ∷ 15 ∷ 2 ∷ 1 ∷ 4 ∷ 0x1040 ∷ 0 ∷ 2 ∷ 1 ∷ 4 ∷ 11 ∷ [])
+numbers-long : CutNumbers long (1 ∷ 2 ∷ 3 ∷ 4 ∷ 5 ∷ 6 ∷ 7 ∷ 8 ∷ 9 ∷ 10 ∷ 11 ∷ []) (Ok 2) (0x1002 ∷ 15 ∷ 2 ∷ 1 ∷ 4 ∷ 0x1040 ∷ 0 ∷ 2 ∷ 1 ∷ 4 ∷ 11 ∷ [])
 unfolding round_down incr_address address_by some_below bus_allowed count_allowed misaligned crosses_by count_by piece run joined
-numbers-long = record { answers = answered long 2 (Bursts 2) refl; leaves = refl }
+numbers-long = record { answers = answered long 2 (Ok 2) refl; leaves = refl }
 
 pub numbers-read : read_back 2 (0x1002 ∷ 15 ∷ 2 ∷ 1 ∷ 4 ∷ 0x1040 ∷ 0 ∷ 2 ∷ 1 ∷ 4 ∷ 11 ∷ []) ≡ first ∷ second ∷ []
 unfolding round_down incr_address address_by count_by piece run
@@ -101,9 +101,9 @@ numbers-read =
     (row_of_numbers_stands long (1 ∷ 2 ∷ 3 ∷ 4 ∷ 5 ∷ 6 ∷ 7 ∷ 8 ∷ 9 ∷ 10 ∷ 11 ∷ []) 2
     (0x1002 ∷ 15 ∷ 2 ∷ 1 ∷ 4 ∷ 0x1040 ∷ 0 ∷ 2 ∷ 1 ∷ 4 ∷ 11 ∷ []) numbers-long).read
 
-numbers-none : CutNumbers wrapping (1 ∷ 2 ∷ 3 ∷ 4 ∷ []) (Refused Room) (1 ∷ 2 ∷ 3 ∷ 4 ∷ [])
+numbers-none : CutNumbers wrapping (1 ∷ 2 ∷ 3 ∷ 4 ∷ []) (Err Room) (1 ∷ 2 ∷ 3 ∷ 4 ∷ [])
 unfolding round_down wrap_address address_by some_below bus_allowed count_allowed misaligned crosses_by count_by piece run joined
-numbers-none = record { answers = answered wrapping 0 (Refused Room) refl; leaves = refl }
+numbers-none = record { answers = answered wrapping 0 (Err Room) refl; leaves = refl }
 
 pub numbers_untouched : ◌≡◌ {A = List ℕ} (1 ∷ 2 ∷ 3 ∷ 4 ∷ []) (1 ∷ 2 ∷ 3 ∷ 4 ∷ [])
 numbers_untouched = row_of_numbers_kept wrapping (1 ∷ 2 ∷ 3 ∷ 4 ∷ []) Room (1 ∷ 2 ∷ 3 ∷ 4 ∷ []) numbers-none

@@ -1,6 +1,6 @@
 -- What the calls that cut a burst answer, over all their arguments, and every description and number of lent memory
 -- afterwards; and the numbers of paper 01 that each answer shows.
-use Rattle.std.specs.Prelude.{List, [], ◌∷◌, ◌++◌, map, ◌≡◌, ℕ, ◌/◌, ltb, length, drop, replicate, Option, None, Some}
+use Rattle.std.specs.Prelude.{List, [], ◌∷◌, ◌++◌, map, ◌≡◌, ℕ, ◌/◌, ltb, length, drop, replicate, Option, None, Some, Result, Ok, Err}
 use Rattle.refusal.specs.Checks.{Check, check, first}
 use Rattle.refusal.specs.Code.{code_of}
 use Rattle.refusal.specs.declared.Refusal.{Refusal}
@@ -9,8 +9,6 @@ use Rattle.burst_spec.specs.declared.Burst.{Burst}
 use Rattle.burst_spec.specs.declared.Kind.{Kind}
 use Rattle.burst_spec.specs.declared.Kind.TheVariants.{Fixed, Incr, Wrap, Reserved}
 use Rattle.burst_spec.specs.Checks.{checks}
-use Rattle.axi3_spec.specs.declared.CutAnswer.{CutAnswer}
-use Rattle.axi3_spec.specs.declared.CutAnswer.TheVariants.{Bursts, Refused}
 use Rattle.axi3_spec.specs.declared.CutRow.{CutRow}
 use Rattle.axi3_spec.specs.Cut.{piece_count, pieces, joined}
 
@@ -24,9 +22,9 @@ cut_refusal x room = first (cut_checks x room)
 -- ---- how an answer, and lent memory afterwards, are made of the first refusal, if there is one
 
 -- "The answer is the number used"
-abbrev pub cut_for : Option Refusal → ℕ → CutAnswer
-cut_for (Some r) n = Refused r
-cut_for None n = Bursts n
+abbrev pub cut_for : Option Refusal → ℕ → Result ℕ Refusal
+cut_for (Some r) n = Err r
+cut_for None n = Ok n
 
 -- "descriptions beyond are untouched"; refused, lent memory keeps its content
 abbrev pub row_for : {A : Type 0} → Option Refusal → List A → List A → List A
@@ -39,7 +37,7 @@ blank = record { start = 0; len = 0; size = 0; kind = Fixed; bus = 0 }
 
 -- ---- a burst cut into a lent row of descriptions
 
-abbrev pub cut_answer : Burst → ℕ → CutAnswer
+abbrev pub cut_answer : Burst → ℕ → Result ℕ Refusal
 cut_answer x room = cut_for (cut_refusal x room) (piece_count x)
 
 abbrev pub cut_after : Burst → List Burst → List Burst
@@ -94,9 +92,9 @@ refusal_values r = record { refusal = (code_of r).0; place = (code_of r).1; rule
 abbrev pub count_values : ℕ → Values
 count_values n = record { refusal = 0; place = 0; rule = 0; count = n }
 
-abbrev pub cut_values : CutAnswer → Values
-cut_values (Bursts n) = count_values n
-cut_values (Refused r) = refusal_values r
+abbrev pub cut_values : Result ℕ Refusal → Values
+cut_values (Ok n) = count_values n
+cut_values (Err r) = refusal_values r
 
 -- ---- the contracts of the calls: the answer is the definition's, with 01's numbers for it, and so is lent memory. The numbers
 -- are said through the checks and not through the answer, so that a wrong line of `cut_values` breaks the contract itself.
@@ -105,12 +103,12 @@ abbrev pub values_for : Option Refusal → ℕ → Values
 values_for (Some r) n = refusal_values r
 values_for None n = count_values n
 
-pub record Answered (x : Burst) (room : ℕ) (r : CutAnswer) : Type 0 where
+pub record Answered (x : Burst) (room : ℕ) (r : Result ℕ Refusal) : Type 0 where
   pub is : r ≡ cut_answer x room
   pub shows : cut_values r ≡ values_for (cut_refusal x room) (piece_count x)
 
 -- row is the lent row as it was, after as it is left
-pub record Cut (x : Burst) (row : List Burst) (r : CutAnswer) (after : List Burst) : Type 0 where
+pub record Cut (x : Burst) (row : List Burst) (r : Result ℕ Refusal) (after : List Burst) : Type 0 where
   pub answers : Answered x (length row) r
   pub leaves : after ≡ cut_after x row
 
@@ -118,6 +116,6 @@ pub record CutAlone (x : Burst) (room : ℕ) (r : CutRow) : Type 0 where
   pub answers : Answered x room r.answer
   pub leaves : r.bursts ≡ row_after x room
 
-pub record CutNumbers (x : Burst) (row : List ℕ) (r : CutAnswer) (after : List ℕ) : Type 0 where
+pub record CutNumbers (x : Burst) (row : List ℕ) (r : Result ℕ Refusal) (after : List ℕ) : Type 0 where
   pub answers : Answered x (numbers_room row) r
   pub leaves : after ≡ numbers_after x row

@@ -1,20 +1,18 @@
 -- What is proved of a cut, a statement each. Words in quotes are the request's (paper 02, T-02); its numbers are typed here once
 -- more, which pins the named ones. The proofs are in proofs/Promises.
-use Rattle.std.specs.Prelude.{List, [], ◌∷◌, ◌++◌, map, ◌⊎◌, ◌↔◌, ◌≢◌, ◌≡◌, ℕ, zero, suc, ◌+◌, ◌-◌, ◌*◌, ◌/◌, ◌^◌, ◌≤◌, ◌<◌, length, take, drop, get_or, replicate}
+use Rattle.std.specs.Prelude.{List, [], ◌∷◌, ◌++◌, map, ◌⊎◌, ◌↔◌, ◌≢◌, ◌≡◌, ℕ, zero, suc, ◌+◌, ◌-◌, ◌*◌, ◌/◌, ◌^◌, ◌≤◌, ◌<◌, length, take, drop, get_or, replicate, Ok, Err}
 use Rattle.refusal.specs.declared.Refusal.{Refusal}
 use Rattle.refusal.specs.declared.Refusal.TheVariants.{Room}
 use Rattle.burst_spec.specs.declared.Burst.{Burst}
-use Rattle.burst_spec.specs.declared.Judgement.TheVariants as judged
 use Rattle.burst_spec.specs.declared.Kind.TheVariants.{Incr}
 use Rattle.burst_spec.specs.Address.{beats, bytes, aligned}
 use Rattle.burst_spec.specs.Answers.{burst_of, judgement}
-use Rattle.axi3_spec.specs.declared.CutAnswer.TheVariants.{Bursts, Refused}
 use Rattle.axi3_spec.specs.Cut.{run, pieces, beats_of, beats_of_all}
 use Rattle.axi3_spec.specs.Answers.{cut_answer, Cut, CutNumbers}
 
 -- a burst that none of 7 to 12 refuses
 abbrev pub IsAccepted : Burst → Type 0
-IsAccepted x = judgement x ≡ judged.Accepted
+IsAccepted x = judgement x ≡ Ok tt
 
 -- each of a list has the property
 abbrev pub Every : {A : Type 0} → (A → Type 0) → List A → Type 0
@@ -70,15 +68,15 @@ Itself = (x : Burst) → IsAccepted x → (beats x ≤ 16) ⊎ (x.kind ≢ Incr)
 
 -- "7 to 12 as in 01": what judging refuses, cutting refuses with the same, however long the row is
 abbrev pub RefusedAsJudged : Type 0
-RefusedAsJudged = (x : Burst) (room : ℕ) (r : Refusal) → judgement x ≡ judged.Refused r → cut_answer x room ≡ Refused r
+RefusedAsJudged = (x : Burst) (room : ℕ) (r : Refusal) → judgement x ≡ Err r → cut_answer x room ≡ Err r
 
 -- "then ROOM when the row is too short"
 abbrev pub RoomExactly : Type 0
-RoomExactly = (x : Burst) (room : ℕ) → (cut_answer x room ≡ Refused Room) ↔ (IsAccepted x × (room < sixteens (beats x)))
+RoomExactly = (x : Burst) (room : ℕ) → (cut_answer x room ≡ Err Room) ↔ (IsAccepted x × (room < sixteens (beats x)))
 
 -- "The answer is the number used"
 abbrev pub CutExactly : Type 0
-CutExactly = (x : Burst) (room n : ℕ) → (cut_answer x room ≡ Bursts n) ↔ (IsAccepted x × (n ≡ sixteens (beats x)) × (n ≤ room))
+CutExactly = (x : Burst) (room n : ℕ) → (cut_answer x room ≡ Ok n) ↔ (IsAccepted x × (n ≡ sixteens (beats x)) × (n ≤ room))
 
 -- ---- the row
 
@@ -92,11 +90,11 @@ pub record Stands (x : Burst) (row : List Burst) (n : ℕ) (after : List Burst) 
   pub long : length after ≡ length row
 
 abbrev pub RowStands : Type 0
-RowStands = (x : Burst) (row : List Burst) (n : ℕ) (after : List Burst) → Cut x row (Bursts n) after → Stands x row n after
+RowStands = (x : Burst) (row : List Burst) (n : ℕ) (after : List Burst) → Cut x row (Ok n) after → Stands x row n after
 
 -- refused, "lent memory keeps its content" (01)
 abbrev pub RowKept : Type 0
-RowKept = (x : Burst) (row : List Burst) (r : Refusal) (after : List Burst) → Cut x row (Refused r) after → after ≡ row
+RowKept = (x : Burst) (row : List Burst) (r : Refusal) (after : List Burst) → Cut x row (Err r) after → after ≡ row
 
 -- ---- the row of numbers
 
@@ -113,7 +111,7 @@ pub record NumbersStand (x : Burst) (row : List ℕ) (n : ℕ) (after : List ℕ
   pub long : length after ≡ length row
 
 abbrev pub RowOfNumbersStands : Type 0
-RowOfNumbersStands = (x : Burst) (row : List ℕ) (n : ℕ) (after : List ℕ) → CutNumbers x row (Bursts n) after → NumbersStand x row n after
+RowOfNumbersStands = (x : Burst) (row : List ℕ) (n : ℕ) (after : List ℕ) → CutNumbers x row (Ok n) after → NumbersStand x row n after
 
 abbrev pub RowOfNumbersKept : Type 0
-RowOfNumbersKept = (x : Burst) (row : List ℕ) (r : Refusal) (after : List ℕ) → CutNumbers x row (Refused r) after → after ≡ row
+RowOfNumbersKept = (x : Burst) (row : List ℕ) (r : Refusal) (after : List ℕ) → CutNumbers x row (Err r) after → after ≡ row

@@ -8,16 +8,10 @@ use refusal::Refusal;
 // As many descriptions as a cut can need: 256 beats are 16 bursts of 16.
 pub const ROW_LENGTH: usize = 16;
 
-// What cutting a burst answers: how many bursts it was cut into, which stand at the front of the row.
-#[derive(Clone, Copy)]
-pub enum CutAnswer {
-    Bursts(usize),
-    Refused(Refusal),
-}
-
-// A cut with a row of its own: the answer, and the row, in which descriptions that are not used are blank.
+// A cut with a row of its own: how many bursts it was cut into, which stand at the front of the row, or the refusal; and the row, in which
+// descriptions that are not used are blank.
 #[derive(Clone, Copy)]
 pub struct CutRow {
-    pub answer: CutAnswer,
+    pub answer: Result<usize, Refusal>,
     pub bursts: [Burst; ROW_LENGTH],
 }

@@ -1,5 +1,5 @@
 -- When a burst is accepted, and that an answer shows the paper's numbers. Assumes nothing.
-use Rattle.std.specs.Prelude.{Option, None, Some}
+use Rattle.std.specs.Prelude.{Option, None, Some, Result, Ok, Err}
 use mathlib.Core.Bool.{Bool, true, false, cond}
 use mathlib.Core.List.{List, [], ◌∷◌}
 use mathlib.Core.Logic.{◌↔◌}
@@ -18,12 +18,6 @@ use Rattle.refusal.proofs.First.{cond-none, append-none, none-append, append-fou
 use Rattle.burst_spec.specs.declared.Beat.{Beat}
 use Rattle.burst_spec.specs.declared.Burst.{Burst}
 use Rattle.burst_spec.specs.declared.Kind.TheVariants.{Reserved}
-use Rattle.burst_spec.specs.declared.Judgement.{Judgement}
-use Rattle.burst_spec.specs.declared.Judgement.TheVariants as judged
-use Rattle.burst_spec.specs.declared.BeatAnswer.{BeatAnswer}
-use Rattle.burst_spec.specs.declared.BeatAnswer.TheVariants as beat
-use Rattle.burst_spec.specs.declared.StepAnswer.{StepAnswer}
-use Rattle.burst_spec.specs.declared.StepAnswer.TheVariants as step
 use Rattle.burst_spec.specs.Address.{beats, beat_of, beat_step}
 use Rattle.burst_spec.specs.Checks.{crosses, checks, indexed_checks, checks_of_beat, checks_of_step}
 use Rattle.burst_spec.specs.Legal.{Legal, Accepted}
@@ -33,34 +27,34 @@ use Rattle.burst_spec.proofs.Known.{clash}
 
 -- ---- an answer, and the first refusal that it is made of
 
-pub accepted-none : (o : Option Refusal) → judgement_for o ≡ judged.Accepted → o ≡ None
+pub accepted-none : (o : Option Refusal) → judgement_for o ≡ Ok tt → o ≡ None
 accepted-none (Some r) e = absurd (clash cc)
 accepted-none None e = refl
 
-pub refused-some : (o : Option Refusal) (r : Refusal) → judgement_for o ≡ judged.Refused r → o ≡ Some r
+pub refused-some : (o : Option Refusal) (r : Refusal) → judgement_for o ≡ Err r → o ≡ Some r
 refused-some (Some q) r e = cc
 refused-some None r e = absurd (clash cc)
 
-judgement-shows : (o : Option Refusal) → judgement_values (judgement_for o) ≡ values_for o (judgement_values judged.Accepted)
+judgement-shows : (o : Option Refusal) → judgement_values (judgement_for o) ≡ values_for o (judgement_values Ok tt)
 judgement-shows (Some r) = refl
 judgement-shows None = refl
 
-beat-shows : (o : Option Refusal) (y : Beat) → beat_values (beat_for o y) ≡ values_for o (beat_values (beat.At y))
+beat-shows : (o : Option Refusal) (y : Beat) → beat_values (beat_for o y) ≡ values_for o (beat_values (Ok y))
 beat-shows (Some r) y = refl
 beat-shows None y = refl
 
-step-shows : (o : Option Refusal) (d : ℤ) → step_values (step_for o d) ≡ values_for o (step_values (step.By d))
+step-shows : (o : Option Refusal) (d : ℤ) → step_values (step_for o d) ≡ values_for o (step_values (Ok d))
 step-shows (Some r) d = refl
 step-shows None d = refl
 
 -- an answer that is the defined one shows the paper's numbers
-pub judged_is : (x : Burst) (r : Judgement) → r ≡ judgement x → Judged x r
+pub judged_is : (x : Burst) (r : Result (Unit {0}) Refusal) → r ≡ judgement x → Judged x r
 judged_is x r e = record { is = e; shows = ap judgement_values e ∙ judgement-shows (first (checks x)) }
 
-beat-is : (x : Burst) (k : ℕ) (r : BeatAnswer) → r ≡ beat_answer x k → BeatGiven x k r
+beat-is : (x : Burst) (k : ℕ) (r : Result Beat Refusal) → r ≡ beat_answer x k → BeatGiven x k r
 beat-is x k r e = record { is = e; shows = ap beat_values e ∙ beat-shows (first (checks_of_beat x k)) (beat_of x k) }
 
-step_is : (x : Burst) (k : ℕ) (r : StepAnswer) → r ≡ step_answer x k → StepGiven x k r
+step_is : (x : Burst) (k : ℕ) (r : Result ℤ Refusal) → r ≡ step_answer x k → StepGiven x k r
 step_is x k r e = record { is = e; shows = ap step_values e ∙ step-shows (first (checks_of_step x k)) (beat_step x k) }
 
 -- ---- which bursts are accepted
@@ -87,14 +81,14 @@ none_exactly x = (there, back)
         rw (y.legal.bus, y.legal.size, y.legal.kind, y.legal.count, y.legal.start, y.inside)
 
 -- accepted exactly if none of 7 to 12 holds
-pub accepted_exactly : (x : Burst) → (judgement x ≡ judged.Accepted) ↔ Accepted x
+pub accepted_exactly : (x : Burst) → (judgement x ≡ Ok tt) ↔ Accepted x
 accepted_exactly x = (
   λ e. (none_exactly x).0 (accepted-none (first (checks x)) e),
   λ y. ap judgement_for ((none_exactly x).1 y),
 )
 
 -- FENCE is given exactly if none of 7 to 11 holds and the burst leaves its start's block
-pub boundary_exactly : (x : Burst) → (judgement x ≡ judged.Refused Boundary) ↔ (Legal x × (crosses x ≡ true))
+pub boundary_exactly : (x : Burst) → (judgement x ≡ Err Boundary) ↔ (Legal x × (crosses x ≡ true))
 boundary_exactly x = (there, back)
   where
     earlier : (t : Bool) (r : Refusal) (y : Option Refusal) → (r ≡ Boundary → ⊥)
@@ -106,7 +100,7 @@ boundary_exactly x = (there, back)
     last true e = refl
     last false e = absurd (clash cc)
 
-    there : judgement x ≡ judged.Refused Boundary → Legal x × (crosses x ≡ true)
+    there : judgement x ≡ Err Boundary → Legal x × (crosses x ≡ true)
     there e =
         let p1 = earlier _ Bus _ (λ f. clash cc) (refused-some (first (checks x)) Boundary e) in
         let p2 = earlier _ Size _ (λ f. clash cc) p1.1 in
@@ -115,7 +109,7 @@ boundary_exactly x = (there, back)
         let p5 = earlier _ Align _ (λ f. clash cc) p4.1 in
         (record { bus = not-false _ p1.0; size = p2.0; kind = p3.0; count = p4.0; start = p5.0 }, last _ p5.1)
 
-    back : Legal x × (crosses x ≡ true) → judgement x ≡ judged.Refused Boundary
+    back : Legal x × (crosses x ≡ true) → judgement x ≡ Err Boundary
     back y = rw (y.0.bus, y.0.size, y.0.kind, y.0.count, y.0.start, y.1)
 
 -- ---- a burst's own refusals have numbers from 7 on
@@ -148,11 +142,11 @@ leb_next a b = go (leb a b) refl
 
 module _ (x : Burst) (missing : Bool) where
   -- a refused burst keeps its refusal, and of an accepted one the index decides
-  pub refused-first : (r : Refusal) → judgement x ≡ judged.Refused r → judged.Refused r ≡ judgement_for (first (indexed_checks x missing))
+  pub refused-first : (r : Refusal) → judgement x ≡ Err r → Err r ≡ judgement_for (first (indexed_checks x missing))
   refused-first r e =
       ap judgement_for (sym (append-found (checks x) (check missing Index ∷ []) r (refused-some (first (checks x)) r e)))
 
-  pub index_last : (t : Bool) → judgement x ≡ judged.Accepted → missing ≡ t
+  pub index_last : (t : Bool) → judgement x ≡ Ok tt → missing ≡ t
       → judgement_for (cond t (Some Index) None) ≡ judgement_for (first (indexed_checks x missing))
   index_last t e m =
       sym
@@ -177,50 +171,50 @@ module _ (x : Burst) (k : ℕ) where
   pub no-next : judgement_for (first (indexed_checks x (leb x.len k))) ≡ judgement_for (first (checks_of_step x k))
   no-next = ap (λ m. judgement_for (first (indexed_checks x m))) (leb_next x.len k)
 
-  pub has_beat : judgement_for (first (checks_of_beat x k)) ≡ judged.Accepted → Accepted x × (k < beats x)
+  pub has_beat : judgement_for (first (checks_of_beat x k)) ≡ Ok tt → Accepted x × (k < beats x)
   has_beat e =
       let h = accepted_there x (leb (beats x) k) (accepted-none (first (checks_of_beat x k)) e) in
       (h.0, leb-false (beats x) k h.1)
 
   -- a beat that an accepted burst has is answered, and never refused
-  present-beat : Accepted x → k < beats x → beat_answer x k ≡ beat.At (beat_of x k)
+  present-beat : Accepted x → k < beats x → beat_answer x k ≡ Ok (beat_of x k)
   present-beat y h =
       ap (λ o. beat_for o (beat_of x k))
       (none-append (checks x) (check (leb (beats x) k) Index ∷ []) ((none_exactly x).1 y) (rw (lt-leb (beats x) k h)))
 
-  pub present-is : Accepted x → k < beats x → (y : Beat) → beat_answer x k ≡ beat.At y → beat_of x k ≡ y
+  pub present-is : Accepted x → k < beats x → (y : Beat) → beat_answer x k ≡ Ok y → beat_of x k ≡ y
   present-is a h y e = same (beat_of x k) (sym (present-beat a h) ∙ e)
     where
-      same : (z : Beat) → beat.At z ≡ beat.At y → z ≡ y
+      same : (z : Beat) → Ok z ≡ Ok y → z ≡ y
       same z f = cc
 
-  pub present_never : Accepted x → k < beats x → (r : Refusal) → beat_answer x k ≡ beat.Refused r → ⊥
+  pub present_never : Accepted x → k < beats x → (r : Refusal) → beat_answer x k ≡ Err r → ⊥
   present_never a h r e = apart (beat_of x k) (sym (present-beat a h) ∙ e)
     where
-      apart : (z : Beat) → beat.At z ≡ beat.Refused r → ⊥
+      apart : (z : Beat) → Ok z ≡ Err r → ⊥
       apart z f = clash cc
 
-  pub refused-beat : (r : Refusal) → judgement_for (first (checks_of_beat x k)) ≡ judged.Refused r → BeatGiven x k (beat.Refused r)
+  pub refused-beat : (r : Refusal) → judgement_for (first (checks_of_beat x k)) ≡ Err r → BeatGiven x k (Err r)
   refused-beat r e =
-      beat-is x k (beat.Refused r) (sym (ap (λ o. beat_for o (beat_of x k)) (refused-some (first (checks_of_beat x k)) r e)))
+      beat-is x k (Err r) (sym (ap (λ o. beat_for o (beat_of x k)) (refused-some (first (checks_of_beat x k)) r e)))
 
-  pub given_beat : judgement_for (first (checks_of_beat x k)) ≡ judged.Accepted → (y : Beat) → y ≡ beat_of x k → BeatGiven x k (beat.At y)
+  pub given_beat : judgement_for (first (checks_of_beat x k)) ≡ Ok tt → (y : Beat) → y ≡ beat_of x k → BeatGiven x k (Ok y)
   given_beat e y f =
-      beat-is x k (beat.At y) (ap beat.At f ∙ sym (ap (λ o. beat_for o (beat_of x k)) (accepted-none (first (checks_of_beat x k)) e)))
+      beat-is x k (Ok y) (ap Ok f ∙ sym (ap (λ o. beat_for o (beat_of x k)) (accepted-none (first (checks_of_beat x k)) e)))
 
-  pub refused-step : (r : Refusal) → judgement_for (first (checks_of_step x k)) ≡ judged.Refused r → StepGiven x k (step.Refused r)
+  pub refused-step : (r : Refusal) → judgement_for (first (checks_of_step x k)) ≡ Err r → StepGiven x k (Err r)
   refused-step r e =
-      step_is x k (step.Refused r) (sym (ap (λ o. step_for o (beat_step x k)) (refused-some (first (checks_of_step x k)) r e)))
+      step_is x k (Err r) (sym (ap (λ o. step_for o (beat_step x k)) (refused-some (first (checks_of_step x k)) r e)))
 
-  pub given_step : judgement_for (first (checks_of_step x k)) ≡ judged.Accepted → (d : ℤ) → d ≡ beat_step x k → StepGiven x k (step.By d)
+  pub given_step : judgement_for (first (checks_of_step x k)) ≡ Ok tt → (d : ℤ) → d ≡ beat_step x k → StepGiven x k (Ok d)
   given_step e d f =
-      step_is x k (step.By d) (ap step.By f ∙ sym (ap (λ o. step_for o (beat_step x k)) (accepted-none (first (checks_of_step x k)) e)))
+      step_is x k (Ok d) (ap Ok f ∙ sym (ap (λ o. step_for o (beat_step x k)) (accepted-none (first (checks_of_step x k)) e)))
 
   -- a step that is answered is the burst's step, and the burst is accepted
-  pub answered-step : (d : ℤ) → step.By d ≡ step_answer x k → (d ≡ beat_step x k) × Accepted x
+  pub answered-step : (d : ℤ) → Ok d ≡ step_answer x k → (d ≡ beat_step x k) × Accepted x
   answered-step d e = go (first (checks_of_step x k)) refl e
     where
-      go : (o : Option Refusal) → first (checks_of_step x k) ≡ o → step.By d ≡ step_for o (beat_step x k) → (d ≡ beat_step x k) × Accepted x
+      go : (o : Option Refusal) → first (checks_of_step x k) ≡ o → Ok d ≡ step_for o (beat_step x k) → (d ≡ beat_step x k) × Accepted x
       go (Some r) h f = absurd (clash cc)
       go None h f = (cc, (accepted_there x (leb (beats x) (k + 1)) h).0)
 

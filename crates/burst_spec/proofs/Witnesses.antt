@@ -1,5 +1,6 @@
 -- Each law with a premise, applied to a burst of paper 01's cases or to one at the top of memory: so the premises can be met.
 -- Which bursts meet `Legal` and `Accepted` is exact by Answers, accepted-exactly. Assumes nothing.
+use Rattle.std.specs.Prelude.{Ok, Err}
 use mathlib.Core.Path.{◌≡◌, refl}
 use mathlib.Core.Bool.{false}
 use Prim.Native.Nat.{◌<◌, ◌≤◌, ◌/◌, ◌^◌}
@@ -12,7 +13,6 @@ use Rattle.burst_spec.specs.Checks.{block as blockBytes, some_below, bus_allowed
 use Rattle.burst_spec.specs.Transfer.{transfer}
 use Rattle.burst_spec.specs.Legal.{Accepted}
 use Rattle.burst_spec.specs.Answers.{burst_of, judgement}
-use Rattle.burst_spec.specs.declared.Judgement.TheVariants as judged
 use Rattle.burst_spec.proofs.Known.{clash}
 use Rattle.burst_spec.proofs.Block.{only_incr, one_block, accepted_in_memory}
 use Rattle.burst_spec.proofs.Lanes.{lanes_ordered}
@@ -33,7 +33,7 @@ fenced = burst_of 0xFF2 3 2 1 4
 abbrev top : Burst
 top = burst_of 0xFFFF_FFF1 3 2 1 4
 
-accepts : (x : Burst) → judgement x ≡ judged.Accepted → Accepted x
+accepts : (x : Burst) → judgement x ≡ Ok tt → Accepted x
 accepts x e = (accepted_exactly x).0 e
 
 fixed_accepted : Accepted fixed

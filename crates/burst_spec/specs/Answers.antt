@@ -1,5 +1,5 @@
 -- What each burst call answers, over all its arguments; and the numbers of paper 01 that each answer shows.
-use Rattle.std.specs.Prelude.{ℕ, zero, suc, ℤ, pos, ◌≡◌, Option, None, Some}
+use Rattle.std.specs.Prelude.{ℕ, zero, suc, ℤ, pos, ◌≡◌, Option, None, Some, Result, Ok, Err}
 use Rattle.refusal.specs.declared.Refusal.{Refusal}
 use Rattle.refusal.specs.Checks.{first}
 use Rattle.refusal.specs.Code.{code_of}
@@ -7,12 +7,6 @@ use Rattle.burst_spec.specs.declared.Beat.{Beat}
 use Rattle.burst_spec.specs.declared.Burst.{Burst}
 use Rattle.burst_spec.specs.declared.Kind.{Kind}
 use Rattle.burst_spec.specs.declared.Kind.TheVariants.{Fixed, Incr, Wrap, Reserved}
-use Rattle.burst_spec.specs.declared.Judgement.{Judgement}
-use Rattle.burst_spec.specs.declared.Judgement.TheVariants as judged
-use Rattle.burst_spec.specs.declared.BeatAnswer.{BeatAnswer}
-use Rattle.burst_spec.specs.declared.BeatAnswer.TheVariants as beat
-use Rattle.burst_spec.specs.declared.StepAnswer.{StepAnswer}
-use Rattle.burst_spec.specs.declared.StepAnswer.TheVariants as step
 use Rattle.burst_spec.specs.Address.{bytes, beat_address, lower_lane, upper_lane, beat_of, beat_step}
 use Rattle.burst_spec.specs.Checks.{checks, checks_of_beat, checks_of_step}
 
@@ -30,27 +24,27 @@ burst_of start len size kind bus =
 
 -- ---- how an answer is made of the first refusal, if there is one
 
-abbrev pub judgement_for : Option Refusal → Judgement
-judgement_for (Some r) = judged.Refused r
-judgement_for None = judged.Accepted
+abbrev pub judgement_for : Option Refusal → Result (Unit {0}) Refusal
+judgement_for (Some r) = Err r
+judgement_for None = Ok tt
 
-abbrev pub beat_for : Option Refusal → Beat → BeatAnswer
-beat_for (Some r) y = beat.Refused r
-beat_for None y = beat.At y
+abbrev pub beat_for : Option Refusal → Beat → Result Beat Refusal
+beat_for (Some r) y = Err r
+beat_for None y = Ok y
 
-abbrev pub step_for : Option Refusal → ℤ → StepAnswer
-step_for (Some r) d = step.Refused r
-step_for None d = step.By d
+abbrev pub step_for : Option Refusal → ℤ → Result ℤ Refusal
+step_for (Some r) d = Err r
+step_for None d = Ok d
 
 -- ---- the calls
 
-abbrev pub judgement : Burst → Judgement
+abbrev pub judgement : Burst → Result (Unit {0}) Refusal
 judgement x = judgement_for (first (checks x))
 
-abbrev pub beat_answer : Burst → ℕ → BeatAnswer
+abbrev pub beat_answer : Burst → ℕ → Result Beat Refusal
 beat_answer x k = beat_for (first (checks_of_beat x k)) (beat_of x k)
 
-abbrev pub step_answer : Burst → ℕ → StepAnswer
+abbrev pub step_answer : Burst → ℕ → Result ℤ Refusal
 step_answer x k = step_for (first (checks_of_step x k)) (beat_step x k)
 
 -- ---- the paper's numbers for each answer: the refusal's number, its place and its rule, the beat's address and lanes, and
@@ -74,17 +68,17 @@ abbrev pub refusal_values : Refusal → Values
 refusal_values r =
     record { refusal = (code_of r).0; place = (code_of r).1; rule = (code_of r).2; address = 0; lower = 0; upper = 0; step = pos 0 }
 
-abbrev pub judgement_values : Judgement → Values
-judgement_values judged.Accepted = values 0 0 0 (pos 0)
-judgement_values (judged.Refused r) = refusal_values r
+abbrev pub judgement_values : Result (Unit {0}) Refusal → Values
+judgement_values Ok tt = values 0 0 0 (pos 0)
+judgement_values (Err r) = refusal_values r
 
-abbrev pub beat_values : BeatAnswer → Values
-beat_values (beat.At y) = values y.address y.lower y.upper (pos 0)
-beat_values (beat.Refused r) = refusal_values r
+abbrev pub beat_values : Result Beat Refusal → Values
+beat_values (Ok y) = values y.address y.lower y.upper (pos 0)
+beat_values (Err r) = refusal_values r
 
-abbrev pub step_values : StepAnswer → Values
-step_values (step.By d) = values 0 0 0 d
-step_values (step.Refused r) = refusal_values r
+abbrev pub step_values : Result ℤ Refusal → Values
+step_values (Ok d) = values 0 0 0 d
+step_values (Err r) = refusal_values r
 
 -- ---- the contracts of the calls: the answer is the definition's, with 01's numbers for it. The numbers are said through the
 -- checks and not through the answer, so that a wrong line of `beat_values` and its like breaks the contract itself.
@@ -93,17 +87,17 @@ abbrev pub values_for : Option Refusal → Values → Values
 values_for (Some r) accepted = refusal_values r
 values_for None accepted = accepted
 
-pub record Judged (x : Burst) (r : Judgement) : Type 0 where
+pub record Judged (x : Burst) (r : Result (Unit {0}) Refusal) : Type 0 where
   pub is : r ≡ judgement x
   pub shows : judgement_values r ≡ values_for (first (checks x)) (values 0 0 0 (pos 0))
 
 abbrev pub beat_numbers : Burst → ℕ → Values
 beat_numbers x a = values a (lower_lane a x.bus) (upper_lane a (bytes x) x.bus) (pos 0)
 
-pub record BeatGiven (x : Burst) (k : ℕ) (r : BeatAnswer) : Type 0 where
+pub record BeatGiven (x : Burst) (k : ℕ) (r : Result Beat Refusal) : Type 0 where
   pub is : r ≡ beat_answer x k
   pub shows : beat_values r ≡ values_for (first (checks_of_beat x k)) (beat_numbers x (beat_address x k))
 
-pub record StepGiven (x : Burst) (k : ℕ) (r : StepAnswer) : Type 0 where
+pub record StepGiven (x : Burst) (k : ℕ) (r : Result ℤ Refusal) : Type 0 where
   pub is : r ≡ step_answer x k
   pub shows : step_values r ≡ values_for (first (checks_of_step x k)) (values 0 0 0 (beat_step x k))

@@ -2,14 +2,12 @@
 // in specs/, and the laws about that are in proofs/. Nothing is computed here.
 #![tactic(auto)]
 
-use refusal::Refusal;
-
 // How wide an address is. The code says it here and nowhere else, the proofs in `address_bits` of burst (T-10: 64 bits).
 pub type Address = u32;
 
 // AxBURST, paper 01's kind: FIXED 0, INCR 1, WRAP 2. Reserved is Arm's word for the encoding b11, and stands for every
 // number from 3 on.
-#[derive(Clone, Copy)]
+#[derive(Clone, Copy, Debug, PartialEq, Eq)]
 pub enum Kind {
     Fixed,
     Incr,
@@ -19,7 +17,7 @@ pub enum Kind {
 
 // A burst as its control signals say it: AxADDR, AxLEN (beats less one), AxSIZE (a beat has 2 to this power bytes),
 // AxBURST, and the data bus in bytes. Any numbers may stand here: a burst that breaks a rule is refused.
-#[derive(Clone, Copy)]
+#[derive(Clone, Copy, Debug, PartialEq, Eq)]
 pub struct Burst {
     pub start: Address,
     pub len: u32,
@@ -29,30 +27,9 @@ pub struct Burst {
 }
 
 // One beat: its address, and the byte lanes it uses, from lower to upper.
-#[derive(Clone, Copy)]
+#[derive(Clone, Copy, Debug, PartialEq, Eq)]
 pub struct Beat {
     pub address: Address,
     pub lower: u32,
     pub upper: u32,
-}
-
-// What judging a burst answers.
-#[derive(Clone, Copy)]
-pub enum Judgement {
-    Accepted,
-    Refused(Refusal),
-}
-
-// What asking for beat k answers.
-#[derive(Clone, Copy)]
-pub enum BeatAnswer {
-    At(Beat),
-    Refused(Refusal),
-}
-
-// What asking for the step from beat k to beat k + 1 answers: so many bytes up, or down where it is negative.
-#[derive(Clone, Copy)]
-pub enum StepAnswer {
-    By(i32),
-    Refused(Refusal),
 }

@@ -1,8 +1,9 @@
 -- The packed form of a merged list: turns are packed apart, so each port's share of it is that port's own packed form, and another TID
 -- changes nothing else in it. Assumes nothing.
-use Rattle.std.specs.Prelude.{Option, None, Some}
+use Rattle.std.specs.Prelude.{Option, None, Some, slice_get}
+use Rattle.std.specs.List.{last_or}
 use mathlib.Core.Bool.{Bool, true, false, not, ◌&&◌}
-use mathlib.Core.List.{List, [], ◌∷◌, ◌++◌, map, head?, get_last?, append_assoc, append-nil}
+use mathlib.Core.List.{List, [], ◌∷◌, ◌++◌, map, append_assoc, append-nil}
 use mathlib.Core.Logic.{◌⊎◌, inl, inr}
 use mathlib.Core.Path.{◌≡◌, refl, sym, ap, ap₂, ◌∙◌}
 use Prim.Native.Nat.{ℕ, zero, suc, ◌+◌, ◌-◌, ◌/◌}
@@ -54,7 +55,7 @@ item-pair port (byte p a) is h = h.0.0
 item-pair port (end p) is h = h.0
 
 last_apart : (port : Bool) (is : List (Item Kept)) (j : Item Kept) → EachItem (Of port) Any is → Of (not port) (item_pair j)
-    → apart (get_last? is) (Some j) ≡ true
+    → apart (last_or None is) (Some j) ≡ true
 last_apart port [] j h k = refl
 last_apart port (end p ∷ []) j h k = refl
 last_apart port (byte p a ∷ []) j h k = rw (pairs_differ port p (item_pair j) h.0.0 k) refl
@@ -68,12 +69,12 @@ none_after (Some (end p)) = refl
 
 -- items of one port before items of the other
 ports_parted : (port : Bool) (is js : List (Item Kept)) → EachItem (Of port) Any is → EachItem (Of (not port)) Any js → parted is js ≡ true
-ports_parted port is [] h k = none_after (get_last? is)
+ports_parted port is [] h k = none_after (last_or None is)
 ports_parted port is (j ∷ js) h k = last_apart port is j h (item-pair (not port) j js k)
 
 -- items that end with a packet's end before any
 ended-parted : (is : List (Item Kept)) (p : Pair) (js : List (Item Kept)) → parted (is ++ end p ∷ []) js ≡ true
-ended-parted is p js = rw (last-append is (end p) []) (ends (head? js))
+ended-parted is p js = rw (last-append is (end p) []) (ends (slice_get js 0))
   where
     ends : (o : Option (Item Kept)) → apart (Some (end p)) o ≡ true
     ends None = refl
@@ -156,7 +157,7 @@ pack-turns v (t ∷ ts) h =
 
 -- groups of turns
 parted_front : (is js ks : List (Item Kept)) → parted is (js ++ ks) ≡ true → parted is js ≡ true
-parted_front is [] ks h = none_after (get_last? is)
+parted_front is [] ks h = none_after (last_or None is)
 parted_front is (j ∷ js) ks h = h
 
 parts_front : (ts us : List (List (Transfer Kept))) → Parts (ts ++ us) → Parts ts

@@ -1,5 +1,5 @@
 -- The statements of specs/Promises, proved: each by a law about what it speaks of. Assumes nothing.
-use Rattle.std.specs.Prelude.{None}
+use Rattle.std.specs.Prelude.{None, Ok}
 use mathlib.Core.List.{List}
 use mathlib.Core.Path.{◌≡◌, refl, sym, ap, ◌∙◌}
 use Prim.Native.Nat.{ℕ, ◌+◌, ◌*◌}
@@ -10,7 +10,6 @@ use Rattle.refusal.specs.declared.Refusal.TheVariants.{Tags}
 use Rattle.stream_spec.specs.declared.Shape.{Shape}
 use Rattle.stream_spec.specs.Layout.{size, record_count}
 use Rattle.stream_spec.proofs.Demand3.{calls, parts}
-use Rattle.merge_spec.specs.declared.Merged.TheVariants.{Records}
 use Rattle.merge_spec.specs.Merge.{merged_records, merged}
 use Rattle.merge_spec.specs.Answers.{merge_refusal, merge_answer, merge_after}
 use Rattle.merge_spec.specs.Promises.{Mergeable, NothingRefused, RefusedInOrder, TagsExactly, MemoryKept, MergeWrites, Shares, TakesTurns, MergedOnly, FairTurns, MergedLegal, MergedCalls, MergedParts, PackedShares, PackedTurns}
@@ -46,7 +45,7 @@ module _ (s : Shape) (xs ys : List ℕ) (room : ℕ) where
 pub nothing_refused : NothingRefused
 nothing_refused s xs ys room = (
   λ e. mergeable_of s xs ys room (accepts_of s xs ys room (answer-taken s xs ys room (record_count s xs + record_count s ys) e).0),
-  λ h. taken-answer s xs ys room (of_accepts s xs ys room (of_mergeable s xs ys room h)) ∙ ap Records (merged-count s xs ys),
+  λ h. taken-answer s xs ys room (of_accepts s xs ys room (of_mergeable s xs ys room h)) ∙ ap Ok (merged-count s xs ys),
 )
 
 pub refused_in_order : RefusedInOrder
@@ -67,7 +66,7 @@ tags_exactly s xs ys room port k = (
 
 -- ---- an accepted call
 
-module _ (s : Shape) (xs ys : List ℕ) (room n : ℕ) (e : merge_answer s xs ys room ≡ Records n) where
+module _ (s : Shape) (xs ys : List ℕ) (room n : ℕ) (e : merge_answer s xs ys room ≡ Ok n) where
   none-refused : merge_refusal s xs ys room ≡ None
   none-refused = (answer-taken s xs ys room n e).0
 

@@ -1,5 +1,5 @@
 -- The list of merging's checks, part by part, and the answer that each gives. Which records have a fault is in Faults. Assumes nothing.
-use Rattle.std.specs.Prelude.{Option, None, Some}
+use Rattle.std.specs.Prelude.{Option, None, Some, Ok, Err}
 use mathlib.Core.Bool.{Bool, true, false}
 use mathlib.Core.List.{List, [], ◌∷◌, ◌++◌}
 use mathlib.Core.Logic.{◌⊎◌, inl, inr, ◌↔◌}
@@ -13,7 +13,6 @@ use Rattle.refusal.specs.declared.Refusal.{Refusal}
 use Rattle.refusal.proofs.First.{first-none, append-none, append-found, append-passed}
 use Rattle.stream_spec.specs.declared.Shape.{Shape}
 use Rattle.stream_spec.specs.Checks.{length_check, take_checks, room_check}
-use Rattle.merge_spec.specs.declared.Merged.TheVariants.{Records, Refused}
 use Rattle.merge_spec.specs.Merge.{merged_records, merged}
 use Rattle.merge_spec.specs.Answers.{Named, naming, port_checks, merge_refusal, merged_by, lent_by, merge_answer, merge_after, merged_values, values_for, PortsMerged}
 
@@ -128,27 +127,27 @@ module _ (s : Shape) (xs ys : List ℕ) (room : ℕ) where
 -- ---- the answer
 
 -- an accepted call answers the number of records
-pub answer-taken : (s : Shape) (xs ys : List ℕ) (room n : ℕ) → merge_answer s xs ys room ≡ Records n
+pub answer-taken : (s : Shape) (xs ys : List ℕ) (room n : ℕ) → merge_answer s xs ys room ≡ Ok n
     → (merge_refusal s xs ys room ≡ None) × (n ≡ length (merged_records s xs ys))
 unfolding merge_answer
 answer-taken s xs ys room n e = go (merge_refusal s xs ys room) refl e
   where
-    go : (o : Option Named) → merge_refusal s xs ys room ≡ o → merged_by o (length (merged_records s xs ys)) ≡ Records n
+    go : (o : Option Named) → merge_refusal s xs ys room ≡ o → merged_by o (length (merged_records s xs ys)) ≡ Ok n
         → (merge_refusal s xs ys room ≡ None) × (n ≡ length (merged_records s xs ys))
     go (Some f) h k = clash cc
     go None h k = (h, cc)
 
 pub taken-answer : (s : Shape) (xs ys : List ℕ) (room : ℕ) → merge_refusal s xs ys room ≡ None
-    → merge_answer s xs ys room ≡ Records (length (merged_records s xs ys))
+    → merge_answer s xs ys room ≡ Ok (length (merged_records s xs ys))
 unfolding merge_answer
 taken-answer s xs ys room e = rw e refl
 
 pub answer-refused : (s : Shape) (xs ys : List ℕ) (room port : ℕ) (r : Refusal)
-    → (merge_answer s xs ys room ≡ Refused port r) ↔ (merge_refusal s xs ys room ≡ Some (named port r))
+    → (merge_answer s xs ys room ≡ Err (record { port = port; refusal = r })) ↔ (merge_refusal s xs ys room ≡ Some (named port r))
 unfolding merge_answer
 answer-refused s xs ys room port r = (λ e. go (merge_refusal s xs ys room) refl e, λ e. rw e refl)
   where
-    go : (o : Option Named) → merge_refusal s xs ys room ≡ o → merged_by o (length (merged_records s xs ys)) ≡ Refused port r
+    go : (o : Option Named) → merge_refusal s xs ys room ≡ o → merged_by o (length (merged_records s xs ys)) ≡ Err (record { port = port; refusal = r })
         → merge_refusal s xs ys room ≡ Some (named port r)
     go None h k = clash cc
     go (Some f) h k =
@@ -163,12 +162,12 @@ shown None n = refl
 
 module _ (s : Shape) (xs ys before : List ℕ) where
   pub merged-refused : (port : ℕ) (r : Refusal) → merge_refusal s xs ys (length before) ≡ Some (named port r)
-      → PortsMerged s xs ys before before (Refused port r)
+      → PortsMerged s xs ys before before (Err (record { port = port; refusal = r }))
   unfolding merge_answer merge_after
   merged-refused port r e = record { is = rw e refl; shows = rw e refl; leaves = rw e refl }
 
   pub merged-written : merge_refusal s xs ys (length before) ≡ None → (n : ℕ) → n ≡ length (merged_records s xs ys)
-      → (after : List ℕ) → after ≡ lent_by None (merged s xs ys) before → PortsMerged s xs ys before after (Records n)
+      → (after : List ℕ) → after ≡ lent_by None (merged s xs ys) before → PortsMerged s xs ys before after (Ok n)
   unfolding merge_answer merge_after
   merged-written e n q after f =
       record { is = rw (e, q) refl; shows = rw (e, q) refl; leaves = rw e f }

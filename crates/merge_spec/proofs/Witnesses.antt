@@ -1,5 +1,6 @@
 -- Every promise of merging that has a premise, applied to worked lists: all its premises hold there, and what it says is what was typed by
 -- hand. And two orders that the request does not allow, one list after the other and record by record, break a promise. Assumes nothing.
+use Rattle.std.specs.Prelude.{Ok, Err}
 use mathlib.Core.Bool.{true, false}
 use mathlib.Core.List.{List, [], ◌∷◌, ◌++◌, map}
 use mathlib.Core.Logic.{◌⊎◌, ◌≢◌}
@@ -15,7 +16,6 @@ use Rattle.stream_spec.specs.Demand3.{Call, after_calls, Part}
 use Rattle.stream_spec.specs.Legal.{Octets, Legal}
 use Rattle.stream_spec.specs.Tables.{lanes, one, stream}
 use Rattle.stream_spec.proofs.Tables.{octets_tested, divides_tested}
-use Rattle.merge_spec.specs.declared.Merged.TheVariants.{Records, Refused}
 use Rattle.merge_spec.specs.Turns.{those}
 use Rattle.merge_spec.specs.Merge.{restored, high_tid, low_tid, merged_records}
 use Rattle.merge_spec.specs.Answers.{merge_answer, merge_after}
@@ -37,7 +37,7 @@ link = rec 0 1 10 ∷ rec 1 1 11 ∷ rec 1 130 20 ∷ rec 0 1 12 ∷ rec 1 130 2
 abbrev link_octets : List ℕ
 link_octets = rec 0 1 10 ++ (rec 1 1 11 ++ (rec 1 130 20 ++ (rec 0 1 12 ++ rec 1 130 21)))
 
-accepted : merge_answer (lanes 1) xs ys 41 ≡ Records 5
+accepted : merge_answer (lanes 1) xs ys 41 ≡ Ok 5
 unfolding size merge_answer
 accepted = refl
 
@@ -48,7 +48,7 @@ octets_ys : Octets ys
 octets_ys = (octets_tested ys).1 refl
 
 -- what is known of accepted lists lets the call accept them
-pub accepted_again : merge_answer (lanes 1) xs ys 41 ≡ Records 5
+pub accepted_again : merge_answer (lanes 1) xs ys 41 ≡ Ok 5
 unfolding size
 accepted_again = (nothing_refused (lanes 1) xs ys 41).1 ((nothing_refused (lanes 1) xs ys 41).0 accepted)
 
@@ -206,27 +206,27 @@ turn-short = (packed_turns (lanes 1) 2 xs ys 41 5 accepted).short 0
 
 -- ---- 17, of port 0's record 1 before a fault of port 1, and of port 1's record 0
 
-tags-zero : merge_answer (lanes 1) (rec 0 1 10 ++ rec 0 128 11) (flagged 1) 3 ≡ Refused 0 (Tags 1)
+tags-zero : merge_answer (lanes 1) (rec 0 1 10 ++ rec 0 128 11) (flagged 1) 3 ≡ Err (record { port = 0; refusal = (Tags 1) })
 unfolding size merge_answer
 tags-zero = refl
 
-pub tags-zero_again : merge_answer (lanes 1) (rec 0 1 10 ++ rec 0 128 11) (flagged 1) 3 ≡ Refused 0 (Tags 1)
+pub tags-zero_again : merge_answer (lanes 1) (rec 0 1 10 ++ rec 0 128 11) (flagged 1) 3 ≡ Err (record { port = 0; refusal = (Tags 1) })
 tags-zero_again =
     let t = tags_exactly (lanes 1) (rec 0 1 10 ++ rec 0 128 11) (flagged 1) 3 0 1 in
     t.1 (t.0 tags-zero)
 
 -- a record without items
-tags-one : merge_answer (lanes 1) (rec 0 1 10) (one 0 128 0 0 0 0) 16 ≡ Refused 1 (Tags 0)
+tags-one : merge_answer (lanes 1) (rec 0 1 10) (one 0 128 0 0 0 0) 16 ≡ Err (record { port = 1; refusal = (Tags 0) })
 unfolding size merge_answer
 tags-one = refl
 
-pub tags-one_again : merge_answer (lanes 1) (rec 0 1 10) (one 0 128 0 0 0 0) 16 ≡ Refused 1 (Tags 0)
+pub tags-one_again : merge_answer (lanes 1) (rec 0 1 10) (one 0 128 0 0 0 0) 16 ≡ Err (record { port = 1; refusal = (Tags 0) })
 tags-one_again = let t = tags_exactly (lanes 1) (rec 0 1 10) (one 0 128 0 0 0 0) 16 1 0 in t.1 (t.0 tags-one)
 
 -- ---- each line of the refusals' order, both ways; and the memory afterwards
 
 abbrev Again : List ℕ → List ℕ → ℕ → ℕ → Refusal → Type 0
-Again xs ys room port r = merge_answer (lanes 1) xs ys room ≡ Refused port r
+Again xs ys room port r = merge_answer (lanes 1) xs ys room ≡ Err (record { port = port; refusal = r })
 
 again : (xs ys : List ℕ) (room port : ℕ) (r : Refusal) → Again xs ys room port r → Again xs ys room port r
 again xs ys room port r e = let t = refused_in_order (lanes 1) xs ys room port r in t.1 (t.0 e)

@@ -1,6 +1,6 @@
 -- What merging two takes answers, over all its arguments, what it leaves in lent memory, and the numbers that it shows (paper 02, T-08;
 -- paper 01, 'How much each answer must say'). The contract of the call cites these definitions.
-use Rattle.std.specs.Prelude.{List, [], ◌∷◌, ◌++◌, map, ◌≡◌, ℕ, length, Option, None, Some}
+use Rattle.std.specs.Prelude.{List, [], ◌∷◌, ◌++◌, map, ◌≡◌, ℕ, length, Option, None, Some, Result, Ok, Err}
 use Rattle.refusal.specs.Checks.{Check, check, first}
 use Rattle.refusal.specs.Code.{code_of}
 use Rattle.refusal.specs.declared.Refusal.{Refusal}
@@ -9,8 +9,7 @@ use Rattle.stream_spec.specs.declared.Shape.{Shape}
 use Rattle.stream_spec.specs.Layout.{records}
 use Rattle.stream_spec.specs.Checks.{length_check, take_checks, each, transfer_faults, room_check}
 use Rattle.stream_spec.specs.Memory.{in_front}
-use Rattle.merge_spec.specs.declared.Merged.{Merged}
-use Rattle.merge_spec.specs.declared.Merged.TheVariants.{Records, Refused}
+use Rattle.merge_spec.specs.declared.PortRefusal.{PortRefusal}
 use Rattle.merge_spec.specs.Merge.{high_tid, merged_records, merged}
 
 -- ---- refusals
@@ -43,15 +42,15 @@ merge_refusal s xs ys room =
 
 -- "An accepted writing call answers the number of records and leaves the output after them unchanged"; refused, "lent memory keeps its
 -- content" (01).
-abbrev pub merged_by : Option Named → ℕ → Merged
-merged_by (Some f) n = Refused f.port f.refusal
-merged_by None n = Records n
+abbrev pub merged_by : Option Named → ℕ → Result ℕ PortRefusal
+merged_by (Some f) n = Err (record { port = f.port; refusal = f.refusal })
+merged_by None n = Ok n
 
 abbrev pub lent_by : Option Named → List ℕ → List ℕ → List ℕ
 lent_by (Some f) result lent = lent
 lent_by None result lent = in_front result lent
 
-unfoldable pub merge_answer : Shape → List ℕ → List ℕ → ℕ → Merged
+unfoldable pub merge_answer : Shape → List ℕ → List ℕ → ℕ → Result ℕ PortRefusal
 merge_answer s xs ys room = merged_by (merge_refusal s xs ys room) (length (merged_records s xs ys))
 
 unfoldable pub merge_after : Shape → List ℕ → List ℕ → List ℕ → List ℕ
@@ -69,9 +68,9 @@ pub record Values : Type 0 where
 abbrev pub values : ℕ → ℕ → ℕ → ℕ → Values
 values refusal port place count = record { refusal = refusal; port = port; place = place; count = count }
 
-abbrev pub merged_values : Merged → Values
-merged_values (Records n) = values 0 0 0 n
-merged_values (Refused port r) = values (code_of r).0 port (code_of r).1 0
+abbrev pub merged_values : Result ℕ PortRefusal → Values
+merged_values (Ok n) = values 0 0 0 n
+merged_values (Err (record { port = port; refusal = r })) = values (code_of r).0 port (code_of r).1 0
 
 -- the same of the first refusal
 abbrev pub values_for : Option Named → ℕ → Values
@@ -81,7 +80,7 @@ values_for None n = values 0 0 0 n
 -- ---- the contract of the call: the answer is the definition's, with these numbers, and so is every octet of lent memory afterwards. The
 -- numbers are said through the checks and not through the answer, so that a wrong line of `merged_values` breaks the contract itself.
 
-pub record PortsMerged (s : Shape) (xs ys before after : List ℕ) (r : Merged) : Type 0 where
+pub record PortsMerged (s : Shape) (xs ys before after : List ℕ) (r : Result ℕ PortRefusal) : Type 0 where
   pub is : r ≡ merge_answer s xs ys (length before)
   pub shows : merged_values r ≡ values_for (merge_refusal s xs ys (length before)) (length (merged_records s xs ys))
   pub leaves : after ≡ merge_after s xs ys before

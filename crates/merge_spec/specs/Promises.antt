@@ -1,5 +1,5 @@
 -- What is proved of merging, a statement each. Words in quotes are T-08's (paper 02). The proofs are in proofs/Promises.
-use Rattle.std.specs.Prelude.{Bool, true, false, not, ◌||◌, cond, List, [], ◌∷◌, ◌++◌, map, ◌⊎◌, ◌↔◌, ◌≢◌, ◌≡◌, ℕ, ◌+◌, ◌*◌, ◌%◌, ◌≤◌, ◌<◌, length, get_or, take, drop, None, Some}
+use Rattle.std.specs.Prelude.{Bool, true, false, not, ◌||◌, cond, List, [], ◌∷◌, ◌++◌, map, ◌⊎◌, ◌↔◌, ◌≢◌, ◌≡◌, ℕ, ◌+◌, ◌*◌, ◌%◌, ◌≤◌, ◌<◌, length, get_or, take, drop, None, Some, Ok, Err}
 use Rattle.std.specs.Bool.{beq}
 use Rattle.refusal.specs.Checks.{first}
 use Rattle.refusal.specs.declared.Refusal.{Refusal}
@@ -9,7 +9,6 @@ use Rattle.stream_spec.specs.Layout.{tlast, size, at_width, records, record_coun
 use Rattle.stream_spec.specs.Checks.{length_check, take_checks, transfer_flags, field_fault, reserved_fault}
 use Rattle.stream_spec.specs.Legal.{Octets, Legal}
 use Rattle.stream_spec.specs.Demand3.{Call, CallsKeep, Part, whole, AllAccepted, results_joined, sum, Divides}
-use Rattle.merge_spec.specs.declared.Merged.TheVariants.{Records, Refused}
 use Rattle.merge_spec.specs.Turns.{into_first, passed, those}
 use Rattle.merge_spec.specs.Merge.{tid, restored, high_tid, low_tid, turns, merged_records, merged}
 use Rattle.merge_spec.specs.Answers.{port_checks, merge_answer, merge_after}
@@ -46,7 +45,7 @@ pub record Mergeable (s : Shape) (xs ys : List ℕ) (room : ℕ) : Type 0 where
 abbrev pub NothingRefused : Type 0
 NothingRefused =
     (s : Shape) (xs ys : List ℕ) (room : ℕ)
-    → (merge_answer s xs ys room ≡ Records (record_count s xs + record_count s ys)) ↔ Mergeable s xs ys room
+    → (merge_answer s xs ys room ≡ Ok (record_count s xs + record_count s ys)) ↔ Mergeable s xs ys room
 
 -- "1, 2 for port 0's list before port 1's, then port 0's records before port 1's with 3, 4, then 17 .., and ROOM last", each with the port
 -- that it names. A line for each: the port, what has passed before it, and what gives the refusal.
@@ -61,7 +60,7 @@ RefusedBy s xs ys room port r =
 abbrev pub RefusedInOrder : Type 0
 RefusedInOrder =
     (s : Shape) (xs ys : List ℕ) (room port : ℕ) (r : Refusal)
-    → (merge_answer s xs ys room ≡ Refused port r) ↔ RefusedBy s xs ys room port r
+    → (merge_answer s xs ys room ≡ Err (record { port = port; refusal = r })) ↔ RefusedBy s xs ys room port r
 
 -- 17: "for a TID of 128 or more in that record", with items or without, and "the record in its own list"; it has neither 3 nor 4, and
 -- nothing before it has a fault
@@ -78,12 +77,12 @@ HighBy s xs ys port k = ((port ≡ 0) × HighAt s xs k) ⊎ ((port ≡ 1) × All
 abbrev pub TagsExactly : Type 0
 TagsExactly =
     (s : Shape) (xs ys : List ℕ) (room port k : ℕ)
-    → (merge_answer s xs ys room ≡ Refused port (Tags k)) ↔ (Readable s xs ys × HighBy s xs ys port k)
+    → (merge_answer s xs ys room ≡ Err (record { port = port; refusal = (Tags k) })) ↔ (Readable s xs ys × HighBy s xs ys port k)
 
 -- "A refused call changes no octet of lent memory" (demand 1).
 abbrev pub MemoryKept : Type 0
 MemoryKept =
-    (s : Shape) (xs ys out : List ℕ) (port : ℕ) (r : Refusal) → merge_answer s xs ys (length out) ≡ Refused port r
+    (s : Shape) (xs ys out : List ℕ) (port : ℕ) (r : Refusal) → merge_answer s xs ys (length out) ≡ Err (record { port = port; refusal = r })
     → merge_after s xs ys out ≡ out
 
 -- ---- what is written
@@ -97,7 +96,7 @@ pub record BothWritten (s : Shape) (xs ys out : List ℕ) (n : ℕ) : Type 0 whe
   pub behind : drop (n * size s) (merge_after s xs ys out) ≡ drop (n * size s) out
 
 abbrev pub MergeWrites : Type 0
-MergeWrites = (s : Shape) (xs ys out : List ℕ) (n : ℕ) → merge_answer s xs ys (length out) ≡ Records n → BothWritten s xs ys out n
+MergeWrites = (s : Shape) (xs ys out : List ℕ) (n : ℕ) → merge_answer s xs ys (length out) ≡ Ok n → BothWritten s xs ys out n
 
 -- "Each port's records, its TIDs restored, are its share of the merged list in order": every octet of every record
 pub record SharesKept (s : Shape) (xs ys : List ℕ) : Type 0 where
@@ -105,7 +104,7 @@ pub record SharesKept (s : Shape) (xs ys : List ℕ) : Type 0 where
   pub second : map restored (those high_tid (records s (merged s xs ys))) ≡ records s ys
 
 abbrev pub Shares : Type 0
-Shares = (s : Shape) (xs ys : List ℕ) (room n : ℕ) → merge_answer s xs ys room ≡ Records n → SharesKept s xs ys
+Shares = (s : Shape) (xs ys : List ℕ) (room n : ℕ) → merge_answer s xs ys room ≡ Ok n → SharesKept s xs ys
 
 -- ---- turns, told of a list of records alone: whose a record is shows in its TID. `true` is port 1.
 
@@ -131,7 +130,7 @@ InTurns (r ∷ rs) = Next (turn_after r) rs × InTurns rs
 -- "Port 0 has the first turn", and all the others follow
 abbrev pub TakesTurns : Type 0
 TakesTurns =
-    (s : Shape) (xs ys : List ℕ) (room n : ℕ) → merge_answer s xs ys room ≡ Records n
+    (s : Shape) (xs ys : List ℕ) (room n : ℕ) → merge_answer s xs ys room ≡ Ok n
     → Next false (records s (merged s xs ys)) × InTurns (records s (merged s xs ys))
 
 -- And shares and turns leave no choice: records that have them are the merged list.
@@ -183,19 +182,19 @@ pub record TurnsTaken (s : Shape) (xs ys : List ℕ) : Type 0 where
   pub found : cut_turns (records s (merged s xs ys)) ≡ turns s xs ys
 
 abbrev pub FairTurns : Type 0
-FairTurns = (s : Shape) (xs ys : List ℕ) (room n : ℕ) → merge_answer s xs ys room ≡ Records n → TurnsTaken s xs ys
+FairTurns = (s : Shape) (xs ys : List ℕ) (room n : ℕ) → merge_answer s xs ys room ≡ Ok n → TurnsTaken s xs ys
 
 -- ---- "Demand 3 reads the merged list as one more legal stream."
 
 -- the octets of a take are octets, as those of any slice
 abbrev pub MergedLegal : Type 0
 MergedLegal =
-    (s : Shape) (xs ys : List ℕ) (room n : ℕ) → Octets xs → Octets ys → merge_answer s xs ys room ≡ Records n → Legal s (merged s xs ys)
+    (s : Shape) (xs ys : List ℕ) (room n : ℕ) → Octets xs → Octets ys → merge_answer s xs ys room ≡ Ok n → Legal s (merged s xs ys)
 
 -- both statements of demand 3, at the merged list: after any list of repacking calls that starts from it ..
 abbrev pub MergedCalls : Type 0
 MergedCalls =
-    (s : Shape) (xs ys : List ℕ) (room n : ℕ) → Octets xs → Octets ys → merge_answer s xs ys room ≡ Records n
+    (s : Shape) (xs ys : List ℕ) (room n : ℕ) → Octets xs → Octets ys → merge_answer s xs ys room ≡ Ok n
     → (cs : List Call) → CallsKeep (record { shape = s; octets = merged s xs ys }) cs
 
 -- .. and over any list of parts of it
@@ -205,7 +204,7 @@ pub record MergedJoin (s : Shape) (v : ℕ) (xs ys : List ℕ) (ps : List Part) 
 
 abbrev pub MergedParts : Type 0
 MergedParts =
-    (s : Shape) (xs ys : List ℕ) (room n : ℕ) → Octets xs → Octets ys → merge_answer s xs ys room ≡ Records n
+    (s : Shape) (xs ys : List ℕ) (room n : ℕ) → Octets xs → Octets ys → merge_answer s xs ys room ≡ Ok n
     → (v : ℕ) (ps : List Part) (ns : List ℕ) → whole ps ≡ merged s xs ys → AllAccepted s v ps ns → Divides s ps
     → MergedJoin s v xs ys ps ns
 
@@ -218,7 +217,7 @@ pub record PackedSplit (s : Shape) (v : ℕ) (xs ys : List ℕ) : Type 0 where
 
 abbrev pub PackedShares : Type 0
 PackedShares =
-    (s : Shape) (v : ℕ) (xs ys : List ℕ) (room n : ℕ) → merge_answer s xs ys room ≡ Records n → PackedSplit s v xs ys
+    (s : Shape) (v : ℕ) (xs ys : List ℕ) (room n : ℕ) → merge_answer s xs ys room ≡ Ok n → PackedSplit s v xs ys
 
 -- A merged list may be longer than a take, but no turn of it is. Turns, one or several at a time, packed apart and joined are its packed
 -- form: gs are the turns in groups.
@@ -230,4 +229,4 @@ pub record TurnsPack (s : Shape) (v : ℕ) (xs ys : List ℕ) : Type 0 where
 
 abbrev pub PackedTurns : Type 0
 PackedTurns =
-    (s : Shape) (v : ℕ) (xs ys : List ℕ) (room n : ℕ) → merge_answer s xs ys room ≡ Records n → TurnsPack s v xs ys
+    (s : Shape) (v : ℕ) (xs ys : List ℕ) (room n : ℕ) → merge_answer s xs ys room ≡ Ok n → TurnsPack s v xs ys

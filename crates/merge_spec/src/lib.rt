@@ -4,11 +4,9 @@
 
 use refusal::Refusal;
 
-// What merging answers.
-#[derive(Clone, Copy)]
-pub enum Merged {
-    // so many records stand at the front of the lent memory
-    Records(usize),
-    // nothing was written; the port that the refusal names, 0 or 1, and the refusal
-    Refused(u32, Refusal),
+// Why merging is refused: the port that the refusal names, 0 or 1, and the refusal.
+#[derive(Clone, Copy, Debug, PartialEq, Eq)]
+pub struct PortRefusal {
+    pub port: u32,
+    pub refusal: Refusal,
 }

@@ -7,7 +7,7 @@ ghost use Rattle.std.specs.Prelude.{◌≡◌};
 ghost use Rattle.refusal.specs.Code.{code_of};
 
 // One constructor for each line of the table. The place is a part of the constructors that have one.
-#[derive(Clone, Copy)]
+#[derive(Clone, Copy, Debug, PartialEq, Eq)]
 pub enum Refusal {
     // 1 WIDTH: a width is 0 or above 16
     Width,
@@ -47,7 +47,7 @@ pub enum Refusal {
 
 // What a refusal shows, in this order: its number in the table, its place (a record or a cycle), the handshake rule.
 // What it does not have is 0.
-#[derive(Clone, Copy)]
+#[derive(Clone, Copy, Debug, PartialEq, Eq)]
 pub struct Code(pub u32, pub usize, pub u32);
 
 // The numbers of a refusal.

@@ -1,13 +1,13 @@
 -- Every worked case holds: antt computes what the grammar says of each sheet and what that shows, and compares both with
 -- what was typed from paper 01. Assumes nothing.
+use Rattle.std.specs.Prelude.{Option}
 use mathlib.Core.List.{List, map}
 use mathlib.Core.Path.{◌≡◌, refl}
-use Rattle.report_setup_spec.specs.declared.Sheet.{Sheet}
 use Rattle.report_setup_spec.specs.Grammar.{text, sheet_of}
 use Rattle.report_setup_spec.specs.Answers.{sheet_values}
 use Rattle.report_setup_spec.specs.Cases.{Told, Case, worked_cases}
 
-abbrev told : Sheet → Told
+abbrev told : Option Setup → Told
 told s = record { answer = s; shows = sheet_values s }
 
 abbrev pub AllHold : List Case → Type 0

@@ -14,8 +14,6 @@ use Rattle.report_setup_spec.specs.declared.Mode.TheVariants.{Pack, Lanes}
 use Rattle.report_setup_spec.specs.declared.Tlast.{Tlast}
 use Rattle.report_setup_spec.specs.declared.Tlast.TheVariants.{Wired, Absent, Low}
 use Rattle.report_setup_spec.specs.declared.Setup.{Setup}
-use Rattle.report_setup_spec.specs.declared.Sheet.{Sheet}
-use Rattle.report_setup_spec.specs.declared.Sheet.TheVariants.{Read, Refused}
 use Rattle.report_setup_spec.specs.Answers.{mode_word, tlast_word}
 use Rattle.report_setup_spec.specs.Promises.{numeral, DigitsExactly, NumbersExactly, WordsExactly, line_text, sheet_text, SheetsExactly}
 use Rattle.report_setup_spec.proofs.Digits.{both, digit-yes, digit_range}
@@ -244,14 +242,14 @@ word_line key spelling ws h xs l e =
     let p : (w : List ℕ) × (one_of ws w ≡ Some l.value) × (xs ≡ line_text key w l.rest) = line-only key (one_of ws) xs l e in
     p.2 ∙ ap (λ (w : List ℕ). line_text key w l.rest) (words_only spelling ws h p.0 l.value p.1)
 
-absurd_refused : {B : Type 0} {u : Setup} → ◌≡◌ {A = Sheet} Refused (Read u) → B
+absurd_refused : {B : Type 0} {u : Setup} → ◌≡◌ {A = Sheet} None (Some u) → B
 absurd_refused e = let z : ◌≡◌ {A = ℕ} 0 1 = cc in absurd (omega arith)
 
-line_taken : {A : Type 0} (o : Option (Line A)) (f : Line A → Sheet) (u : Setup) → on_line o f ≡ Read u → (l : Line A) × (o ≡ Some l) × (f l ≡ Read u)
+line_taken : {A : Type 0} (o : Option (Line A)) (f : Line A → Option Setup) (u : Setup) → on_line o f ≡ Some u → (l : Line A) × (o ≡ Some l) × (f l ≡ Some u)
 line_taken None f u e = absurd_refused e
 line_taken (Some l) f u e = (l, refl, e)
 
-ending-only : (r : List ℕ) (s u : Setup) → ending r (Read s) ≡ Read u → (r ≡ []) × (s ≡ u)
+ending-only : (r : List ℕ) (s u : Setup) → ending r (Some s) ≡ Some u → (r ≡ []) × (s ≡ u)
 ending-only [] s u e = (refl, cc)
 ending-only (x ∷ r) s u e = absurd_refused e
 
@@ -286,33 +284,33 @@ assembled xs a b m t u e f g h i j =
     )
 
 -- what `sheet_of` goes on with after each line
-abbrev after_fifth : Line ℕ → Line ℕ → Line Mode → Line Tlast → Line ℕ → Sheet
-after_fifth a b m t u = ending u.rest (Read (said a b m t u))
+abbrev after_fifth : Line ℕ → Line ℕ → Line Mode → Line Tlast → Line ℕ → Option Setup
+after_fifth a b m t u = ending u.rest (Some (said a b m t u))
 
-abbrev after_fourth : Line ℕ → Line ℕ → Line Mode → Line Tlast → Sheet
+abbrev after_fourth : Line ℕ → Line ℕ → Line Mode → Line Tlast → Option Setup
 after_fourth a b m t = on_line (line_of (text "user=") digit t.rest) (after_fifth a b m t)
 
-abbrev after_third : Line ℕ → Line ℕ → Line Mode → Sheet
+abbrev after_third : Line ℕ → Line ℕ → Line Mode → Option Setup
 after_third a b m = on_line (line_of (text "tlast=") (one_of tlasts) m.rest) (after_fourth a b m)
 
-abbrev after_second : Line ℕ → Line ℕ → Sheet
+abbrev after_second : Line ℕ → Line ℕ → Option Setup
 after_second a b = on_line (line_of (text "mode=") (one_of modes) b.rest) (after_third a b)
 
-abbrev after_first : Line ℕ → Sheet
+abbrev after_first : Line ℕ → Option Setup
 after_first a = on_line (line_of (text "width_out=") number a.rest) (after_second a)
 
-sheets_only : (xs : List ℕ) (u : Setup) → sheet_of xs ≡ Read u → Exact xs u
+sheets_only : (xs : List ℕ) (u : Setup) → sheet_of xs ≡ Some u → Exact xs u
 unfolding sheet_of
 sheets_only xs u e =
-    let a : (l : Line ℕ) × (line_of (text "width_in=") number xs ≡ Some l) × (after_first l ≡ Read u) =
+    let a : (l : Line ℕ) × (line_of (text "width_in=") number xs ≡ Some l) × (after_first l ≡ Some u) =
     line_taken (line_of (text "width_in=") number xs) after_first u e in
-    let b : (l : Line ℕ) × (line_of (text "width_out=") number a.0.rest ≡ Some l) × (after_second a.0 l ≡ Read u) =
+    let b : (l : Line ℕ) × (line_of (text "width_out=") number a.0.rest ≡ Some l) × (after_second a.0 l ≡ Some u) =
     line_taken (line_of (text "width_out=") number a.0.rest) (after_second a.0) u a.2 in
-    let m : (l : Line Mode) × (line_of (text "mode=") (one_of modes) b.0.rest ≡ Some l) × (after_third a.0 b.0 l ≡ Read u) =
+    let m : (l : Line Mode) × (line_of (text "mode=") (one_of modes) b.0.rest ≡ Some l) × (after_third a.0 b.0 l ≡ Some u) =
     line_taken (line_of (text "mode=") (one_of modes) b.0.rest) (after_third a.0 b.0) u b.2 in
-    let t : (l : Line Tlast) × (line_of (text "tlast=") (one_of tlasts) m.0.rest ≡ Some l) × (after_fourth a.0 b.0 m.0 l ≡ Read u) =
+    let t : (l : Line Tlast) × (line_of (text "tlast=") (one_of tlasts) m.0.rest ≡ Some l) × (after_fourth a.0 b.0 m.0 l ≡ Some u) =
     line_taken (line_of (text "tlast=") (one_of tlasts) m.0.rest) (after_fourth a.0 b.0 m.0) u m.2 in
-    let v : (l : Line ℕ) × (line_of (text "user=") digit t.0.rest ≡ Some l) × (after_fifth a.0 b.0 m.0 t.0 l ≡ Read u) =
+    let v : (l : Line ℕ) × (line_of (text "user=") digit t.0.rest ≡ Some l) × (after_fifth a.0 b.0 m.0 t.0 l ≡ Some u) =
     line_taken (line_of (text "user=") digit t.0.rest) (after_fifth a.0 b.0 m.0 t.0) u t.2 in
     let n : (v.0.rest ≡ []) × (said a.0 b.0 m.0 t.0 v.0 ≡ u) =
     ending-only v.0.rest (said a.0 b.0 m.0 t.0 v.0) u v.2 in
@@ -374,7 +372,7 @@ tlast-each r Wired = refl
 tlast-each r Absent = refl
 tlast-each r Low = refl
 
-sheets_each : (u : Setup) → u.width_in ≤ 99 → u.width_out ≤ 99 → u.user ≤ 9 → sheet_of (sheet_text u) ≡ Read u
+sheets_each : (u : Setup) → u.width_in ≤ 99 → u.width_out ≤ 99 → u.user ≤ 9 → sheet_of (sheet_text u) ≡ Some u
 unfolding sheet_of
 sheets_each u h k l =
     let fifth : List ℕ = line_text (text "user=") (numeral u.user) [] in

@@ -11,7 +11,6 @@ use Rattle.report_setup_spec.specs.declared.Mode.TheVariants.{Pack, Lanes}
 use Rattle.report_setup_spec.specs.declared.Tlast.{Tlast}
 use Rattle.report_setup_spec.specs.declared.Tlast.TheVariants.{Wired, Absent, Low}
 use Rattle.report_setup_spec.specs.declared.Setup.{Setup}
-use Rattle.report_setup_spec.specs.declared.Sheet.TheVariants.{Read}
 use Rattle.report_setup_spec.specs.Grammar.{text, digit, number, one_of, tlasts, sheet_of}
 use Rattle.report_setup_spec.proofs.Promises.{digits_exactly, numbers_exactly, words_exactly, sheets_exactly}
 
@@ -65,21 +64,21 @@ only_none value e = words_exactly.only value Absent e
 abbrev setup : ℕ → ℕ → Mode → Tlast → ℕ → Setup
 setup a b m t u = record { width_in = a; width_out = b; mode = m; tlast = t; user = u }
 
-pub low-high : sheet_of (text "width_in=0\nwidth_out=99\nmode=pack\ntlast=wired\nuser=0\n") ≡ Read (setup 0 99 Pack Wired 0)
+pub low-high : sheet_of (text "width_in=0\nwidth_out=99\nmode=pack\ntlast=wired\nuser=0\n") ≡ Some (setup 0 99 Pack Wired 0)
 low-high = sheets_exactly.each (setup 0 99 Pack Wired 0) (omega arith) (omega arith) (omega arith)
 
-pub high-low : sheet_of (text "width_in=99\nwidth_out=0\nmode=lanes\ntlast=none\nuser=9\n") ≡ Read (setup 99 0 Lanes Absent 9)
+pub high-low : sheet_of (text "width_in=99\nwidth_out=0\nmode=lanes\ntlast=none\nuser=9\n") ≡ Some (setup 99 0 Lanes Absent 9)
 high-low = sheets_exactly.each (setup 99 0 Lanes Absent 9) (omega arith) (omega arith) (omega arith)
 
-pub low_word : sheet_of (text "width_in=4\nwidth_out=2\nmode=pack\ntlast=low\nuser=4\n") ≡ Read (setup 4 2 Pack Low 4)
+pub low_word : sheet_of (text "width_in=4\nwidth_out=2\nmode=pack\ntlast=low\nuser=4\n") ≡ Some (setup 4 2 Pack Low 4)
 low_word = sheets_exactly.each (setup 4 2 Pack Low 4) (omega arith) (omega arith) (omega arith)
 
 -- whatever is read has widths of at most 99 and at most 9 user bits, and two sheets that say the same are the same octets
-pub widths : (xs : List ℕ) (u : Setup) → sheet_of xs ≡ Read u → (u.width_in ≤ 99) × (u.width_out ≤ 99)
+pub widths : (xs : List ℕ) (u : Setup) → sheet_of xs ≡ Some u → (u.width_in ≤ 99) × (u.width_out ≤ 99)
 widths xs u e = let p = sheets_exactly.only xs u e in (p.0, p.1)
 
-pub user-bits : (xs : List ℕ) (u : Setup) → sheet_of xs ≡ Read u → u.user ≤ 9
+pub user-bits : (xs : List ℕ) (u : Setup) → sheet_of xs ≡ Some u → u.user ≤ 9
 user-bits xs u e = (sheets_exactly.only xs u e).2
 
-pub one-sheet : (xs ys : List ℕ) (u : Setup) → sheet_of xs ≡ Read u → sheet_of ys ≡ Read u → xs ≡ ys
+pub one-sheet : (xs ys : List ℕ) (u : Setup) → sheet_of xs ≡ Some u → sheet_of ys ≡ Some u → xs ≡ ys
 one-sheet xs ys u e f = (sheets_exactly.only xs u e).3 ∙ sym (sheets_exactly.only ys u f).3

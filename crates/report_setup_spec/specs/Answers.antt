@@ -1,14 +1,12 @@
 -- What `parse` answers, as paper 01's number and values: "If an answer is an enum, a definition lists this paper's number and
 -- values for each of its cases, and the promises use that definition." What the answer is, is Grammar's `sheet_of`.
-use Rattle.std.specs.Prelude.{List, [], ◌≡◌, ℕ}
+use Rattle.std.specs.Prelude.{List, [], ◌≡◌, ℕ, Option, Some, None}
 use Rattle.refusal.specs.Code.{code_of}
 use Rattle.refusal.specs.declared.Refusal.TheVariants.{Setup as BadSheet}
 use Rattle.report_setup_spec.specs.declared.Mode.{Mode}
 use Rattle.report_setup_spec.specs.declared.Mode.TheVariants.{Pack, Lanes}
 use Rattle.report_setup_spec.specs.declared.Tlast.{Tlast}
 use Rattle.report_setup_spec.specs.declared.Tlast.TheVariants.{Wired, Absent, Low}
-use Rattle.report_setup_spec.specs.declared.Sheet.{Sheet}
-use Rattle.report_setup_spec.specs.declared.Sheet.TheVariants.{Read, Refused}
 use Rattle.report_setup_spec.specs.Grammar.{text, sheet_of}
 
 -- a mode and a TLAST wire as the sheet spells them
@@ -30,12 +28,12 @@ pub record Values : Type 0 where
   pub tlast : List ℕ
   pub user : ℕ
 
-abbrev pub sheet_values : Sheet → Values
-sheet_values (Read u) =
+abbrev pub sheet_values : Option Setup → Values
+sheet_values (Some u) =
     record { refusal = 0; width_in = u.width_in; width_out = u.width_out; mode = mode_word u.mode; tlast = tlast_word u.tlast; user = u.user }
-sheet_values Refused = record { refusal = (code_of BadSheet).0; width_in = 0; width_out = 0; mode = []; tlast = []; user = 0 }
+sheet_values None = record { refusal = (code_of BadSheet).0; width_in = 0; width_out = 0; mode = []; tlast = []; user = 0 }
 
 -- the contract of `parse`: the answer is the grammar's, with 01's number and values for it
-pub record Parsed (sheet : List ℕ) (r : Sheet) : Type 0 where
+pub record Parsed (sheet : List ℕ) (r : Option Setup) : Type 0 where
   pub is : r ≡ sheet_of sheet
   pub shows : sheet_values r ≡ sheet_values (sheet_of sheet)

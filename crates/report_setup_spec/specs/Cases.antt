@@ -1,20 +1,18 @@
 -- Worked cases of the grammar: sheets, and what they say, typed from papers 01 and 02 and never computed. One statement covers the
 -- list (`worked` of proofs/Cases). A text ends where its quote does: every LF is written out.
 -- Each has an id (W01 and on) by which docs/PROMISES.md may cite it: a new case takes the next free one, and none is given twice.
-use Rattle.std.specs.Prelude.{List, [], ◌∷◌, ℕ}
+use Rattle.std.specs.Prelude.{List, [], ◌∷◌, ℕ, Option, Some, None}
 use Prim.Native.String.{String}
 use Rattle.report_setup_spec.specs.declared.Mode.{Mode}
 use Rattle.report_setup_spec.specs.declared.Mode.TheVariants.{Pack, Lanes}
 use Rattle.report_setup_spec.specs.declared.Tlast.{Tlast}
 use Rattle.report_setup_spec.specs.declared.Tlast.TheVariants.{Wired, Absent, Low}
-use Rattle.report_setup_spec.specs.declared.Sheet.{Sheet}
-use Rattle.report_setup_spec.specs.declared.Sheet.TheVariants.{Read, Refused}
 use Rattle.report_setup_spec.specs.Grammar.{text}
 use Rattle.report_setup_spec.specs.Answers.{Values}
 
 -- an answer, and the numbers and words that it shows
 pub record Told : Type 0 where
-  pub answer : Sheet
+  pub answer : Option Setup
   pub shows : Values
 
 pub record Case : Type 0 where
@@ -30,11 +28,11 @@ reads sheet a b m mode t tlast user =
     record {
       sheet = sheet;
       told =
-          record { answer = Read (record { width_in = a; width_out = b; mode = m; tlast = t; user = user }); shows = shown 0 a b mode tlast user };
+          record { answer = Some (record { width_in = a; width_out = b; mode = m; tlast = t; user = user }); shows = shown 0 a b mode tlast user };
     }
 
 abbrev refused : String → Case
-refused sheet = record { sheet = sheet; told = record { answer = Refused; shows = shown 15 0 0 "" "" 0 } }
+refused sheet = record { sheet = sheet; told = record { answer = None; shows = shown 15 0 0 "" "" 0 } }
 
 unfoldable pub worked_cases : List Case
 worked_cases =

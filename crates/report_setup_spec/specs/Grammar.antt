@@ -11,8 +11,6 @@ use Rattle.report_setup_spec.specs.declared.Mode.{Mode}
 use Rattle.report_setup_spec.specs.declared.Mode.TheVariants.{Pack, Lanes}
 use Rattle.report_setup_spec.specs.declared.Tlast.{Tlast}
 use Rattle.report_setup_spec.specs.declared.Tlast.TheVariants.{Wired, Absent, Low}
-use Rattle.report_setup_spec.specs.declared.Sheet.{Sheet}
-use Rattle.report_setup_spec.specs.declared.Sheet.TheVariants.{Read, Refused}
 
 -- ---- texts
 
@@ -114,20 +112,20 @@ tlasts = word "wired" Wired ∷ word "none" Absent ∷ word "low" Low ∷ []
 
 -- ---- the sheet
 
-abbrev pub on_line : {A : Type 0} → Option (Line A) → (Line A → Sheet) → Sheet
-on_line None f = Refused
+abbrev pub on_line : {A : Type 0} → Option (Line A) → (Line A → Option Setup) → Option Setup
+on_line None f = None
 on_line (Some l) f = f l
 
 -- nothing stands after the last LF
-abbrev pub ending : List ℕ → Sheet → Sheet
+abbrev pub ending : List ℕ → Option Setup → Option Setup
 ending [] s = s
-ending (x ∷ xs) s = Refused
+ending (x ∷ xs) s = None
 
-unfoldable pub sheet_of : List ℕ → Sheet
+unfoldable pub sheet_of : List ℕ → Option Setup
 sheet_of xs =
     on_line (line_of (text "width_in=") number xs) (λ (a : Line ℕ).
     on_line (line_of (text "width_out=") number a.rest) (λ (b : Line ℕ).
     on_line (line_of (text "mode=") (one_of modes) b.rest) (λ (m : Line Mode).
     on_line (line_of (text "tlast=") (one_of tlasts) m.rest) (λ (t : Line Tlast).
     on_line (line_of (text "user=") digit t.rest) (λ (u : Line ℕ).
-    ending u.rest (Read (record { width_in = a.value; width_out = b.value; mode = m.value; tlast = t.value; user = u.value })))))))
+    ending u.rest (Some (record { width_in = a.value; width_out = b.value; mode = m.value; tlast = t.value; user = u.value })))))))

@@ -2,7 +2,6 @@
 use Rattle.std.specs.Prelude.{cond, List, [], ◌∷◌, ◌++◌, ◌↔◌, ◌≢◌, ◌≡◌, ℕ, ◌+◌, ◌/◌, ◌%◌, ◌≤◌, ltb, None, Some}
 use Rattle.report_setup_spec.specs.declared.Tlast.{Tlast}
 use Rattle.report_setup_spec.specs.declared.Setup.{Setup}
-use Rattle.report_setup_spec.specs.declared.Sheet.TheVariants.{Read}
 use Rattle.report_setup_spec.specs.Grammar.{text, digit, number, one_of, tlasts, sheet_of}
 use Rattle.report_setup_spec.specs.Answers.{Values, tlast_word, sheet_values}
 
@@ -40,11 +39,11 @@ values_text v =
     (line_text (text "mode=") v.mode (line_text (text "tlast=") v.tlast (line_text (text "user=") (numeral v.user) []))))
 
 abbrev pub sheet_text : Setup → List ℕ
-sheet_text u = values_text (sheet_values (Read u))
+sheet_text u = values_text (sheet_values (Some u))
 
 -- each setup with widths from 0 to 99 and user bits from 0 to 9 is read from its text; and a sheet that is read is the text of what it says, octet for
 -- octet, so that nothing else is read
 pub record SheetsExactly : Type 0 where
-  pub each : (u : Setup) → u.width_in ≤ 99 → u.width_out ≤ 99 → u.user ≤ 9 → sheet_of (sheet_text u) ≡ Read u
-  pub only : (xs : List ℕ) (u : Setup) → sheet_of xs ≡ Read u
+  pub each : (u : Setup) → u.width_in ≤ 99 → u.width_out ≤ 99 → u.user ≤ 9 → sheet_of (sheet_text u) ≡ Some u
+  pub only : (xs : List ℕ) (u : Setup) → sheet_of xs ≡ Some u
       → (u.width_in ≤ 99) × (u.width_out ≤ 99) × (u.user ≤ 9) × (xs ≡ sheet_text u)

@@ -5,7 +5,7 @@
 // `mode=pack`: repacking. `mode=lanes`: lane-keeping downsizing.
 #![tactic(auto)]
 
-#[derive(Clone, Copy)]
+#[derive(Clone, Copy, Debug, PartialEq, Eq)]
 pub enum Mode {
     Pack,
     Lanes,
@@ -13,7 +13,7 @@ pub enum Mode {
 
 // `tlast=wired`: TLAST is as sampled. The port has no such wire with the two others, and TLAST is filled in first: high with
 // `tlast=none`, low with `tlast=low`.
-#[derive(Clone, Copy)]
+#[derive(Clone, Copy, Debug, PartialEq, Eq)]
 pub enum Tlast {
     Wired,
     Absent,
@@ -22,18 +22,11 @@ pub enum Tlast {
 
 // What a sheet says. The widths are as written, 0 to 99, and so are the user bits to a byte, 0 to 9: which of them are allowed is
 // decided in the crate report_call.
-#[derive(Clone, Copy)]
+#[derive(Clone, Copy, Debug, PartialEq, Eq)]
 pub struct Setup {
     pub width_in: usize,
     pub width_out: usize,
     pub mode: Mode,
     pub tlast: Tlast,
     pub user: usize,
-}
-
-// A sheet that was read, or one that is not as paper 01 has it.
-#[derive(Clone, Copy)]
-pub enum Sheet {
-    Read(Setup),
-    Refused,
 }

@@ -1,7 +1,7 @@
 -- Converting the harvested transfers, in either mode: what its answer says of the refusal and of the result's length, and the
 -- result of records that all have TLAST.
 -- Assumes nothing.
-use Rattle.std.specs.Prelude.{Option, None, Some}
+use Rattle.std.specs.Prelude.{Option, None, Some, Ok, Err}
 use mathlib.Core.Path.{◌≡◌, refl, sym, ap, ap₂, ◌∙◌, subst}
 use mathlib.Core.List.{List, [], ◌∷◌, ◌++◌, map, append-nil}
 use Prim.Native.Nat.{ℕ, ◌*◌, ◌≤◌}
@@ -11,7 +11,6 @@ use lib.ListN.{length}
 use Rattle.refusal.specs.declared.Refusal.{Refusal}
 use Rattle.refusal.proofs.First.{first-none, append-none}
 use Rattle.stream_spec.specs.declared.Shape.{Shape}
-use Rattle.stream_spec.specs.declared.Written.TheVariants.{Records, Refused as NotWritten}
 use Rattle.stream_spec.specs.Layout.{size, at_width, records, joined, transfer_of, transfers, octets, packed_transfers, packed, sliced, sliced_transfers}
 use Rattle.stream_spec.specs.Checks.{shape_checks, ratio_check, length_check, transfer_checks, room_check}
 use Rattle.stream_spec.specs.Answers.{written, repack_refusal, repack_answer, downsize_refusal, downsize_answer}
@@ -81,7 +80,7 @@ each-converted Lanes s v rs z h =
 
 -- ---- what an answer says
 
-pub not_written : (o : Option Refusal) (n : ℕ) (r : Refusal) → NotWritten r ≡ written o n → o ≡ Some r
+pub not_written : (o : Option Refusal) (n : ℕ) (r : Refusal) → Err r ≡ written o n → o ≡ Some r
 not_written None n r e = let z : ◌≡◌ {A = ℕ} 0 1 = cc in absurd (omega arith)
 not_written (Some q) n r e = cc
 
@@ -89,6 +88,6 @@ pub record IsWritten (o : Option Refusal) (m n : ℕ) : Type 0 where
   pub accepted : o ≡ None
   pub count : m ≡ n
 
-pub is-written : (o : Option Refusal) (n m : ℕ) → Records m ≡ written o n → IsWritten o m n
+pub is-written : (o : Option Refusal) (n m : ℕ) → Ok m ≡ written o n → IsWritten o m n
 is-written None n m e = record { accepted = refl; count = cc }
 is-written (Some q) n m e = let z : ◌≡◌ {A = ℕ} 0 1 = cc in absurd (omega arith)

@@ -1,5 +1,5 @@
 -- Every statement of specs/Promises, proved. Assumes nothing.
-use Rattle.std.specs.Prelude.{Option, None, Some}
+use Rattle.std.specs.Prelude.{Option, None, Some, Result, Ok, Err}
 use mathlib.Core.Path.{◌≡◌, refl, sym, ap, ◌∙◌, subst}
 use mathlib.Core.Bool.{Bool, true, false, cond}
 use mathlib.Core.Logic.{◌≢◌}
@@ -15,9 +15,7 @@ use Rattle.refusal.specs.declared.Refusal.{Refusal}
 use Rattle.refusal.specs.declared.Refusal.TheVariants.{Length, Room, Setup as BadSheet}
 use Rattle.stream_spec.specs.declared.Shape.{Shape}
 use Rattle.stream_spec.specs.declared.Verdict.{Verdict as Judgement}
-use Rattle.stream_spec.specs.declared.Verdict.TheVariants.{Clean as Sound, Broken as Breaks, Refused as NotJudged}
-use Rattle.stream_spec.specs.declared.Written.{Written}
-use Rattle.stream_spec.specs.declared.Written.TheVariants.{Records, Refused as NotWritten}
+use Rattle.stream_spec.specs.declared.Verdict.TheVariants.{Clean as Sound, Broken as Breaks}
 use Rattle.stream_spec.specs.Layout.{bit_of, size, at_width, records, record_count, joined, stream_items, packed, sliced}
 use Rattle.refusal.specs.Checks.{Check, first}
 use Rattle.stream_spec.specs.Checks.{capture_most, ratio_check, length_check, cycle_checks, transfer_checks, room_check}
@@ -38,11 +36,9 @@ use Rattle.report_setup_spec.specs.declared.Mode.{Mode}
 use Rattle.report_setup_spec.specs.declared.Mode.TheVariants.{Pack, Lanes}
 use Rattle.report_setup_spec.specs.declared.Tlast.{Tlast}
 use Rattle.report_setup_spec.specs.declared.Tlast.TheVariants.{Wired, Absent, Low}
-use Rattle.report_setup_spec.specs.declared.Sheet.{Sheet}
-use Rattle.report_setup_spec.specs.declared.Sheet.TheVariants.{Read, Refused as NoSheet}
 use Rattle.report_setup_spec.specs.Grammar.{sheet_of, text as ascii}
 use Rattle.report_spec.specs.declared.Tally.{Tally}
-use Rattle.report_spec.specs.declared.Verdict.TheVariants.{Clean, Broken, Refused}
+use Rattle.report_spec.specs.declared.Verdict.TheVariants.{Clean, Broken}
 use Rattle.report_spec.specs.Report.{Outcome, shape_of, out_shape, prepared, cycles_of, transfers_of, lasts, packet_count, convert_answer, convert_result, tally, converted, converted_transfers, after_judging, capture_outcome, ratio_checks, setup_checks, Passes, unless, setup_outcome, sheet_outcome, outcome_of, Whole, whole, report_of}
 use Rattle.report_spec.specs.Promises.{OctetsOf, ReportsSetup, is_clean, OnlyWhenClean, CleanTally, CleanTallies, sampled_at, result_by, TlastNone, TlastLow, LeastRecords, ArchivesReported, may_show, RefusalsShown, NeverReservedNorUnclean, PackNeverRatio, ordered_checks, converted_of, tally_of, in_order, ReportInOrder, TextShort}
 use Rattle.report_spec.proofs.Passes.{sound_in, sound_out, sound-user, sound-ratio, fits_out}
@@ -52,21 +48,21 @@ use Rattle.report_spec.proofs.Short.{two-short, three_short}
 
 pub reports_setup : ReportsSetup
 unfolding report_of
-reports_setup sheet u e capture room = ap (λ (s : Sheet). whole (sheet_outcome s capture room)) e
+reports_setup sheet u e capture room = ap (λ (s : Option Setup). whole (sheet_outcome s capture room)) e
 
 -- ---- nothing is written unless the verdict is clean
 
 abbrev Quiet : Outcome → Type 0
 Quiet o = is_clean o.verdict ≡ false → o.result ≡ []
 
-quiet_converted : (w : Written) (n p : ℕ) (result : List ℕ) → Quiet (converted w n p result)
-quiet_converted (NotWritten r) n p result e = refl
-quiet_converted (Records m) n p result e = let z : ◌≡◌ {A = ℕ} 0 1 = cc in absurd (omega arith)
+quiet_converted : (w : Result ℕ Refusal) (n p : ℕ) (result : List ℕ) → Quiet (converted w n p result)
+quiet_converted (Err r) n p result e = refl
+quiet_converted (Ok m) n p result e = let z : ◌≡◌ {A = ℕ} 0 1 = cc in absurd (omega arith)
 
-quiet_judged : (j : Judgement) (next : ℕ → Outcome) → ((n : ℕ) → Quiet (next n)) → Quiet (after_judging j next)
-quiet_judged (NotJudged r) next h e = refl
-quiet_judged (Breaks cycle rule) next h e = refl
-quiet_judged (Sound n) next h e = h n e
+quiet_judged : (j : Result Judgement Refusal) (next : ℕ → Outcome) → ((n : ℕ) → Quiet (next n)) → Quiet (after_judging j next)
+quiet_judged (Err r) next h e = refl
+quiet_judged (Ok (Breaks cycle rule)) next h e = refl
+quiet_judged (Ok (Sound n)) next h e = h n e
 
 quiet_capture : (u : Setup) (capture : Option (List ℕ)) (room : ℕ) → Quiet (capture_outcome u capture room)
 quiet_capture u None room e = refl
@@ -80,9 +76,9 @@ quiet_unless : (o : Option Refusal) (next : Outcome) → Quiet next → Quiet (u
 quiet_unless (Some r) next h e = refl
 quiet_unless None next h e = h e
 
-quiet_sheet : (s : Sheet) (capture : Option (List ℕ)) (room : ℕ) → Quiet (sheet_outcome s capture room)
-quiet_sheet NoSheet capture room e = refl
-quiet_sheet (Read u) capture room e = quiet_unless (first (setup_checks u)) (capture_outcome u capture room) (quiet_capture u capture room) e
+quiet_sheet : (s : Option Setup) (capture : Option (List ℕ)) (room : ℕ) → Quiet (sheet_outcome s capture room)
+quiet_sheet None capture room e = refl
+quiet_sheet (Some u) capture room e = quiet_unless (first (setup_checks u)) (capture_outcome u capture room) (quiet_capture u capture room) e
 
 quiet : (sheet capture : Option (List ℕ)) (room : ℕ) → Quiet (outcome_of sheet capture room)
 quiet None capture room e = refl
@@ -102,7 +98,7 @@ prepared-octets Low s xs h = filled-octets low s xs h
 
 -- ---- a clean take's transfers: converting them is refused for want of room, and for nothing else
 
-module _ (u : Setup) (p : Passes u) (capture : List ℕ) (o : Octets capture) (n : ℕ) (clean : judge_answer (shape_of u) (cycles_of u capture) ≡ Sound n) where
+module _ (u : Setup) (p : Passes u) (capture : List ℕ) (o : Octets capture) (n : ℕ) (clean : judge_answer (shape_of u) (cycles_of u capture) ≡ Ok (Sound n)) where
   abbrev s : Shape
   s = shape_of u
 
@@ -164,7 +160,7 @@ abbrev AllShow : Mode → List (Check Refusal) → Type 0
 AllShow m [] = Unit {0}
 AllShow m (c ∷ cs) = (may_show m (code_of c.gives).0 ≡ true) × AllShow m cs
 
-same-refusal : (m : Mode) (q r : Refusal) → Refused q ≡ Refused r → may_show m (code_of q).0 ≡ true → may_show m (code_of r).0 ≡ true
+same-refusal : (m : Mode) (q r : Refusal) → Err q ≡ Err r → may_show m (code_of q).0 ≡ true → may_show m (code_of r).0 ≡ true
 same-refusal m q r e h = let same : q ≡ r = cc in subst (λ (x : Refusal). may_show m (code_of x).0 ≡ true) same h
 
 first-shows : (m : Mode) (cs : List (Check Refusal)) → AllShow m cs → (r : Refusal) → first cs ≡ Some r → may_show m (code_of r).0 ≡ true
@@ -189,12 +185,12 @@ cycles_show : (m : Mode) (s : Shape) (k : ℕ) (rs : List (List ℕ)) → AllSho
 cycles_show m s k [] = tt
 cycles_show m s k (r ∷ rs) = (refl, cycles_show m s (suc k) rs)
 
-not_judged : (o : Option Refusal) (f : Option Finding) (n : ℕ) (r : Refusal) → verdict o f n ≡ NotJudged r → o ≡ Some r
+not_judged : (o : Option Refusal) (f : Option Finding) (n : ℕ) (r : Refusal) → verdict o f n ≡ Err r → o ≡ Some r
 not_judged (Some q) f n r e = cc
 not_judged None (Some f) n r e = let z : ◌≡◌ {A = ℕ} 0 1 = cc in absurd (omega arith)
 not_judged None None n r e = let z : ◌≡◌ {A = ℕ} 0 1 = cc in absurd (omega arith)
 
-judge-shows : (m : Mode) (s : Shape) (xs : List ℕ) (r : Refusal) → judge_answer s xs ≡ NotJudged r → may_show m (code_of r).0 ≡ true
+judge-shows : (m : Mode) (s : Shape) (xs : List ℕ) (r : Refusal) → judge_answer s xs ≡ Err r → may_show m (code_of r).0 ≡ true
 unfolding judge_answer
 judge-shows m s xs r e =
     first-shows m (judge_checks s xs) (refl, (refl, (refl, cycles_show m s 0 (records s xs)))) r
@@ -205,12 +201,12 @@ room-shows m true r e = let same : Room ≡ r = cc in subst (λ (x : Refusal). m
 room-shows m false r e = let z : ◌≡◌ {A = ℕ} 0 1 = cc in absurd (omega arith)
 
 module _ (u : Setup) (p : Passes u) (capture : List ℕ) (o : Octets capture) (room : ℕ) (r : Refusal) where
-  shown-converted : (n : ℕ) → judge_answer (shape_of u) (cycles_of u capture) ≡ Sound n
-      → (w : Written) → convert_answer u.mode (shape_of u) u.width_out (transfers_of u capture) room ≡ w
-      → (converted w n (packet_count (shape_of u) (transfers_of u capture)) (convert_result u.mode (shape_of u) u.width_out (transfers_of u capture))).verdict ≡ Refused r
+  shown-converted : (n : ℕ) → judge_answer (shape_of u) (cycles_of u capture) ≡ Ok (Sound n)
+      → (w : Result ℕ Refusal) → convert_answer u.mode (shape_of u) u.width_out (transfers_of u capture) room ≡ w
+      → (converted w n (packet_count (shape_of u) (transfers_of u capture)) (convert_result u.mode (shape_of u) u.width_out (transfers_of u capture))).verdict ≡ Err r
       → may_show u.mode (code_of r).0 ≡ true
-  shown-converted n clean (Records m) e h = let z : ◌≡◌ {A = ℕ} 0 1 = cc in absurd (omega arith)
-  shown-converted n clean (NotWritten q) e h =
+  shown-converted n clean (Ok m) e h = let z : ◌≡◌ {A = ℕ} 0 1 = cc in absurd (omega arith)
+  shown-converted n clean (Err q) e h =
       let m = u.mode in
       let ts = transfers_of u capture in
       let found =
@@ -220,15 +216,15 @@ module _ (u : Setup) (p : Passes u) (capture : List ℕ) (o : Octets capture) (r
       (room-shows m (ltb room (length (convert_result m (shape_of u) u.width_out ts))) q
       (sym (only-room u p capture o n clean m (sound-ratio u p) room) ∙ found))
 
-  shown_judged : (j : Judgement) → judge_answer (shape_of u) (cycles_of u capture) ≡ j
-      → (after_judging j (converted_transfers u (transfers_of u capture) room)).verdict ≡ Refused r → may_show u.mode (code_of r).0 ≡ true
-  shown_judged (NotJudged q) e h = same-refusal u.mode q r h (judge-shows u.mode (shape_of u) (cycles_of u capture) q e)
-  shown_judged (Breaks cycle rule) e h = let z : ◌≡◌ {A = ℕ} 0 1 = cc in absurd (omega arith)
-  shown_judged (Sound n) e h =
+  shown_judged : (j : Result Judgement Refusal) → judge_answer (shape_of u) (cycles_of u capture) ≡ j
+      → (after_judging j (converted_transfers u (transfers_of u capture) room)).verdict ≡ Err r → may_show u.mode (code_of r).0 ≡ true
+  shown_judged (Err q) e h = same-refusal u.mode q r h (judge-shows u.mode (shape_of u) (cycles_of u capture) q e)
+  shown_judged (Ok (Breaks cycle rule)) e h = let z : ◌≡◌ {A = ℕ} 0 1 = cc in absurd (omega arith)
+  shown_judged (Ok (Sound n)) e h =
       shown-converted n e (convert_answer u.mode (shape_of u) u.width_out (transfers_of u capture) room) refl h
 
 shown-capture : (u : Setup) → Passes u → (capture : Option (List ℕ)) (room : ℕ) (r : Refusal) → OctetsOf capture
-    → (capture_outcome u capture room).verdict ≡ Refused r → may_show u.mode (code_of r).0 ≡ true
+    → (capture_outcome u capture room).verdict ≡ Err r → may_show u.mode (code_of r).0 ≡ true
 shown-capture u p None room r o e = same-refusal u.mode Length r e refl
 shown-capture u p (Some capture) room r o e =
     shown_judged u p capture o room r (judge_answer (shape_of u) (cycles_of u capture)) refl e
@@ -236,7 +232,7 @@ shown-capture u p (Some capture) room r o e =
 pub refusals_shown : RefusalsShown
 refusals_shown u capture room r o e = go (first (setup_checks u)) refl e
   where
-    go : (f : Option Refusal) → first (setup_checks u) ≡ f → (unless f (capture_outcome u capture room)).verdict ≡ Refused r → may_show u.mode (code_of r).0 ≡ true
+    go : (f : Option Refusal) → first (setup_checks u) ≡ f → (unless f (capture_outcome u capture room)).verdict ≡ Err r → may_show u.mode (code_of r).0 ≡ true
     go None k h = shown-capture u k capture room r o h
     go (Some q) k h = same-refusal u.mode q r h (first-shows u.mode (setup_checks u) (setup_shows u) q k)
 
@@ -257,15 +253,15 @@ never_14 : (m : Mode) → may_show m 14 ≡ false
 never_14 Pack = refl
 never_14 Lanes = refl
 
-bad-sheet : (r : Refusal) → Refused BadSheet ≡ Refused r → ((code_of r).0 ≢ 4) × ((code_of r).0 ≢ 14)
+bad-sheet : (r : Refusal) → Err BadSheet ≡ Err r → ((code_of r).0 ≢ 4) × ((code_of r).0 ≢ 14)
 bad-sheet r e =
     let same : BadSheet ≡ r = cc in
     subst (λ (x : Refusal). ((code_of x).0 ≢ 4) × ((code_of x).0 ≢ 14)) same (eqb-false 15 4 refl, eqb-false 15 14 refl)
 
-never : (s : Sheet) (capture : Option (List ℕ)) (room : ℕ) (r : Refusal) → OctetsOf capture → (sheet_outcome s capture room).verdict ≡ Refused r
+never : (s : Option Setup) (capture : Option (List ℕ)) (room : ℕ) (r : Refusal) → OctetsOf capture → (sheet_outcome s capture room).verdict ≡ Err r
     → ((code_of r).0 ≢ 4) × ((code_of r).0 ≢ 14)
-never NoSheet capture room r o e = bad-sheet r e
-never (Read u) capture room r o e =
+never None capture room r o e = bad-sheet r e
+never (Some u) capture room r o e =
     let shown = refusals_shown u capture room r o e in
     (hidden u.mode (code_of r).0 4 (never_4 u.mode) shown, hidden u.mode (code_of r).0 14 (never_14 u.mode) shown)
 
@@ -285,31 +281,31 @@ pack_never_ratio sheet u e m capture room r o h =
 record Reached (u : Setup) (capture : List ℕ) (room : ℕ) (t : Tally) : Type 0 where
   passes : Passes u
   count : ℕ
-  clean : judge_answer (shape_of u) (cycles_of u capture) ≡ Sound count
+  clean : judge_answer (shape_of u) (cycles_of u capture) ≡ Ok (Sound count)
   number : ℕ
-  wrote : convert_answer u.mode (shape_of u) u.width_out (transfers_of u capture) room ≡ Records number
+  wrote : convert_answer u.mode (shape_of u) u.width_out (transfers_of u capture) room ≡ Ok number
   is : t ≡ tally count (packet_count (shape_of u) (transfers_of u capture)) number
 
 module _ (u : Setup) (capture : List ℕ) (room : ℕ) (t : Tally) (p : Passes u) where
-  reached_converted : (n : ℕ) → judge_answer (shape_of u) (cycles_of u capture) ≡ Sound n
-      → (w : Written) → convert_answer u.mode (shape_of u) u.width_out (transfers_of u capture) room ≡ w
-      → (converted w n (packet_count (shape_of u) (transfers_of u capture)) (convert_result u.mode (shape_of u) u.width_out (transfers_of u capture))).verdict ≡ Clean t
+  reached_converted : (n : ℕ) → judge_answer (shape_of u) (cycles_of u capture) ≡ Ok (Sound n)
+      → (w : Result ℕ Refusal) → convert_answer u.mode (shape_of u) u.width_out (transfers_of u capture) room ≡ w
+      → (converted w n (packet_count (shape_of u) (transfers_of u capture)) (convert_result u.mode (shape_of u) u.width_out (transfers_of u capture))).verdict ≡ Ok (Clean t)
       → Reached u capture room t
-  reached_converted n clean (NotWritten q) e h = let z : ◌≡◌ {A = ℕ} 0 1 = cc in absurd (omega arith)
-  reached_converted n clean (Records m) e h =
+  reached_converted n clean (Err q) e h = let z : ◌≡◌ {A = ℕ} 0 1 = cc in absurd (omega arith)
+  reached_converted n clean (Ok m) e h =
       record { passes = p; count = n; clean = clean; number = m; wrote = e; is = cc }
 
-  reached_judged : (j : Judgement) → judge_answer (shape_of u) (cycles_of u capture) ≡ j
-      → (after_judging j (converted_transfers u (transfers_of u capture) room)).verdict ≡ Clean t → Reached u capture room t
-  reached_judged (NotJudged q) e h = let z : ◌≡◌ {A = ℕ} 0 1 = cc in absurd (omega arith)
-  reached_judged (Breaks cycle rule) e h = let z : ◌≡◌ {A = ℕ} 0 1 = cc in absurd (omega arith)
-  reached_judged (Sound n) e h =
+  reached_judged : (j : Result Judgement Refusal) → judge_answer (shape_of u) (cycles_of u capture) ≡ j
+      → (after_judging j (converted_transfers u (transfers_of u capture) room)).verdict ≡ Ok (Clean t) → Reached u capture room t
+  reached_judged (Err q) e h = let z : ◌≡◌ {A = ℕ} 0 1 = cc in absurd (omega arith)
+  reached_judged (Ok (Breaks cycle rule)) e h = let z : ◌≡◌ {A = ℕ} 0 1 = cc in absurd (omega arith)
+  reached_judged (Ok (Sound n)) e h =
       reached_converted n e (convert_answer u.mode (shape_of u) u.width_out (transfers_of u capture) room) refl h
 
-reached : (u : Setup) (capture : List ℕ) (room : ℕ) (t : Tally) → (setup_outcome u (Some capture) room).verdict ≡ Clean t → Reached u capture room t
+reached : (u : Setup) (capture : List ℕ) (room : ℕ) (t : Tally) → (setup_outcome u (Some capture) room).verdict ≡ Ok (Clean t) → Reached u capture room t
 reached u capture room t e = go (first (setup_checks u)) refl e
   where
-    go : (f : Option Refusal) → first (setup_checks u) ≡ f → (unless f (capture_outcome u (Some capture) room)).verdict ≡ Clean t → Reached u capture room t
+    go : (f : Option Refusal) → first (setup_checks u) ≡ f → (unless f (capture_outcome u (Some capture) room)).verdict ≡ Ok (Clean t) → Reached u capture room t
     go None k h = reached_judged u capture room t k (judge_answer (shape_of u) (cycles_of u capture)) refl h
     go (Some q) k h = let z : ◌≡◌ {A = ℕ} 0 1 = cc in absurd (omega arith)
 
@@ -320,8 +316,8 @@ module _ (u : Setup) (capture : List ℕ) (room : ℕ) (t : Tally) (r : Reached 
   result-is : (setup_outcome u (Some capture) room).result ≡ result
   result-is =
       ap (λ (f : Option Refusal). (unless f (capture_outcome u (Some capture) room)).result) r.passes
-      ∙ ap (λ (j : Judgement). (after_judging j (converted_transfers u (transfers_of u capture) room)).result) r.clean
-      ∙ ap (λ (w : Written). (converted w r.count (packet_count (shape_of u) (transfers_of u capture)) result).result) r.wrote
+      ∙ ap (λ (j : Result Judgement Refusal). (after_judging j (converted_transfers u (transfers_of u capture) room)).result) r.clean
+      ∙ ap (λ (w : Result ℕ Refusal). (converted w r.count (packet_count (shape_of u) (transfers_of u capture)) result).result) r.wrote
 
   wrote_is : IsWritten (convert_refusal u.mode (shape_of u) u.width_out (transfers_of u capture) room) r.number
       (convert_count u.mode (shape_of u) u.width_out (transfers_of u capture))
@@ -422,7 +418,7 @@ tlast_low u capture room t w e =
 pub least_records : LeastRecords
 least_records u capture room t m e ys l same =
     let r = reached u capture room t e in
-    let packs : repack_answer (shape_of u) u.width_out (transfers_of u capture) room ≡ Records r.number =
+    let packs : repack_answer (shape_of u) u.width_out (transfers_of u capture) room ≡ Ok r.number =
     sym (ap (λ (x : Mode). convert_answer x (shape_of u) u.width_out (transfers_of u capture) room) m) ∙ r.wrote in
     omega (
       arith,
@@ -443,7 +439,7 @@ archives_reported u capture room t m o e v w d a =
     let ts = transfers_of u capture in
     let alike = archives_repack (shape_of u) v ts w d (legal u r.passes capture o r.count r.clean) (short u r.passes capture o r.count r.clean) a u.width_out in
     let long : length (replicate {A = ℕ} room 0) ≡ room = length-replicate {A = ℕ} room 0 in
-    let packs : repack_answer (shape_of u) u.width_out ts room ≡ Records r.number =
+    let packs : repack_answer (shape_of u) u.width_out ts room ≡ Ok r.number =
     sym (ap (λ (x : Mode). convert_answer x (shape_of u) u.width_out ts room) m) ∙ r.wrote in
     let accepted : repack_refusal (shape_of u) u.width_out ts room ≡ None =
     sym (ap (λ (x : Mode). convert_refusal x (shape_of u) u.width_out ts room) m) ∙ (wrote_is u capture room t r).accepted in
@@ -454,7 +450,7 @@ archives_reported u capture room t m o e v w d a =
           sym (ap (repack_answer (at_width (shape_of u) v) u.width_out (sliced (shape_of u) v ts)) long)
           ∙ (alike (replicate {A = ℕ} room 0)).answers
           ∙ ap (repack_answer (shape_of u) u.width_out ts) long
-          ∙ packs ∙ ap (λ (x : Tally). Records x.records) (sym r.is);
+          ∙ packs ∙ ap (λ (x : Tally). Ok x.records) (sym r.is);
       leaves = λ lent k.
           (alike lent).leaves
           ∙ accepted_front (shape_of u) u.width_out ts lent (ap (repack_refusal (shape_of u) u.width_out ts) k ∙ accepted)
@@ -473,7 +469,7 @@ settles None None n next o t h = h refl refl
 -- what converting leaves to be seen
 ends_in : (o : Option Refusal) (n p m k : ℕ) (result : List ℕ) → m ≡ k → (converted (written o m) n p result).verdict ≡ in_order None None o (tally n p k)
 ends_in (Some r) n p m k result e = refl
-ends_in None n p m k result e = ap (λ (x : ℕ). Clean (tally n p x)) e
+ends_in None n p m k result e = ap (λ (x : ℕ). Ok (Clean (tally n p x))) e
 
 result_count : (m : Mode) (s : Shape) (v : ℕ) (xs : List ℕ) → convert_count m s v xs ≡ length (records (at_width s v) (convert_result m s v xs))
 result_count m s v xs =
@@ -496,11 +492,11 @@ module _ (u : Setup) (capture : List ℕ) (o : Octets capture) (room : ℕ) wher
   unfolding judge_answer
   judge-is p = rw (sound_in u p, sound-user u p) refl
 
-  room-last : Passes u → (n : ℕ) → judge_answer (shape_of u) cycles ≡ Sound n
+  room-last : Passes u → (n : ℕ) → judge_answer (shape_of u) cycles ≡ Ok (Sound n)
       → (converted_transfers u (transfers_of u capture) room n).verdict ≡ in_order None None roomy (tally n (packet_count (shape_of u) (transfers_of u capture)) (length (records (out_shape u) (converted_of u capture))))
   room-last p n clean =
       let ts = transfers_of u capture in
-      ap (λ (w : Written). (converted w n (packet_count (shape_of u) ts) (converted_of u capture)).verdict)
+      ap (λ (w : Result ℕ Refusal). (converted w n (packet_count (shape_of u) ts) (converted_of u capture)).verdict)
       (answer-is u.mode (shape_of u) u.width_out ts room
       ∙ ap (λ (x : Option Refusal). written x (convert_count u.mode (shape_of u) u.width_out ts)) (only-room u p capture o n clean u.mode (sound-ratio u p) room))
       ∙ ends_in roomy n (packet_count (shape_of u) ts) (convert_count u.mode (shape_of u) u.width_out ts) (length (records (out_shape u) (converted_of u capture)))
@@ -510,7 +506,7 @@ module _ (u : Setup) (capture : List ℕ) (o : Octets capture) (room : ℕ) wher
       → (unless f (capture_outcome u (Some capture) room)).verdict ≡ in_order (first (ordered_checks u cycles)) (first_finding (shape_of u) cycles) roomy (tally_of u capture)
   in_order_lem (Some r) k = ap (λ (x : Option Refusal). in_order x (first_finding (shape_of u) cycles) roomy (tally_of u capture)) (sym (append-found (setup_checks u) left r k))
   in_order_lem None k =
-      ap (λ (j : Judgement). (after_judging j (converted_transfers u (transfers_of u capture) room)).verdict) (judge-is k)
+      ap (λ (j : Result Judgement Refusal). (after_judging j (converted_transfers u (transfers_of u capture) room)).verdict) (judge-is k)
       ∙ settles (first left) (first_finding (shape_of u) cycles) (transfer_count (shape_of u) cycles) (converted_transfers u (transfers_of u capture) room) roomy (tally_of u capture)
       (λ a b. room-last k (transfer_count (shape_of u) cycles)
       (judge-is k ∙ ap (λ (x : Option Refusal). verdict x (first_finding (shape_of u) cycles) (transfer_count (shape_of u) cycles)) a
@@ -523,9 +519,9 @@ report_in_order u capture room o = in_order_lem u capture o room (first (setup_c
 -- ---- the longest text
 
 pub text_short : TextShort
-text_short (Clean t) h =
+text_short (Ok (Clean t)) h =
     three_short (ascii "verdict=clean\n") (ascii "transfers=") (ascii "packets=") (ascii "records=") t.transfers t.packets t.records h.0 h.1 h.2
-text_short (Broken cycle rule) h =
+text_short (Ok (Broken cycle rule)) h =
     le_trans (two-short (ascii "verdict=broken\n") (ascii "cycle=") (ascii "rule=") cycle rule h.0 h.1) (omega arith)
-text_short (Refused r) h =
+text_short (Err r) h =
     le_trans (two-short (ascii "verdict=refused\n") (ascii "refusal=") (ascii "at=") (code_of r).0 (code_of r).1 h.0 h.1) (omega arith)

@@ -1,7 +1,7 @@
 -- The statements of specs/Promises put to use: truth tables of what they ask, each promise at its widest with its premises
 -- written out, and at examples typed by hand. A premise that is narrowed, or a conclusion that says less, breaks one.
 -- Assumes nothing.
-use Rattle.std.specs.Prelude.{Option, None, Some}
+use Rattle.std.specs.Prelude.{Option, None, Some, Result, Ok, Err}
 use mathlib.Core.Path.{◌≡◌, refl, sym, ap, ◌∙◌}
 use mathlib.Core.Bool.{Bool, true, false}
 use mathlib.Core.List.{List, [], ◌∷◌, ◌++◌, map}
@@ -13,8 +13,6 @@ use lib.ListN.{length, replicate}
 use Rattle.refusal.specs.Code.{code_of}
 use Rattle.refusal.specs.declared.Refusal.{Refusal}
 use Rattle.refusal.specs.declared.Refusal.TheVariants.{Field, Reserved, Room, Ratio, Unclean}
-use Rattle.stream_spec.specs.declared.Written.{Written}
-use Rattle.stream_spec.specs.declared.Written.TheVariants.{Records}
 use Rattle.stream_spec.specs.Layout.{size, shaped, at_width, records, stream_items, sliced as cut}
 use Rattle.refusal.specs.Checks.{first}
 use Rattle.stream_spec.specs.Checks.{capture_most, room_check}
@@ -29,11 +27,10 @@ use Rattle.report_setup_spec.specs.declared.Mode.{Mode}
 use Rattle.report_setup_spec.specs.declared.Mode.TheVariants.{Pack, Lanes}
 use Rattle.report_setup_spec.specs.declared.Tlast.{Tlast}
 use Rattle.report_setup_spec.specs.declared.Tlast.TheVariants.{Wired, Absent, Low}
-use Rattle.report_setup_spec.specs.declared.Sheet.TheVariants.{Read, Refused as NoSheet}
 use Rattle.report_setup_spec.specs.Grammar.{sheet_of}
 use Rattle.report_setup_spec.specs.Answers.{sheet_values}
 use Rattle.report_spec.specs.declared.Tally.{Tally}
-use Rattle.report_spec.specs.declared.Verdict.TheVariants.{Clean, Broken, Refused}
+use Rattle.report_spec.specs.declared.Verdict.TheVariants.{Clean, Broken}
 use Rattle.report_spec.specs.Report.{shape_of, out_shape, cycles_of, transfers_of, tally, setup_outcome, sheet_outcome, verdict_values, text_of, whole, report_of}
 use Rattle.report_spec.specs.Promises.{OctetsOf, is_clean, CleanTally, OnePacketEach, NoPacketEnds, may_show, ordered_checks, converted_of, tally_of, in_order}
 use Rattle.report_spec.specs.Cases.{says, p1_sheet, p1_take, p1_result, p1_tagged, p1_tagged_result, p1_low, p1_slices, cycle}
@@ -42,7 +39,7 @@ use Rattle.report_spec.proofs.Promises.{reports_setup, only_when_clean, clean_ta
 -- ---- what the promises ask
 
 pub clean-table : (t : Tally) (cycle rule : ℕ) (r : Refusal)
-    → map is_clean (Clean t ∷ Broken cycle rule ∷ Refused r ∷ []) ≡ true ∷ false ∷ false ∷ []
+    → map is_clean (Ok (Clean t) ∷ Ok (Broken cycle rule) ∷ Err r ∷ []) ≡ true ∷ false ∷ false ∷ []
 clean-table t cycle rule r = refl
 
 -- 1 to 20, as far as paper 01 and the requests count; 6 is the one that the mode decides
@@ -67,39 +64,39 @@ read-octets capture o = o
 
 -- a sheet that is refused shows the number that the report shows for it
 pub sheet-number : (capture : Option (List ℕ)) (room : ℕ)
-    → (verdict_values (sheet_outcome NoSheet capture room).verdict).refusal ≡ (sheet_values NoSheet).refusal
+    → (verdict_values (sheet_outcome None capture room).verdict).refusal ≡ (sheet_values None).refusal
 sheet-number capture room = refl
 
 -- ---- at their widest
 
 module _ (sheet capture : Option (List ℕ)) (room : ℕ) where
-  pub broken_keeps : (cycle rule : ℕ) → (report_of sheet capture room).verdict ≡ Broken cycle rule
+  pub broken_keeps : (cycle rule : ℕ) → (report_of sheet capture room).verdict ≡ Ok (Broken cycle rule)
       → (out : List ℕ) → in_front (report_of sheet capture room).result out ≡ out
   broken_keeps cycle rule e = (only_when_clean sheet capture room (ap is_clean e)).kept
 
-  pub refused-nothing : (r : Refusal) → (report_of sheet capture room).verdict ≡ Refused r → (report_of sheet capture room).result ≡ []
+  pub refused-nothing : (r : Refusal) → (report_of sheet capture room).verdict ≡ Err r → (report_of sheet capture room).result ≡ []
   refused-nothing r e = (only_when_clean sheet capture room (ap is_clean e)).nothing
 
   module _ (o : OctetsOf capture) where
-    pub never_reserved : (k : ℕ) → (report_of sheet capture room).verdict ≡ Refused (Reserved k) → ⊥
+    pub never_reserved : (k : ℕ) → (report_of sheet capture room).verdict ≡ Err (Reserved k) → ⊥
     never_reserved k e = (never_reserved_nor_unclean sheet capture room (Reserved k) o e).0 refl
 
-    pub never_unclean : (k rule : ℕ) → (report_of sheet capture room).verdict ≡ Refused (Unclean k rule) → ⊥
+    pub never_unclean : (k rule : ℕ) → (report_of sheet capture room).verdict ≡ Err (Unclean k rule) → ⊥
     never_unclean k rule e = (never_reserved_nor_unclean sheet capture room (Unclean k rule) o e).1 refl
 
 pub never_hidden : (u : Setup) (capture : Option (List ℕ)) (room : ℕ) (r : Refusal) → OctetsOf capture → may_show u.mode (code_of r).0 ≡ false
-    → (setup_outcome u capture room).verdict ≡ Refused r → ⊥
+    → (setup_outcome u capture room).verdict ≡ Err r → ⊥
 never_hidden u capture room r o h e = no (sym h ∙ refusals_shown u capture room r o e)
 
-module _ (sheet : List ℕ) (u : Setup) (e : sheet_of sheet ≡ Read u) (capture : Option (List ℕ)) (room : ℕ) where
+module _ (sheet : List ℕ) (u : Setup) (e : sheet_of sheet ≡ Some u) (capture : Option (List ℕ)) (room : ℕ) where
   pub reads_setup : report_of (Some sheet) capture room ≡ whole (setup_outcome u capture room)
   reads_setup = reports_setup sheet u e capture room
 
-  pub pack-no-ratio : u.mode ≡ Pack → OctetsOf capture → (report_of (Some sheet) capture room).verdict ≡ Refused Ratio → ⊥
+  pub pack-no-ratio : u.mode ≡ Pack → OctetsOf capture → (report_of (Some sheet) capture room).verdict ≡ Err Ratio → ⊥
   pack-no-ratio m o h = pack_never_ratio sheet u e m capture room Ratio o h refl
 
 -- without a TLAST wire the transfers are those of the take as it was sampled, whatever level is filled in
-module _ (u : Setup) (capture : List ℕ) (room : ℕ) (t : Tally) (clean : (setup_outcome u (Some capture) room).verdict ≡ Clean t) where
+module _ (u : Setup) (capture : List ℕ) (room : ℕ) (t : Tally) (clean : (setup_outcome u (Some capture) room).verdict ≡ Ok (Clean t)) where
   pub none_sampled : u.tlast ≡ Absent → t.packets ≡ transfer_count (shape_of u) capture
   none_sampled e = let p = tlast_none u capture room t e clean in p.packets ∙ p.transfers
 
@@ -117,24 +114,24 @@ module _ (u : Setup) (capture : List ℕ) (room : ℕ) (o : Octets capture) wher
   abbrev roomy : Option Refusal
   roomy = first (room_check (converted_of u capture) room ∷ [])
 
-  pub tests_first : (r : Refusal) → tests ≡ Some r → (setup_outcome u (Some capture) room).verdict ≡ Refused r
+  pub tests_first : (r : Refusal) → tests ≡ Some r → (setup_outcome u (Some capture) room).verdict ≡ Err r
   tests_first r e = report_in_order u capture room o ∙ ap (λ (x : Option Refusal). in_order x finding roomy (tally_of u capture)) e
 
   module _ (e : tests ≡ None) where
     passed : (setup_outcome u (Some capture) room).verdict ≡ in_order None finding roomy (tally_of u capture)
     passed = report_in_order u capture room o ∙ ap (λ (x : Option Refusal). in_order x finding roomy (tally_of u capture)) e
 
-    pub then_broken : (f : Finding) → finding ≡ Some f → (setup_outcome u (Some capture) room).verdict ≡ Broken f.cycle f.rule
+    pub then_broken : (f : Finding) → finding ≡ Some f → (setup_outcome u (Some capture) room).verdict ≡ Ok (Broken f.cycle f.rule)
     then_broken f h = passed ∙ ap (λ (x : Option Finding). in_order None x roomy (tally_of u capture)) h
 
     module _ (h : finding ≡ None) where
       sound : (setup_outcome u (Some capture) room).verdict ≡ in_order None None roomy (tally_of u capture)
       sound = passed ∙ ap (λ (x : Option Finding). in_order None x roomy (tally_of u capture)) h
 
-      pub room-last : (r : Refusal) → roomy ≡ Some r → (setup_outcome u (Some capture) room).verdict ≡ Refused r
+      pub room-last : (r : Refusal) → roomy ≡ Some r → (setup_outcome u (Some capture) room).verdict ≡ Err r
       room-last r k = sound ∙ ap (λ (x : Option Refusal). in_order None None x (tally_of u capture)) k
 
-      pub else_clean : roomy ≡ None → (setup_outcome u (Some capture) room).verdict ≡ Clean (tally_of u capture)
+      pub else_clean : roomy ≡ None → (setup_outcome u (Some capture) room).verdict ≡ Ok (Clean (tally_of u capture))
       else_clean k = sound ∙ ap (λ (x : Option Refusal). in_order None None x (tally_of u capture)) k
 
 -- ---- at examples: P1, a port without a TLAST wire, a take with a reserved lane, the longest text
@@ -195,7 +192,7 @@ p1-least = least_records p1 p1_take 18 (tally 1 1 2) refl refl p1_slices ((legal
 -- `LeastRecords` is this statement of `mode=pack`
 abbrev LeastIn : Mode → Type 0
 LeastIn m =
-    (u : Setup) (capture : List ℕ) (room : ℕ) (t : Tally) → u.mode ≡ m → (setup_outcome u (Some capture) room).verdict ≡ Clean t
+    (u : Setup) (capture : List ℕ) (room : ℕ) (t : Tally) → u.mode ≡ m → (setup_outcome u (Some capture) room).verdict ≡ Ok (Clean t)
     → (ys : List ℕ) → Legal (out_shape u) ys → stream_items (out_shape u) ys ≡ stream_items (shape_of u) (transfers_of u capture)
     → t.records ≤ length (records (out_shape u) ys)
 
@@ -219,7 +216,7 @@ not_in_lanes-mode least =
     omega arith
 
 -- P1's slices, an archived file, repacked to width 2: P1's records and its result, and the octet after it stays
-pub p1_archived : (repack_answer (shaped 2 0) 2 p1_slices 19 ≡ Records 2) × (repack_after (shaped 2 0) 2 p1_slices (replicate {A = ℕ} 19 0xEE) ≡ p1_result ++ (0xEE ∷ []))
+pub p1_archived : (repack_answer (shaped 2 0) 2 p1_slices 19 ≡ Ok 2) × (repack_after (shaped 2 0) 2 p1_slices (replicate {A = ℕ} 19 0xEE) ≡ p1_result ++ (0xEE ∷ []))
 unfolding size judge_answer repack_answer repack_after
 p1_archived =
     let k = archives_reported p1 p1_take 19 (tally 1 1 2) refl ((octets_tested p1_take).1 refl) refl 2 ((width_tested 2).1 refl) refl (lit≤ tt) in
@@ -231,18 +228,18 @@ p1_tagged_slices =
     0x00 ∷ 0x01 ∷ 0x02 ∷ 0x01 ∷ 0x00 ∷ 0x01 ∷ 0x00 ∷ 0x11 ∷ 0x00 ∷ 0x01
     ∷ 0x01 ∷ 0x01 ∷ 0x02 ∷ 0x03 ∷ 0x00 ∷ 0x02 ∷ 0x00 ∷ 0x00 ∷ 0x44 ∷ 0x0E ∷ []
 
-pub tagged_archived : (repack_answer (shaped 2 2) 2 p1_tagged_slices 20 ≡ Records 2) × (repack_after (shaped 2 2) 2 p1_tagged_slices (replicate {A = ℕ} 20 0xEE) ≡ p1_tagged_result)
+pub tagged_archived : (repack_answer (shaped 2 2) 2 p1_tagged_slices 20 ≡ Ok 2) × (repack_after (shaped 2 2) 2 p1_tagged_slices (replicate {A = ℕ} 20 0xEE) ≡ p1_tagged_result)
 unfolding size judge_answer repack_answer repack_after
 tagged_archived =
     let k = archives_reported p1_user p1_tagged 20 (tally 1 1 2) refl ((octets_tested p1_tagged).1 refl) refl 2 ((width_tested 2).1 refl) refl (lit≤ tt) in
     (k.answers, k.leaves (replicate {A = ℕ} 20 0xEE) refl)
 
 -- at its widest, of the contract of the call: whatever it answers and leaves for the slices are the `records` and the result of the report
-pub as_reported : (u : Setup) (capture : List ℕ) (room : ℕ) (t : Tally) → u.mode ≡ Pack → Octets capture → (setup_outcome u (Some capture) room).verdict ≡ Clean t
+pub as_reported : (u : Setup) (capture : List ℕ) (room : ℕ) (t : Tally) → u.mode ≡ Pack → Octets capture → (setup_outcome u (Some capture) room).verdict ≡ Ok (Clean t)
     → (v : ℕ) → Width v → u.width_in % v ≡ 0 → length (cut (shape_of u) v (transfers_of u capture)) ≤ capture_most
-    → (before after : List ℕ) (r : Written) → length before ≡ room
+    → (before after : List ℕ) (r : Result ℕ Refusal) → length before ≡ room
     → Repacked (at_width (shape_of u) v) u.width_out (cut (shape_of u) v (transfers_of u capture)) before after r
-    → (r ≡ Records t.records) × (after ≡ in_front (setup_outcome u (Some capture) room).result before)
+    → (r ≡ Ok t.records) × (after ≡ in_front (setup_outcome u (Some capture) room).result before)
 as_reported u capture room t m o e v w d a before after r n p =
     let k = archives_reported u capture room t m o e v w d a in
     (p.is ∙ ap (repack_answer (at_width (shape_of u) v) u.width_out (cut (shape_of u) v (transfers_of u capture))) n ∙ k.answers, p.leaves ∙ k.leaves before n)
@@ -267,11 +264,11 @@ broken_unwritten = (only_when_clean narrow (Some (cycle 0x0E 0 0 1)) 65536 refl)
 abbrev most : ℕ
 most = 18446744073709551615
 
-pub longest : length (text_of (Clean (tally most most most))) ≤ 103
-longest = text_short (Clean (tally most most most)) (omega arith, omega arith, omega arith)
+pub longest : length (text_of (Ok (Clean (tally most most most)))) ≤ 103
+longest = text_short (Ok (Clean (tally most most most))) (omega arith, omega arith, omega arith)
 
-pub longest-broken : length (text_of (Broken most most)) ≤ 103
-longest-broken = text_short (Broken most most) (omega arith, omega arith)
+pub longest-broken : length (text_of (Ok (Broken most most))) ≤ 103
+longest-broken = text_short (Ok (Broken most most)) (omega arith, omega arith)
 
-pub longest-refused : length (text_of (Refused (Field most))) ≤ 103
-longest-refused = text_short (Refused (Field most)) (omega arith, omega arith)
+pub longest-refused : length (text_of (Err (Field most))) ≤ 103
+longest-refused = text_short (Err (Field most)) (omega arith, omega arith)

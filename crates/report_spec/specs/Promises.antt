@@ -1,9 +1,8 @@
 -- What is proved of the report, a statement each. Words in quotes are paper 01's or, where it is said, a request's of paper 02.
 -- The proofs are in proofs/Promises.
-use Rattle.std.specs.Prelude.{◌≡◌, Bool, true, false, ◌||◌, List, [], ◌∷◌, ◌++◌, map, ◌≢◌, ℕ, ◌*◌, ◌%◌, ◌^◌, ◌≤◌, ◌<◌, eqb, length, Option, None, Some}
+use Rattle.std.specs.Prelude.{◌≡◌, Bool, true, false, ◌||◌, List, [], ◌∷◌, ◌++◌, map, ◌≢◌, ℕ, ◌*◌, ◌%◌, ◌^◌, ◌≤◌, ◌<◌, eqb, length, Option, None, Some, Ok, Result, Err}
 use Rattle.refusal.specs.Code.{code_of}
 use Rattle.refusal.specs.declared.Refusal.{Refusal}
-use Rattle.stream_spec.specs.declared.Written.TheVariants.{Records}
 use Rattle.stream_spec.specs.Layout.{size, at_width, records, joined, stream_items, sliced}
 use Rattle.refusal.specs.Checks.{Check, first}
 use Rattle.stream_spec.specs.Checks.{length_check, cycle_checks, room_check}
@@ -16,11 +15,10 @@ use Rattle.report_setup_spec.specs.declared.Setup.{Setup}
 use Rattle.report_setup_spec.specs.declared.Mode.{Mode}
 use Rattle.report_setup_spec.specs.declared.Mode.TheVariants.{Pack, Lanes}
 use Rattle.report_setup_spec.specs.declared.Tlast.TheVariants.{Absent, Low}
-use Rattle.report_setup_spec.specs.declared.Sheet.TheVariants.{Read}
 use Rattle.report_setup_spec.specs.Grammar.{sheet_of}
 use Rattle.report_spec.specs.declared.Tally.{Tally}
 use Rattle.report_spec.specs.declared.Verdict.{Verdict}
-use Rattle.report_spec.specs.declared.Verdict.TheVariants.{Clean, Broken, Refused}
+use Rattle.report_spec.specs.declared.Verdict.TheVariants.{Clean, Broken}
 use Rattle.report_spec.specs.Report.{Word, says_clean, says_broken, says_refused, verdict_values, shape_of, out_shape, cycles_of, transfers_of, packet_count, convert_result, tally, setup_checks, setup_outcome, text_of, whole, report_of}
 
 -- every number of a take that could be read is an octet
@@ -31,7 +29,7 @@ OctetsOf (Some octets) = Octets octets
 -- what is reported of a sheet that was read
 abbrev pub ReportsSetup : Type 0
 ReportsSetup =
-    (sheet : List ℕ) (u : Setup) → sheet_of sheet ≡ Read u → (capture : Option (List ℕ)) (room : ℕ)
+    (sheet : List ℕ) (u : Setup) → sheet_of sheet ≡ Some u → (capture : Option (List ℕ)) (room : ℕ)
     → report_of (Some sheet) capture room ≡ whole (setup_outcome u capture room)
 
 -- ---- "`out.bin` is written only when the verdict is clean."
@@ -41,7 +39,7 @@ clean_word says_clean = true
 clean_word says_broken = false
 clean_word says_refused = false
 
-abbrev pub is_clean : Verdict → Bool
+abbrev pub is_clean : Result Verdict Refusal → Bool
 is_clean v = clean_word (verdict_values v).word
 
 -- unless the verdict is clean there is no result, and lent memory keeps its content
@@ -70,7 +68,7 @@ pub record CleanTally (u : Setup) (capture : List ℕ) (room : ℕ) (result : Li
 
 abbrev pub CleanTallies : Type 0
 CleanTallies =
-    (u : Setup) (capture : List ℕ) (room : ℕ) (t : Tally) → Octets capture → (setup_outcome u (Some capture) room).verdict ≡ Clean t
+    (u : Setup) (capture : List ℕ) (room : ℕ) (t : Tally) → Octets capture → (setup_outcome u (Some capture) room).verdict ≡ Ok (Clean t)
     → CleanTally u capture room (setup_outcome u (Some capture) room).result t
 
 -- ---- T-03: ports without a TLAST wire
@@ -92,7 +90,7 @@ pub record OnePacketEach (u : Setup) (capture result : List ℕ) (t : Tally) : T
 
 abbrev pub TlastNone : Type 0
 TlastNone =
-    (u : Setup) (capture : List ℕ) (room : ℕ) (t : Tally) → u.tlast ≡ Absent → (setup_outcome u (Some capture) room).verdict ≡ Clean t
+    (u : Setup) (capture : List ℕ) (room : ℕ) (t : Tally) → u.tlast ≡ Absent → (setup_outcome u (Some capture) room).verdict ≡ Ok (Clean t)
     → OnePacketEach u capture (setup_outcome u (Some capture) room).result t
 
 -- ".. count on low and pack across the whole take; they change to the new word `tlast=low`": the transfers are those that were
@@ -104,7 +102,7 @@ pub record NoPacketEnds (u : Setup) (capture result : List ℕ) (t : Tally) : Ty
 
 abbrev pub TlastLow : Type 0
 TlastLow =
-    (u : Setup) (capture : List ℕ) (room : ℕ) (t : Tally) → u.tlast ≡ Low → (setup_outcome u (Some capture) room).verdict ≡ Clean t
+    (u : Setup) (capture : List ℕ) (room : ℕ) (t : Tally) → u.tlast ≡ Low → (setup_outcome u (Some capture) room).verdict ≡ Ok (Clean t)
     → NoPacketEnds u capture (setup_outcome u (Some capture) room).result t
 
 -- ---- T-07: no shorter stream. With `mode=pack` the number that a report shows as `records` is at most that of every legal stream of
@@ -112,7 +110,7 @@ TlastLow =
 
 abbrev pub LeastRecords : Type 0
 LeastRecords =
-    (u : Setup) (capture : List ℕ) (room : ℕ) (t : Tally) → u.mode ≡ Pack → (setup_outcome u (Some capture) room).verdict ≡ Clean t
+    (u : Setup) (capture : List ℕ) (room : ℕ) (t : Tally) → u.mode ≡ Pack → (setup_outcome u (Some capture) room).verdict ≡ Ok (Clean t)
     → (ys : List ℕ) → Legal (out_shape u) ys → stream_items (out_shape u) ys ≡ stream_items (shape_of u) (transfers_of u capture)
     → t.records ≤ length (records (out_shape u) ys)
 
@@ -122,12 +120,12 @@ LeastRecords =
 -- The slices have to be as short as a take, since what is longer is refused with 2.
 
 pub record AsReported (u : Setup) (v : ℕ) (archived : List ℕ) (room : ℕ) (result : List ℕ) (t : Tally) : Type 0 where
-  pub answers : repack_answer (at_width (shape_of u) v) u.width_out archived room ≡ Records t.records
+  pub answers : repack_answer (at_width (shape_of u) v) u.width_out archived room ≡ Ok t.records
   pub leaves : (lent : List ℕ) → length lent ≡ room → repack_after (at_width (shape_of u) v) u.width_out archived lent ≡ in_front result lent
 
 abbrev pub ArchivesReported : Type 0
 ArchivesReported =
-    (u : Setup) (capture : List ℕ) (room : ℕ) (t : Tally) → u.mode ≡ Pack → Octets capture → (setup_outcome u (Some capture) room).verdict ≡ Clean t
+    (u : Setup) (capture : List ℕ) (room : ℕ) (t : Tally) → u.mode ≡ Pack → Octets capture → (setup_outcome u (Some capture) room).verdict ≡ Ok (Clean t)
     → (v : ℕ) → Width v → u.width_in % v ≡ 0 → length (sliced (shape_of u) v (transfers_of u capture)) ≤ 65536
     → AsReported u v (sliced (shape_of u) v (transfers_of u capture)) room (setup_outcome u (Some capture) room).result t
 
@@ -151,17 +149,17 @@ may_show m number = listed number (shown m)
 abbrev pub RefusalsShown : Type 0
 RefusalsShown =
     (u : Setup) (capture : Option (List ℕ)) (room : ℕ) (r : Refusal) → OctetsOf capture
-    → (setup_outcome u capture room).verdict ≡ Refused r → may_show u.mode (code_of r).0 ≡ true
+    → (setup_outcome u capture room).verdict ≡ Err r → may_show u.mode (code_of r).0 ≡ true
 
 abbrev pub NeverReservedNorUnclean : Type 0
 NeverReservedNorUnclean =
-    (sheet capture : Option (List ℕ)) (room : ℕ) (r : Refusal) → OctetsOf capture → (report_of sheet capture room).verdict ≡ Refused r
+    (sheet capture : Option (List ℕ)) (room : ℕ) (r : Refusal) → OctetsOf capture → (report_of sheet capture room).verdict ≡ Err r
     → ((code_of r).0 ≢ 4) × ((code_of r).0 ≢ 14)
 
 abbrev pub PackNeverRatio : Type 0
 PackNeverRatio =
-    (sheet : List ℕ) (u : Setup) → sheet_of sheet ≡ Read u → u.mode ≡ Pack
-    → (capture : Option (List ℕ)) (room : ℕ) (r : Refusal) → OctetsOf capture → (report_of (Some sheet) capture room).verdict ≡ Refused r → (code_of r).0 ≢ 6
+    (sheet : List ℕ) (u : Setup) → sheet_of sheet ≡ Some u → u.mode ≡ Pack
+    → (capture : Option (List ℕ)) (room : ℕ) (r : Refusal) → OctetsOf capture → (report_of (Some sheet) capture room).verdict ≡ Err r → (code_of r).0 ≢ 6
 
 -- ---- 01's order as one list: "WIDTH of either width, RATIO in lanes mode, LENGTH, FIELD, a broken verdict, and ROOM last",
 -- and T-06's USERBITS "straight after WIDTH". For a sheet and a take that were read, the verdict is the first of these that is there, or else clean.
@@ -178,11 +176,11 @@ tally_of u capture =
     tally (transfer_count (shape_of u) (cycles_of u capture)) (packet_count (shape_of u) (transfers_of u capture))
     (length (records (out_shape u) (converted_of u capture)))
 
-abbrev pub in_order : Option Refusal → Option Finding → Option Refusal → Tally → Verdict
-in_order (Some r) finding room t = Refused r
-in_order None (Some f) room t = Broken f.cycle f.rule
-in_order None None (Some r) t = Refused r
-in_order None None None t = Clean t
+abbrev pub in_order : Option Refusal → Option Finding → Option Refusal → Tally → Result Verdict Refusal
+in_order (Some r) finding room t = Err r
+in_order None (Some f) room t = Ok (Broken f.cycle f.rule)
+in_order None None (Some r) t = Err r
+in_order None None None t = Ok (Clean t)
 
 abbrev pub ReportInOrder : Type 0
 ReportInOrder =
@@ -193,10 +191,10 @@ ReportInOrder =
 
 -- ---- a text with numbers of 64 bits has at most 103 octets
 
-abbrev pub Fits64 : Verdict → Type 0
-Fits64 (Clean t) = (t.transfers < 2 ^ 64) × (t.packets < 2 ^ 64) × (t.records < 2 ^ 64)
-Fits64 (Broken cycle rule) = (cycle < 2 ^ 64) × (rule < 2 ^ 64)
-Fits64 (Refused r) = ((code_of r).0 < 2 ^ 64) × ((code_of r).1 < 2 ^ 64)
+abbrev pub Fits64 : Result Verdict Refusal → Type 0
+Fits64 (Ok (Clean t)) = (t.transfers < 2 ^ 64) × (t.packets < 2 ^ 64) × (t.records < 2 ^ 64)
+Fits64 (Ok (Broken cycle rule)) = (cycle < 2 ^ 64) × (rule < 2 ^ 64)
+Fits64 (Err r) = ((code_of r).0 < 2 ^ 64) × ((code_of r).1 < 2 ^ 64)
 
 abbrev pub TextShort : Type 0
-TextShort = (v : Verdict) → Fits64 v → length (text_of v) ≤ 103
+TextShort = (v : Result Verdict Refusal) → Fits64 v → length (text_of v) ≤ 103

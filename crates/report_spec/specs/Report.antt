@@ -1,15 +1,13 @@
 -- The report (paper 01, 'The report program'): from a setup sheet and a take of cycle records to a verdict, the text that is
 -- printed and the octets of the result. Words in quotes are 01's or, where it is said, those of T-03 or T-06 (paper 02). What a sheet says is
 -- report_setup_spec's `sheet_of`; what judging, harvesting, fill-in, repacking and downsizing answer is stream_spec's.
-use Rattle.std.specs.Prelude.{◌≡◌, Bool, true, false, cond, List, [], ◌∷◌, ◌++◌, ℕ, ◌+◌, ◌≤◌, ltb, length, Option, None, Some}
+use Rattle.std.specs.Prelude.{◌≡◌, Bool, true, false, cond, List, [], ◌∷◌, ◌++◌, ℕ, ◌+◌, ◌≤◌, ltb, length, Option, None, Some, Result, Ok, Err}
 use Rattle.refusal.specs.Code.{code_of}
 use Rattle.refusal.specs.declared.Refusal.{Refusal}
 use Rattle.refusal.specs.declared.Refusal.TheVariants.{Length, Setup as BadSheet}
 use Rattle.stream_spec.specs.declared.Shape.{Shape}
 use Rattle.stream_spec.specs.declared.Verdict.{Verdict as Judgement}
-use Rattle.stream_spec.specs.declared.Verdict.TheVariants.{Clean as Sound, Broken as Breaks, Refused as NotJudged}
-use Rattle.stream_spec.specs.declared.Written.{Written}
-use Rattle.stream_spec.specs.declared.Written.TheVariants.{Records, Refused as NotWritten}
+use Rattle.stream_spec.specs.declared.Verdict.TheVariants.{Clean as Sound, Broken as Breaks}
 use Rattle.stream_spec.specs.Layout.{shaped, at_width, bit_of, tlast, records, packed, sliced}
 use Rattle.refusal.specs.Checks.{Check, first}
 use Rattle.stream_spec.specs.Checks.{shape_checks, ratio_check}
@@ -21,13 +19,11 @@ use Rattle.report_setup_spec.specs.declared.Mode.{Mode}
 use Rattle.report_setup_spec.specs.declared.Mode.TheVariants.{Pack, Lanes}
 use Rattle.report_setup_spec.specs.declared.Tlast.{Tlast}
 use Rattle.report_setup_spec.specs.declared.Tlast.TheVariants.{Wired, Absent, Low}
-use Rattle.report_setup_spec.specs.declared.Sheet.{Sheet}
-use Rattle.report_setup_spec.specs.declared.Sheet.TheVariants.{Read, Refused as NoSheet}
 use Rattle.report_setup_spec.specs.Grammar.{sheet_of, text as ascii}
 use Rattle.text.specs.Text.{line}
 use Rattle.report_spec.specs.declared.Tally.{Tally}
 use Rattle.report_spec.specs.declared.Verdict.{Verdict}
-use Rattle.report_spec.specs.declared.Verdict.TheVariants.{Clean, Broken, Refused}
+use Rattle.report_spec.specs.declared.Verdict.TheVariants.{Clean, Broken}
 use Rattle.report_spec.specs.declared.Summary.{Summary}
 
 -- What is known of a file: its octets, or nothing where it could not be read whole.
@@ -39,11 +35,11 @@ contents false octets = None
 
 -- a verdict, with the octets of `out.bin`: none unless it is clean
 pub record Outcome : Type 0 where
-  pub verdict : Verdict
+  pub verdict : Result Verdict Refusal
   pub result : List ℕ
 
 abbrev pub refused : Refusal → Outcome
-refused r = record { verdict = Refused r; result = [] }
+refused r = record { verdict = Err r; result = [] }
 
 -- the records of the take, and those of the result: T-06: "m being one fixed number in all the calls"
 abbrev pub shape_of : Setup → Shape
@@ -74,7 +70,7 @@ abbrev pub packet_count : Shape → List ℕ → ℕ
 packet_count s transfers = lasts (records s transfers)
 
 -- `mode=pack`: repacking; `mode=lanes`: lane-keeping downsizing
-abbrev pub convert_answer : Mode → Shape → ℕ → List ℕ → ℕ → Written
+abbrev pub convert_answer : Mode → Shape → ℕ → List ℕ → ℕ → Result ℕ Refusal
 convert_answer Pack s v transfers room = repack_answer s v transfers room
 convert_answer Lanes s v transfers room = downsize_answer s v transfers room
 
@@ -86,9 +82,9 @@ abbrev pub tally : ℕ → ℕ → ℕ → Tally
 tally transfers packets written = record { transfers = transfers; packets = packets; records = written }
 
 -- ".. and ROOM last": `transfers` counts harvested records; `records` counts those written to `out.bin`
-abbrev pub converted : Written → ℕ → ℕ → List ℕ → Outcome
-converted (NotWritten r) transfers packets result = refused r
-converted (Records n) transfers packets result = record { verdict = Clean (tally transfers packets n); result = result }
+abbrev pub converted : Result ℕ Refusal → ℕ → ℕ → List ℕ → Outcome
+converted (Err r) transfers packets result = refused r
+converted (Ok n) transfers packets result = record { verdict = Ok (Clean (tally transfers packets n)); result = result }
 
 abbrev pub converted_transfers : Setup → List ℕ → ℕ → ℕ → Outcome
 converted_transfers u transfers room count =
@@ -96,10 +92,10 @@ converted_transfers u transfers room count =
     (convert_result u.mode (shape_of u) u.width_out transfers)
 
 -- ".. LENGTH, FIELD, a broken verdict ..": what judging answers, and for a clean take what follows
-abbrev pub after_judging : Judgement → (ℕ → Outcome) → Outcome
-after_judging (NotJudged r) next = refused r
-after_judging (Breaks cycle rule) next = record { verdict = Broken cycle rule; result = [] }
-after_judging (Sound count) next = next count
+abbrev pub after_judging : Result Judgement Refusal → (ℕ → Outcome) → Outcome
+after_judging (Err r) next = refused r
+after_judging (Ok (Breaks cycle rule)) next = record { verdict = Ok (Broken cycle rule); result = [] }
+after_judging (Ok (Sound count)) next = next count
 
 -- "A `take.bin` that can't be read counts as over-long."
 abbrev pub capture_outcome : Setup → Option (List ℕ) → ℕ → Outcome
@@ -127,9 +123,9 @@ abbrev pub setup_outcome : Setup → Option (List ℕ) → ℕ → Outcome
 setup_outcome u capture room = unless (first (setup_checks u)) (capture_outcome u capture room)
 
 -- "SHEET comes first of all, also for a sheet that can't be read .."
-abbrev pub sheet_outcome : Sheet → Option (List ℕ) → ℕ → Outcome
-sheet_outcome NoSheet capture room = refused BadSheet
-sheet_outcome (Read u) capture room = setup_outcome u capture room
+abbrev pub sheet_outcome : Option Setup → Option (List ℕ) → ℕ → Outcome
+sheet_outcome None capture room = refused BadSheet
+sheet_outcome (Some u) capture room = setup_outcome u capture room
 
 -- `room` is the length of the lent output
 abbrev pub outcome_of : Option (List ℕ) → Option (List ℕ) → ℕ → Outcome
@@ -155,12 +151,12 @@ pub record Values : Type 0 where
   pub packets : ℕ
   pub records : ℕ
 
-abbrev pub verdict_values : Verdict → Values
-verdict_values (Clean t) =
+abbrev pub verdict_values : Result Verdict Refusal → Values
+verdict_values (Ok (Clean t)) =
     record { refusal = 0; place = 0; rule = 0; word = says_clean; transfers = t.transfers; packets = t.packets; records = t.records }
-verdict_values (Broken cycle rule) =
+verdict_values (Ok (Broken cycle rule)) =
     record { refusal = 0; place = cycle; rule = rule; word = says_broken; transfers = 0; packets = 0; records = 0 }
-verdict_values (Refused r) =
+verdict_values (Err r) =
     record { refusal = (code_of r).0; place = (code_of r).1; rule = 0; word = says_refused; transfers = 0; packets = 0; records = 0 }
 
 -- "It prints key=value lines: for clean the four below; for broken `verdict`, `cycle`, `rule`; for refused `verdict`,
@@ -180,13 +176,13 @@ lines_of says_clean v = clean_text v.transfers v.packets v.records
 lines_of says_broken v = broken_text v.place v.rule
 lines_of says_refused v = refused_text v.refusal v.place
 
-abbrev pub text_of : Verdict → List ℕ
+abbrev pub text_of : Result Verdict Refusal → List ℕ
 text_of v = lines_of (verdict_values v).word (verdict_values v)
 
 -- ---- the report: verdict, text and result
 
 pub record Whole : Type 0 where
-  pub verdict : Verdict
+  pub verdict : Result Verdict Refusal
   pub text : List ℕ
   pub result : List ℕ
 

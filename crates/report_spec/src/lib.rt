@@ -5,26 +5,26 @@
 use refusal::Refusal;
 
 // What a clean take amounts to: its transfers, how many of them have TLAST, and the records written.
-#[derive(Clone, Copy)]
+#[derive(Clone, Copy, Debug, PartialEq, Eq)]
 pub struct Tally {
     pub transfers: usize,
     pub packets: usize,
     pub records: usize,
 }
 
-#[derive(Clone, Copy)]
+// What a take that is not refused comes to.
+#[derive(Clone, Copy, Debug, PartialEq, Eq)]
 pub enum Verdict {
     Clean(Tally),
     // the earliest cycle that breaks a rule, and the lowest rule it breaks, 1 to 4
     Broken(usize, u32),
-    Refused(Refusal),
 }
 
-// The verdict; how many octets of text stand at the front of the lent `text`; how many octets of result stand at the
+// The verdict, or why there is none; how many octets of text stand at the front of the lent `text`; how many octets of result stand at the
 // front of the lent `out`, 0 unless the verdict is clean.
-#[derive(Clone, Copy)]
+#[derive(Clone, Copy, Debug, PartialEq, Eq)]
 pub struct Summary {
-    pub verdict: Verdict,
+    pub verdict: Result<Verdict, Refusal>,
     pub text: usize,
     pub octets: usize,
 }

@@ -1,5 +1,5 @@
 -- A take that is filled in is judged alike at both levels: no field, no rule and no count tells them apart. Assumes nothing.
-use Rattle.std.specs.Prelude.{Option, None, Some}
+use Rattle.std.specs.Prelude.{Option, None, Some, Result}
 use mathlib.Core.Path.{◌≡◌, refl, sym, ap, ap₂, ◌∙◌}
 use mathlib.Core.Bool.{Bool, true, false}
 use mathlib.Core.List.{List, [], ◌∷◌, ◌++◌, map}
@@ -74,7 +74,7 @@ module _ (a b : Bool) (s : Shape) where
       ap₂ {C = List (Check Finding)} (λ x y. x ++ y) (rules_next k g q f r) (findings_alike n h (suc k) cs z.1 (Some (f ∷ r)) z.0)
 
   -- judging a filled take: its length is the take's, and its records are these
-  abbrev judged_by : List ℕ → List (List ℕ) → Verdict
+  abbrev judged_by : List ℕ → List (List ℕ) → Result Verdict Refusal
   judged_by xs cs = verdict (first (take_checks s xs ++ cycle_checks s 0 cs)) (first (findings s 0 None cs)) (length (handshakes cs))
 
   judge-filled : (level : Bool) (xs : List ℕ) → length xs % size s ≡ 0 → judge_answer s (filled_in level s xs) ≡ judged_by xs (map (with_last level) (records s xs))

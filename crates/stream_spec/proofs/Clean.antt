@@ -1,6 +1,6 @@
 -- What a clean verdict says of a take: shape and length have passed, no rule is broken, its number counts the transfers, and
 -- harvesting it is refused for want of room and for nothing else. Assumes nothing.
-use Rattle.std.specs.Prelude.{Option, None, Some}
+use Rattle.std.specs.Prelude.{Option, None, Some, Ok}
 use mathlib.Core.Path.{◌≡◌, refl, ◌∙◌}
 use mathlib.Core.Bool.{Bool, true, false}
 use mathlib.Core.List.{List, [], ◌∷◌, ◌++◌, map}
@@ -26,7 +26,7 @@ record IsClean (j : Option Refusal) (f : Option Finding) (n m : ℕ) : Type 0 wh
   sound : f ≡ None
   count : n ≡ m
 
-is-clean : (j : Option Refusal) (f : Option Finding) (n m : ℕ) → verdict j f m ≡ Clean n → IsClean j f n m
+is-clean : (j : Option Refusal) (f : Option Finding) (n m : ℕ) → verdict j f m ≡ Ok (Clean n) → IsClean j f n m
 is-clean (Some r) f n m e = let z : ◌≡◌ {A = ℕ} 0 1 = cc in absurd (omega arith)
 is-clean None (Some f) n m e = let z : ◌≡◌ {A = ℕ} 0 1 = cc in absurd (omega arith)
 is-clean None None n m e = record { accepted = refl; sound = refl; count = cc }
@@ -39,7 +39,7 @@ no-rule (f ∷ fs) e = go f.found refl (no-rule fs)
     go true h later = let found : Some f.gives ≡ None = rw h at e in let z : ◌≡◌ {A = ℕ} 0 1 = cc in absurd (omega arith)
     go false h later = rw h (later (rw h at e))
 
-module _ (s : Shape) (xs : List ℕ) (n : ℕ) (clean : judge_answer s xs ≡ Clean n) where
+module _ (s : Shape) (xs : List ℕ) (n : ℕ) (clean : judge_answer s xs ≡ Ok (Clean n)) where
   is : IsClean (first (judge_checks s xs)) (first_finding s xs) n (transfer_count s xs)
   unfolding judge_answer
   is = is-clean (first (judge_checks s xs)) (first_finding s xs) n (transfer_count s xs) clean

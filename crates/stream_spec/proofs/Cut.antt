@@ -1,9 +1,10 @@
 -- Cutting items into stretches: the stretches hold the items, in order; they are as long as can be; and they are the only
 -- such division. Where demand 3's condition holds, two lists of items are cut apart. Assumes nothing.
-use Rattle.std.specs.Prelude.{Some}
+use Rattle.std.specs.Prelude.{Some, slice_get, None}
+use Rattle.std.specs.List.{last_or}
 use mathlib.Core.Path.{◌≡◌, refl, ap, ◌∙◌}
 use mathlib.Core.Bool.{Bool, true, false, not, ◌||◌, cond, or-true}
-use mathlib.Core.List.{List, [], ◌∷◌, ◌++◌, map, head?, get_last?, append_assoc, append-nil}
+use mathlib.Core.List.{List, [], ◌∷◌, ◌++◌, map, append_assoc, append-nil}
 use lib.Dec.{eqb}
 use borrow.Author.Tests.{eqb-true, eq-eqb, not-true}
 use Rattle.stream_spec.proofs.Bools.{no_such, and_left, and_right}
@@ -81,7 +82,7 @@ module _ {A : Type 0} where
       go true e = rw e refl
       go false e = rw e refl
 
-  attach-apart : (i : Item A) (js : List (Item A)) → apart (Some i) (head? js) ≡ true → attach i (cut js) ≡ attach i [] ++ cut js
+  attach-apart : (i : Item A) (js : List (Item A)) → apart (Some i) (slice_get js 0) ≡ true → attach i (cut js) ≡ attach i [] ++ cut js
   attach-apart (end p) js e = refl
   attach-apart (byte p a) [] e = refl
   attach-apart (byte p a) (j ∷ js) e = go (cut_begins j js)
@@ -90,7 +91,7 @@ module _ {A : Type 0} where
       go b = rw b.is (rw b.pair (rw (not-true (same_pair p (item_pair j)) e) refl))
 
   -- the last item of two lists is that of the second, where it has one
-  pub last-append : (is : List (Item A)) (j : Item A) (js : List (Item A)) → get_last? (is ++ j ∷ js) ≡ get_last? (j ∷ js)
+  pub last-append : (is : List (Item A)) (j : Item A) (js : List (Item A)) → last_or None (is ++ j ∷ js) ≡ last_or None (j ∷ js)
   last-append [] j js = refl
   last-append (i ∷ []) j js = refl
   last-append (i ∷ i' ∷ is) j js = last-append (i' ∷ is) j js

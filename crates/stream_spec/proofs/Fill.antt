@@ -1,9 +1,9 @@
 -- Fill-in of TLAST: it keeps a record's length and all other wires, so the same cycles are transfers; what is then harvested;
 -- and how records that all have TLAST are packed. Assumes nothing.
-use Rattle.std.specs.Prelude.{Option, None, Some}
+use Rattle.std.specs.Prelude.{Option, None, Some, Ok, slice_get}
 use mathlib.Core.Path.{◌≡◌, refl, sym, ap, ap₂, ◌∙◌, subst}
 use mathlib.Core.Bool.{Bool, true, false}
-use mathlib.Core.List.{List, [], ◌∷◌, ◌++◌, map, append-nil, head?}
+use mathlib.Core.List.{List, [], ◌∷◌, ◌++◌, map, append-nil}
 use Prim.Native.Nat.{ℕ, suc, ◌+◌, ◌*◌, ◌/◌, ◌%◌, ◌≤◌, ◌<◌}
 use native.Mathlib.Omega.{arith}
 use lib.ListN.{length, length-map, drop_of_length-le}
@@ -98,7 +98,7 @@ taken-filled level s xs e =
     rw e (ap (λ (ys : List ℕ). filled_in level s xs ++ ys) (drop_of_length-le xs all) ∙ append-nil (filled_in level s xs))
 
 -- a take that is judged clean after fill-in was filled in
-pub clean-filled : (level : Bool) (s : Shape) (xs : List ℕ) (n : ℕ) → judge_answer s (fill_after level s xs) ≡ Clean n → fill_after level s xs ≡ filled_in level s xs
+pub clean-filled : (level : Bool) (s : Shape) (xs : List ℕ) (n : ℕ) → judge_answer s (fill_after level s xs) ≡ Ok (Clean n) → fill_after level s xs ≡ filled_in level s xs
 clean-filled level s xs n clean = go (fill_refusal s xs) refl
   where
     go : (o : Option Refusal) → fill_refusal s xs ≡ o → fill_after level s xs ≡ filled_in level s xs
@@ -152,7 +152,7 @@ end-apart p None = refl
 end-apart p (Some i) = refl
 
 last-parted : (t : Transfer Kept) (is : List (Item Kept)) → t.last ≡ true → parted (transfer_items t) is ≡ true
-last-parted t is e = rw (e, last-append (map (byte t.pair) (kept t.lanes)) (end t.pair) []) (end-apart t.pair (head? is))
+last-parted t is e = rw (e, last-append (map (byte t.pair) (kept t.lanes)) (end t.pair) []) (end-apart t.pair (slice_get is 0))
 
 -- a record alone has its own transfer's items, and nothing more
 alone : (s : Shape) (v : ℕ) (r : List ℕ) → length r ≡ size s → packed s v r ≡ octets s.user (pack v (transfer_items (transfer_of s r)))

@@ -1,10 +1,11 @@
 -- "may be longer than a take": there are legal streams of any number of records; demand 3 speaks of them, in calls and in parts, and so
 -- does T-07 of the stream that a packed form is compared with. The promise of archived files does not: slices that are longer than a
 -- take are refused with 2. Assumes nothing.
-use Rattle.std.specs.Prelude.{Option, None, Some}
+use Rattle.std.specs.Prelude.{Option, None, Some, slice_get}
+use Rattle.std.specs.List.{last_or}
 use mathlib.Core.Path.{◌≡◌, refl, sym, ap, ap₂, ◌∙◌}
 use mathlib.Core.Bool.{Bool, true, false, cond}
-use mathlib.Core.List.{List, [], ◌∷◌, ◌++◌, head?, get_last?}
+use mathlib.Core.List.{List, [], ◌∷◌, ◌++◌}
 use Prim.Native.Nat.{ℕ, zero, suc, ◌+◌, ◌*◌, ◌/◌, ◌≤◌, ◌<◌}
 use native.Mathlib.Omega.{arith}
 use lib.Dec.{ltb, lit≤}
@@ -149,7 +150,7 @@ before-many (suc n) (b ∷ before) after e =
     let others : before ++ after ≡ many_parts n = cc in
     ap₂ {C = List Part} (λ (p : Part) (l : List Part). p ∷ l) same (before-many n before after others)
 
-many-apart : (n : ℕ) (j : Option (Item Kept)) → apart (get_last? (items (replicate n end_only))) j ≡ true
+many-apart : (n : ℕ) (j : Option (Item Kept)) → apart (last_or None (items (replicate n end_only))) j ≡ true
 many-apart zero j = refl
 many-apart (suc zero) None = refl
 many-apart (suc zero) (Some j) = refl
@@ -159,7 +160,7 @@ many-divides : (n : ℕ) → Divides (lanes 1) (many_parts n)
 many-divides n before after e =
     let rest = stream_items (lanes 1) (whole after) in
     ap (λ (l : List Part). parted (stream_items (lanes 1) (whole l)) rest) (before-many n before after e)
-    ∙ ap (λ (is : List (Item Kept)). parted is rest) (many-items (length before)) ∙ many-apart (length before) (head? rest)
+    ∙ ap (λ (is : List (Item Kept)). parted is rest) (many-items (length before)) ∙ many-apart (length before) (slice_get rest 0)
 
 pub many_join : (n : ℕ) → ManyJoin n
 unfolding size

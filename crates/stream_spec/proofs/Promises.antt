@@ -1,5 +1,5 @@
 -- Every statement of specs/Promises, proved: mostly by citing the law that carries it. Assumes nothing.
-use Rattle.std.specs.Prelude.{Option, None}
+use Rattle.std.specs.Prelude.{Option, None, Ok}
 use mathlib.Core.Path.{◌≡◌, refl, sym, ap, ap₂, ◌∙◌}
 use mathlib.Core.Logic.{inl, inr, ⊎_elim}
 use mathlib.Core.Bool.{Bool, true, false, not, ◌||◌, or-true}
@@ -271,7 +271,7 @@ pub findings : Findings
 findings = judges
 
 -- no cycle of a clean take breaks R1: with ARESETn low there or at the cycle before, TVALID is low
-quiet_at : (s : Shape) (xs : List ℕ) (n k : ℕ) → judge_answer s xs ≡ Clean n → k < length (records s xs)
+quiet_at : (s : Shape) (xs : List ℕ) (n k : ℕ) → judge_answer s xs ≡ Ok (Clean n) → k < length (records s xs)
     → (not (aresetn (get_or (records s xs) k [])) || was_reset (cycle_before (records s xs) k)) ≡ true → tvalid (get_or (records s xs) k []) ≡ false
 quiet_at s xs n k clean there low =
     let c = get_or (records s xs) k [] in

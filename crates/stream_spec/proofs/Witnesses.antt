@@ -1,6 +1,6 @@
 -- Every promise that has a premise, applied to the worked data of specs/Witnesses: all its premises hold there, and what it
 -- says is what was typed by hand. Assumes nothing.
-use Rattle.std.specs.Prelude.{None, Some}
+use Rattle.std.specs.Prelude.{None, Some, Ok, Result, Err}
 use mathlib.Core.Path.{◌≡◌, refl, ap, ◌∙◌}
 use mathlib.Core.Bool.{true, false}
 use mathlib.Core.List.{List, [], ◌∷◌, ◌++◌}
@@ -9,11 +9,10 @@ use Prim.Native.Nat.{ℕ, ◌*◌, ◌/◌, ◌%◌, ◌≤◌, ◌<◌}
 use native.Mathlib.Omega.{arith}
 use lib.Dec.{lit<, lit≤}
 use lib.ListN.{length, get_or}
+use Rattle.refusal.specs.declared.Refusal.{Refusal}
 use Rattle.refusal.specs.declared.Refusal.TheVariants.{Width as BadWidth, Room, Index}
 use Rattle.stream_spec.specs.declared.Shape.{Shape}
 use Rattle.stream_spec.specs.declared.Verdict.TheVariants.{Clean}
-use Rattle.stream_spec.specs.declared.Written.{Written}
-use Rattle.stream_spec.specs.declared.Written.TheVariants.{Records, Refused}
 use Rattle.stream_spec.specs.Packed.{pack}
 use Rattle.stream_spec.specs.Layout.{bit, size, shaped, at_width, position, transfer_of, data_lane, null_lane, lane_types, records, stream_items, packed_transfers, packed, sliced_transfers, sliced}
 use Rattle.stream_spec.specs.Checks.{capture_most, width_check, user_fault}
@@ -196,14 +195,14 @@ not_undivided keeps =
     absurd (omega arith)
 
 -- an archived file, S2's two records, repacked to width 4: S1, and the octet after it stays
-pub archived : (repack_answer (lanes 2) 4 p1_slices 12 ≡ Records 1) × (repack_after (lanes 2) 4 p1_slices twelve ≡ p1_packed ++ (0xEE ∷ []))
+pub archived : (repack_answer (lanes 2) 4 p1_slices 12 ≡ Ok 1) × (repack_after (lanes 2) 4 p1_slices twelve ≡ p1_packed ++ (0xEE ∷ []))
 unfolding size repack_answer repack_after
 archived =
     let k = archives_repack (lanes 4) 2 p1 (width 2 refl) refl (legal 4 p1 refl) (lit≤ tt) (lit≤ tt) 4 twelve in
     (k.answers, k.leaves)
 
 -- it is refused alike too, here for its output's width and for want of room
-pub archived_refused : (repack_answer (lanes 2) 17 p1_slices 12 ≡ Refused BadWidth) × (repack_answer (lanes 2) 4 p1_slices 0 ≡ Refused Room)
+pub archived_refused : (repack_answer (lanes 2) 17 p1_slices 12 ≡ Err BadWidth) × (repack_answer (lanes 2) 4 p1_slices 0 ≡ Err Room)
 unfolding size repack_answer
 archived_refused =
     let alike = archives_repack (lanes 4) 2 p1 (width 2 refl) refl (legal 4 p1 refl) (lit≤ tt) (lit≤ tt) in
@@ -211,7 +210,7 @@ archived_refused =
 
 -- at its widest, of the contract: whatever a call answers and leaves for the slices meets the contract of the call for the original
 pub as_the_original : (s : Shape) (v : ℕ) (xs : List ℕ) → Width v → s.width % v ≡ 0 → Legal s xs → length xs ≤ capture_most → length (sliced s v xs) ≤ capture_most
-    → (u : ℕ) (before after : List ℕ) (r : Written) → Repacked (at_width s v) u (sliced s v xs) before after r → Repacked s u xs before after r
+    → (u : ℕ) (before after : List ℕ) (r : Result ℕ Refusal) → Repacked (at_width s v) u (sliced s v xs) before after r → Repacked s u xs before after r
 as_the_original s v xs w d l a b u before after r p =
     let k = archives_repack s v xs w d l a b u before in
     record { is = p.is ∙ k.answers; shows = p.shows ∙ ap written_values k.answers; leaves = p.leaves ∙ k.leaves }
@@ -238,11 +237,11 @@ unfolding size judge_answer
 reset-quiet = (reset_quiet (lanes 1) reset_take 1 0 refl (lit< tt) refl, reset_quiet (lanes 1) reset_take 1 3 refl (lit< tt) refl)
 
 -- so a take that is not quiet there is never judged clean
-pub early : (n : ℕ) → judge_answer (lanes 2) early_take ≡ Clean n → ⊥
+pub early : (n : ℕ) → judge_answer (lanes 2) early_take ≡ Ok (Clean n) → ⊥
 unfolding size
 early n e = no_such ((reset_quiet (lanes 2) early_take n 0 e (lit< tt) refl).after_reset (lit< tt)) refl
 
-pub loud : (n : ℕ) → judge_answer (lanes 1) loud_take ≡ Clean n → ⊥
+pub loud : (n : ℕ) → judge_answer (lanes 1) loud_take ≡ Ok (Clean n) → ⊥
 unfolding size
 loud n e = no_such (reset_quiet (lanes 1) loud_take n 0 e (lit< tt) refl).in_reset refl
 
@@ -270,7 +269,7 @@ unfolding size
 filled-high = filled_harvest high (lanes 1) clean_take
 
 -- what is judged clean at one level is so at the other, though TLAST was sampled high in one transfer and low in the other
-pub judged-alike : judge_answer (lanes 1) (fill_after high (lanes 1) clean_take) ≡ Clean 2
+pub judged-alike : judge_answer (lanes 1) (fill_after high (lanes 1) clean_take) ≡ Ok (Clean 2)
 unfolding size judge_answer fill_after
 judged-alike = judged_alike high low (lanes 1) clean_take
 
@@ -330,7 +329,7 @@ unfolding size
 tags-sliced = let k = lane_keeping (shaped 3 3) 1 straddled (width 1 refl) refl legal-tags in (k.same, k.legal, k.packs 2)
 
 -- an archived file too: its slices repacked to width 2
-pub tags_archived : (repack_answer (shaped 1 3) 2 tags_slices 12 ≡ Records 1) × (repack_after (shaped 1 3) 2 tags_slices twelve ≡ tags_at_two ++ (0xEE ∷ 0xEE ∷ []))
+pub tags_archived : (repack_answer (shaped 1 3) 2 tags_slices 12 ≡ Ok 1) × (repack_after (shaped 1 3) 2 tags_slices twelve ≡ tags_at_two ++ (0xEE ∷ 0xEE ∷ []))
 unfolding size repack_answer repack_after
 tags_archived =
     let k = archives_repack (shaped 3 3) 1 straddled (width 1 refl) refl legal-tags (lit≤ tt) (lit≤ tt) 2 twelve in

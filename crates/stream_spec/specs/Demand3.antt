@@ -1,9 +1,8 @@
 -- Demand 3's two statements (the demand's own words in quotes; paper 01 explains them), over the answers of the repacking call as Answers has them.
 -- Their proofs are `calls` and `parts` of proofs/Demand3.
-use Rattle.std.specs.Prelude.{◌≡◌, true, List, [], ◌∷◌, ◌++◌, map, ℕ, ◌+◌, ◌*◌, ◌≤◌, length, take, Option, None, Some}
+use Rattle.std.specs.Prelude.{◌≡◌, true, List, [], ◌∷◌, ◌++◌, map, ℕ, ◌+◌, ◌*◌, ◌≤◌, length, take, Option, None, Some, Result, Ok, Err}
+use Rattle.refusal.specs.declared.Refusal.{Refusal}
 use Rattle.stream_spec.specs.declared.Shape.{Shape}
-use Rattle.stream_spec.specs.declared.Written.{Written}
-use Rattle.stream_spec.specs.declared.Written.TheVariants.{Records, Refused as NotWritten}
 use Rattle.stream_spec.specs.Packed.{parted}
 use Rattle.stream_spec.specs.Layout.{size, at_width, stream_items, packed_transfers, packed}
 use Rattle.stream_spec.specs.Answers.{repack_answer, repack_after}
@@ -16,12 +15,12 @@ pub record Call : Type 0 where
   pub lent : List ℕ
 
 -- what the call answers on these octets, and the number where it is accepted
-abbrev pub answer_to : Shape → List ℕ → Call → Written
+abbrev pub answer_to : Shape → List ℕ → Call → Result ℕ Refusal
 answer_to s xs c = repack_answer s c.width xs (length c.lent)
 
-abbrev pub accepted : Written → Option ℕ
-accepted (Records n) = Some n
-accepted (NotWritten r) = None
+abbrev pub accepted : Result ℕ Refusal → Option ℕ
+accepted (Ok n) = Some n
+accepted (Err r) = None
 
 -- "The result of an accepted repacking call is the octets of the records it writes; the number it answers counts those
 -- records."

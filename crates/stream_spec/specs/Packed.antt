@@ -1,7 +1,8 @@
 -- The packed form at width v, and lane-keeping slices (paper 01, 'Packed form at width v', 'Lane-keeping downsizing';
 -- Arm IHI 0051A 2.3.3, 2.4.1, 2.5.1), over any type A of what a kept byte lane carries. Octets are in Layout.
-use Rattle.std.specs.Prelude.{Bool, true, false, not, cond, ℕ, zero, suc, ◌-◌, ◌/◌, length, drop, Option, None, Some}
-use mathlib.Core.List.{List, [], ◌∷◌, ◌++◌, map, head?, get_last?}
+use Rattle.std.specs.Prelude.{Bool, true, false, not, cond, ℕ, zero, suc, ◌-◌, ◌/◌, length, drop, Option, None, Some, slice_get}
+use Rattle.std.specs.List.{last_or}
+use mathlib.Core.List.{List, [], ◌∷◌, ◌++◌, map}
 use Rattle.stream_spec.specs.Items.{Pair, same_pair, Transfer, Item, byte, end, item_pair}
 
 -- A stretch: items of one pair with no end among them, but perhaps one behind them.
@@ -80,4 +81,4 @@ module _ {A : Type 0} where
   apart (Some (byte p a)) (Some j) = not (same_pair p (item_pair j))
 
   abbrev pub parted : List (Item A) → List (Item A) → Bool
-  parted before after = apart (get_last? before) (head? after)
+  parted before after = apart (last_or None before) (slice_get after 0)

@@ -1,11 +1,10 @@
 -- What is proved of the definitions, a statement each. Words in quotes are paper 01's or, where it is said, a demand's or a
 -- request's. Demand 3 has a page of its own. The proofs are in proofs/Promises.
-use Rattle.std.specs.Prelude.{◌≡◌, Bool, true, false, not, ◌&&◌, ◌||◌, cond, List, [], ◌∷◌, ◌++◌, map, ℕ, zero, suc, ◌+◌, ◌*◌, ◌/◌, ◌%◌, ◌^◌, ◌≤◌, ◌<◌, ◌⊎◌, ◌↔◌, ◌≢◌, eqb, leb, ltb, length, get_or, take, drop, Option, None, Some}
+use Rattle.std.specs.Prelude.{◌≡◌, Bool, true, false, not, ◌&&◌, ◌||◌, cond, List, [], ◌∷◌, ◌++◌, map, ℕ, zero, suc, ◌+◌, ◌*◌, ◌/◌, ◌%◌, ◌^◌, ◌≤◌, ◌<◌, ◌⊎◌, ◌↔◌, ◌≢◌, eqb, leb, ltb, length, get_or, take, drop, Option, None, Some, Ok}
 use Rattle.refusal.specs.declared.Refusal.{Refusal}
 use Rattle.refusal.specs.declared.Refusal.TheVariants.{Room}
 use Rattle.stream_spec.specs.declared.Shape.{Shape}
 use Rattle.stream_spec.specs.declared.Verdict.TheVariants.{Clean}
-use Rattle.stream_spec.specs.declared.Written.TheVariants.{Records}
 use Rattle.stream_spec.specs.Items.{same_pair, Transfer, Item, kept, items}
 use Rattle.stream_spec.specs.Packed.{fitted, pack, settled, held, parted}
 use Rattle.stream_spec.specs.Layout.{bit, bit_of, mask_of, width_most, user_octets, user_number, data_octets, tlast, tvalid, aresetn, tkeep, tstrb, size, of_width, at_width, LaneType, data_lane, null_lane, lane_type, types_of, lane_types, any_reserved, lane_of, Kept, keep_bit, strb_bit, lane_octet, transfer_of, octets_of, records, joined, stream_items, packed_transfers, packed, sliced_transfers, sliced}
@@ -212,7 +211,7 @@ Canonical =
 -- null lanes and all-null records anywhere. It says nothing of octets, nor that no other stream has n records.
 abbrev pub NoShorter : Type 0
 NoShorter =
-    (s : Shape) (v : ℕ) (xs : List ℕ) (room n : ℕ) → repack_answer s v xs room ≡ Records n
+    (s : Shape) (v : ℕ) (xs : List ℕ) (room n : ℕ) → repack_answer s v xs room ≡ Ok n
     → (ys : List ℕ) → Legal (at_width s v) ys → stream_items (at_width s v) ys ≡ stream_items s xs
     → n ≤ length (records (at_width s v) ys)
 
@@ -223,7 +222,7 @@ pub record Reached (s : Shape) (v : ℕ) (xs : List ℕ) (n : ℕ) : Type 0 wher
   pub count : length (records (at_width s v) (packed s v xs)) ≡ n
 
 abbrev pub LeastReached : Type 0
-LeastReached = (s : Shape) (v : ℕ) (xs : List ℕ) (room n : ℕ) → Octets xs → repack_answer s v xs room ≡ Records n → Reached s v xs n
+LeastReached = (s : Shape) (v : ℕ) (xs : List ℕ) (room n : ℕ) → Octets xs → repack_answer s v xs room ≡ Ok n → Reached s v xs n
 
 -- ---- lane-keeping downsizing
 
@@ -291,7 +290,7 @@ pub record Quiet (cs : List (List ℕ)) (k : ℕ) : Type 0 where
 
 abbrev pub ResetQuiet : Type 0
 ResetQuiet =
-    (s : Shape) (xs : List ℕ) (n k : ℕ) → judge_answer s xs ≡ Clean n → k < length (records s xs)
+    (s : Shape) (xs : List ℕ) (n k : ℕ) → judge_answer s xs ≡ Ok (Clean n) → k < length (records s xs)
     → aresetn (get_or (records s xs) k []) ≡ false → Quiet (records s xs) k
 
 -- ---- harvest

@@ -1,11 +1,10 @@
 -- What the premises of the promises let in: a promise says nothing where a premise never holds. There is a table, typed by
 -- hand, of the premise or of a test that computes and says the same both ways. The proofs are in proofs/Tables;
 -- examples that meet all premises of a promise are in Witnesses.
-use Rattle.std.specs.Prelude.{◌≡◌, Bool, true, false, ◌&&◌, List, [], ◌∷◌, ◌++◌, map, ◌↔◌, ℕ, ◌*◌, ◌%◌, ◌≤◌, eqb, leb, ltb, length, Option, None, Some}
+use Rattle.std.specs.Prelude.{◌≡◌, Bool, true, false, ◌&&◌, List, [], ◌∷◌, ◌++◌, map, ◌↔◌, ℕ, ◌*◌, ◌%◌, ◌≤◌, eqb, leb, ltb, length, Option, None, Some, Ok, Err}
 use Rattle.refusal.specs.declared.Refusal.{Refusal}
 use Rattle.refusal.specs.declared.Refusal.TheVariants.{Room}
 use Rattle.stream_spec.specs.declared.Shape.{Shape}
-use Rattle.stream_spec.specs.declared.Written.TheVariants.{Records, Refused as NotWritten}
 use Rattle.stream_spec.specs.Items.{Pair, Item, byte, end}
 use Rattle.stream_spec.specs.Packed.{apart, parted}
 use Rattle.stream_spec.specs.Layout.{user_most, shaped, of_width, Kept, position, size, records, stream_items}
@@ -168,7 +167,7 @@ DividesTable = AllTold divides_parts true divided × AllTold divides_parts false
 -- ---- accepted calls
 
 abbrev pub AcceptedTable : Type 0
-AcceptedTable = map accepted (Records 0 ∷ Records 3 ∷ NotWritten Room ∷ []) ≡ Some 0 ∷ Some 3 ∷ None ∷ []
+AcceptedTable = map accepted (Ok 0 ∷ Ok 3 ∷ Err Room ∷ []) ≡ Some 0 ∷ Some 3 ∷ None ∷ []
 
 -- these numbers, and no refused call among them
 abbrev pub numbers_are : List (Option ℕ) → List ℕ → Bool

@@ -1,9 +1,8 @@
 -- Worked data for each promise that has a premise: examples that meet all its premises, and what it then says of them,
 -- typed by hand and never computed. proofs/Witnesses applies the proved promise to each, so a premise that lets in less
 -- is refused there. Which streams, divisions and numbers a premise lets in is in Tables.
-use Rattle.std.specs.Prelude.{◌≡◌, Bool, true, false, List, [], ◌∷◌, ◌++◌, map, ℕ, ◌+◌, ◌*◌, ◌%◌, ◌≤◌, length, replicate, Option, None, Some}
+use Rattle.std.specs.Prelude.{◌≡◌, Bool, true, false, List, [], ◌∷◌, ◌++◌, map, ℕ, ◌+◌, ◌*◌, ◌%◌, ◌≤◌, length, replicate, Option, None, Some, Ok}
 use Rattle.stream_spec.specs.declared.Shape.{Shape}
-use Rattle.stream_spec.specs.declared.Written.TheVariants.{Records}
 use Rattle.stream_spec.specs.Items.{Transfer, Item, byte, end}
 use Rattle.stream_spec.specs.Layout.{Kept, octet, position, at_width, records, stream_items, sliced}
 use Rattle.stream_spec.specs.Answers.{repack_answer}
@@ -126,7 +125,7 @@ pub record Behind (k : ℕ) : Type 0 where
 -- T-07's statement with another comparison, and with the other stream of another shape
 abbrev pub Compared : (ℕ → ℕ → Type 0) → (Shape → ℕ → Shape) → Type 0
 Compared than at =
-    (s : Shape) (v : ℕ) (xs : List ℕ) (room n : ℕ) → repack_answer s v xs room ≡ Records n
+    (s : Shape) (v : ℕ) (xs : List ℕ) (room n : ℕ) → repack_answer s v xs room ≡ Ok n
     → (ys : List ℕ) → Legal (at s v) ys → stream_items (at s v) ys ≡ stream_items s xs
     → than n (length (records (at s v) ys))
 

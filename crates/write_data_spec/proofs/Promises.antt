@@ -1,5 +1,5 @@
 -- Each statement of specs/Promises, from the laws below it. Assumes nothing.
-use Rattle.std.specs.Prelude.{None, Some}
+use Rattle.std.specs.Prelude.{None, Some, Ok}
 use mathlib.Core.List.{List}
 use mathlib.Core.Logic.{◌↔◌}
 use mathlib.Core.Path.{◌≡◌, refl}
@@ -51,7 +51,7 @@ clean_exactly b xs n =
 -- a finding in plain words is an answer in the same words, where nothing is refused
 as_broken : (b : Burst) (xs : List ℕ) (p n : ℕ) {A B C : Type 0}
     → (first_finding b (write_beats b.bus xs) ≡ Some (finding p n)) ↔ (A × B × C)
-    → (write_answer b xs ≡ Broken p n) ↔ ((write_refusal b xs ≡ None) × A × B × C)
+    → (write_answer b xs ≡ Ok (Broken p n)) ↔ ((write_refusal b xs ≡ None) × A × B × C)
 as_broken b xs p n take =
     let answer = broken-answer b xs p n in (
       λ e. let h = answer.0 e in let t = take.0 h.1 in (h.0, t.0, t.1, t.2),

@@ -1,5 +1,5 @@
 -- The refusals of a take in plain words: a burst's own come first, then LENGTH, then FIELD at the first bad record. Assumes nothing.
-use Rattle.std.specs.Prelude.{Option, None, Some}
+use Rattle.std.specs.Prelude.{Option, None, Some, Err}
 use mathlib.Core.Bool.{Bool, true, false, not, cond, or-true}
 use mathlib.Core.List.{List}
 use mathlib.Core.Logic.{◌⊎◌, inl, inr, ◌≢◌}
@@ -23,7 +23,6 @@ use Rattle.burst_spec.specs.Answers.{judgement_for}
 use Rattle.burst_spec.specs.Checks.{checks}
 use Rattle.burst_spec.proofs.Answers.{own-number}
 use Rattle.burst_spec.proofs.Known.{clash}
-use Rattle.write_data_spec.specs.declared.WriteVerdict.TheVariants.{Refused}
 use Rattle.write_data_spec.specs.Layout.{beat_size, write_beats}
 use Rattle.write_data_spec.specs.Answers.{length_fault, field_fault, field_checks, take_checks, write_refusal, write_answer}
 use Rattle.write_data_spec.specs.Promises.{IsAccepted, octets_each, beat, WellFormed, NothingRefused, LengthExactly, FirstBad, FieldExactly}
@@ -87,7 +86,7 @@ module _ (b : Burst) (xs : List ℕ) where
   abbrev taken : List (List ℕ)
   taken = write_beats b.bus xs
 
-  length_there : write_answer b xs ≡ Refused Length → IsAccepted b × BadLength b.bus xs
+  length_there : write_answer b xs ≡ Err Length → IsAccepted b × BadLength b.bus xs
   length_there e =
       let h = after-own b xs Length (omega arith) ((refused-answer b xs Length).0 e) in
       (h.0, go (length_fault b.bus xs) refl h.1)
@@ -99,10 +98,10 @@ module _ (b : Burst) (xs : List ℕ) where
           let at = each_at (field_checks b.bus) 0 taken Length h in
           absurd (let g = (field_found b.bus (0 + at.place) (beat taken at.place) Length at.here).1 in clash cc)
 
-  length_back : IsAccepted b → BadLength b.bus xs → write_answer b xs ≡ Refused Length
+  length_back : IsAccepted b → BadLength b.bus xs → write_answer b xs ≡ Err Length
   length_back a h = (refused-answer b xs Length).1 (refusal-accepted b xs a ∙ rw (bad-length b.bus xs h) refl)
 
-  field_there : (k : ℕ) → write_answer b xs ≡ Refused (Field k) → FirstBad b xs k
+  field_there : (k : ℕ) → write_answer b xs ≡ Err (Field k) → FirstBad b xs k
   field_there k e =
       let h = after-own b xs (Field k) (omega arith) ((refused-answer b xs (Field k)).0 e) in
       go h.0 (length_fault b.bus xs) refl h.1
@@ -129,7 +128,7 @@ module _ (b : Burst) (xs : List ℕ) where
           let f = each_at (field_checks b.bus) 0 taken (Field k) h in
           at a l f (field_found b.bus (0 + f.place) (beat taken f.place) (Field k) f.here)
 
-  field_back : (k : ℕ) → FirstBad b xs k → write_answer b xs ≡ Refused (Field k)
+  field_back : (k : ℕ) → FirstBad b xs k → write_answer b xs ≡ Err (Field k)
   field_back k f =
       (refused-answer b xs (Field k)).1
       (refusal-accepted b xs f.accepted

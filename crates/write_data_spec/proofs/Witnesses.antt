@@ -1,5 +1,5 @@
 -- Each statement with a premise, applied to a worked take: so the premises can be met. Assumes nothing.
-use Rattle.std.specs.Prelude.{None}
+use Rattle.std.specs.Prelude.{None, Ok, Err}
 use mathlib.Core.Bool.{true, false}
 use mathlib.Core.List.{List, [], ◌∷◌}
 use mathlib.Core.Logic.{◌⊎◌, inl, inr, ◌≢◌}
@@ -13,7 +13,7 @@ use Rattle.burst_spec.specs.declared.Burst.{Burst}
 use Rattle.burst_spec.specs.Address.{round_down, incr_address, wrap_address, address_by, beats}
 use Rattle.burst_spec.specs.Checks.{some_below, bus_allowed, count_allowed, misaligned, crosses_by}
 use Rattle.burst_spec.specs.Answers.{burst_of}
-use Rattle.write_data_spec.specs.declared.WriteVerdict.TheVariants.{Clean, Broken, Refused}
+use Rattle.write_data_spec.specs.declared.WriteVerdict.TheVariants.{Clean, Broken}
 use Rattle.write_data_spec.specs.Layout.{beat_size, write_beats, strobe, count_below, all_strobes}
 use Rattle.write_data_spec.specs.Rules.{w1, finding}
 use Rattle.write_data_spec.specs.Answers.{field_fault, write_refusal, write_answer, WritesJudged}
@@ -50,7 +50,7 @@ broken_formed : WellFormed unaligned broken
 unfolding round_down incr_address address_by some_below bus_allowed count_allowed misaligned crosses_by beat_size strobe field_fault
 broken_formed = (nothing_refused unaligned broken).0 refl
 
-pub first-is : write_answer unaligned broken ≡ Broken 0 1
+pub first-is : write_answer unaligned broken ≡ Ok (Broken 0 1)
 first-is = (broken_exactly unaligned broken 0 1).1 ((nothing_refused unaligned broken).1 broken_formed, broken-first)
 
 -- W2 at beat 0, and W3 at beat 2
@@ -83,9 +83,9 @@ abbrev legal : List ℕ
 legal = 0x00 ∷ 0xF0 ∷ 0x00 ∷ 0x0F ∷ 0x00 ∷ 0xF0 ∷ 0x01 ∷ 0x0F ∷ []
 
 -- the contract of the call, met
-legal_judged : WritesJudged wrapping legal (Clean 16)
+legal_judged : WritesJudged wrapping legal (Ok (Clean 16))
 unfolding round_down wrap_address address_by some_below bus_allowed count_allowed misaligned crosses_by beat_size strobe count_below w1 field_fault
-legal_judged = judged_is wrapping legal (Clean 16) refl
+legal_judged = judged_is wrapping legal (Ok (Clean 16)) refl
 
 legal-take : (write_refusal wrapping legal ≡ None) × CleanTake wrapping (write_beats 8 legal) × (16 ≡ all_strobes 8 (write_beats 8 legal))
 legal-take = (clean_exactly wrapping legal 16).0 (sym legal_judged.is)
@@ -95,7 +95,7 @@ pub legal-lane : (4 ≤ 5) × (5 ≤ 7)
 unfolding round_down wrap_address address_by beat_size strobe
 legal-lane = legal-take.1.lanes 2 5 (omega arith) (omega arith) refl
 
-pub legal-clean : write_answer wrapping legal ≡ Clean 16
+pub legal-clean : write_answer wrapping legal ≡ Ok (Clean 16)
 legal-clean = (clean_exactly wrapping legal 16).1 legal-take
 
 -- no beat of it breaks W2
@@ -103,7 +103,7 @@ pub legal-sound : rule wrapping 2 (0x00 ∷ 0xF0 ∷ []) 2 ≡ false
 unfolding beat_size
 legal-sound = ((clean_sound wrapping legal 16).0 legal-clean).2 2 (omega arith) 2
 
-pub legal_again : write_answer wrapping legal ≡ Clean 16
+pub legal_again : write_answer wrapping legal ≡ Ok (Clean 16)
 legal_again = (clean_sound wrapping legal 16).1 ((clean_sound wrapping legal 16).0 legal-clean)
 
 -- ---- one burst of two beats, and takes of it
@@ -122,7 +122,7 @@ too_many : (write_refusal two many ≡ None) × (2 ≡ beats two) × (2 < 3) × 
 unfolding round_down incr_address address_by some_below bus_allowed count_allowed misaligned crosses_by beat_size strobe w1 field_fault
 too_many = (too_many_exactly two many 2).0 refl
 
-pub many-broken : write_answer two many ≡ Broken 2 4
+pub many-broken : write_answer two many ≡ Ok (Broken 2 4)
 unfolding beat_size
 many-broken = (too_many_exactly two many 2).1 too_many
 
@@ -130,13 +130,13 @@ too_few : (write_refusal two few ≡ None) × (1 ≡ length (write_beats 4 few))
 unfolding round_down incr_address address_by some_below bus_allowed count_allowed misaligned crosses_by beat_size strobe w1 field_fault
 too_few = (too_few_exactly two few 1).0 refl
 
-pub few-broken : write_answer two few ≡ Broken 1 5
+pub few-broken : write_answer two few ≡ Ok (Broken 1 5)
 few-broken = (too_few_exactly two few 1).1 too_few
 
 -- ---- refusals
 
 -- a burst that leaves its block, with half a record
-pub refused : write_answer (burst_of 0xFFC 1 2 1 4) (0x02 ∷ []) ≡ Refused Boundary
+pub refused : write_answer (burst_of 0xFFC 1 2 1 4) (0x02 ∷ []) ≡ Err Boundary
 unfolding round_down incr_address address_by some_below bus_allowed count_allowed misaligned crosses_by
 refused = refused_as_judged (burst_of 0xFFC 1 2 1 4) (0x02 ∷ []) Boundary refl
 
@@ -148,7 +148,7 @@ two-accepted = refl
 abbrev half : List ℕ
 half = 0x02 ∷ 0x0F ∷ 0x01 ∷ []
 
-pub half_refused : write_answer two half ≡ Refused Length
+pub half_refused : write_answer two half ≡ Err Length
 half_refused = (length_exactly two half).1 (two-accepted, inr (λ e. omega arith))
 
 pub half_found : IsAccepted two × ((65536 < 3) ⊎ (3 % 2 ≢ 0))
@@ -177,7 +177,7 @@ above-first =
     earlier zero l = refl
     earlier (suc j) l = absurd (omega arith)
 
-pub above-refused : write_answer two above ≡ Refused (Field 1)
+pub above-refused : write_answer two above ≡ Err (Field 1)
 above-refused = (field_exactly two above 1).1 above-first
 
 pub above_earlier : field_fault 4 (0x01 ∷ 0x0F ∷ []) ≡ false

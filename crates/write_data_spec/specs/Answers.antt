@@ -1,6 +1,6 @@
 -- What judging write beats answers, over all its arguments; and the numbers that each answer shows (paper 02, T-05; paper 01,
 -- 'How much each answer must say'). The contract of the call cites these definitions.
-use Rattle.std.specs.Prelude.{Bool, ◌||◌, List, [], ◌∷◌, ◌++◌, ◌≡◌, ℕ, ◌+◌, ◌-◌, ◌*◌, leb, Option, None, Some}
+use Rattle.std.specs.Prelude.{Bool, ◌||◌, List, [], ◌∷◌, ◌++◌, ◌≡◌, ℕ, ◌+◌, ◌-◌, ◌*◌, leb, Option, None, Some, Result, Ok, Err}
 use Rattle.refusal.specs.Checks.{Check, check, first}
 use Rattle.refusal.specs.Code.{code_of}
 use Rattle.refusal.specs.declared.Refusal.{Refusal}
@@ -10,7 +10,7 @@ use Rattle.stream_spec.specs.Checks.{each}
 use Rattle.burst_spec.specs.declared.Burst.{Burst}
 use Rattle.burst_spec.specs.Checks.{some_below, checks}
 use Rattle.write_data_spec.specs.declared.WriteVerdict.{WriteVerdict}
-use Rattle.write_data_spec.specs.declared.WriteVerdict.TheVariants.{Clean, Broken, Refused}
+use Rattle.write_data_spec.specs.declared.WriteVerdict.TheVariants.{Clean, Broken}
 use Rattle.write_data_spec.specs.Layout.{lanes_each, strobe_octets, beat_size, write_beats, flags, strobe, all_strobes}
 use Rattle.write_data_spec.specs.Rules.{Finding, first_finding}
 
@@ -41,12 +41,12 @@ write_refusal b xs = first (checks b ++ take_checks b.bus xs)
 
 -- ---- the answer
 
-abbrev pub verdict : Option Refusal → Option Finding → ℕ → WriteVerdict
-verdict (Some r) f n = Refused r
-verdict None (Some f) n = Broken f.place f.rule
-verdict None None n = Clean n
+abbrev pub verdict : Option Refusal → Option Finding → ℕ → Result WriteVerdict Refusal
+verdict (Some r) f n = Err r
+verdict None (Some f) n = Ok (Broken f.place f.rule)
+verdict None None n = Ok (Clean n)
 
-abbrev pub write_answer : Burst → List ℕ → WriteVerdict
+abbrev pub write_answer : Burst → List ℕ → Result WriteVerdict Refusal
 write_answer b xs =
     verdict (write_refusal b xs) (first_finding b (write_beats b.bus xs)) (all_strobes b.bus (write_beats b.bus xs))
 
@@ -65,10 +65,10 @@ values refusal place rule strobes = record { refusal = refusal; place = place; r
 abbrev pub refusal_values : Refusal → Values
 refusal_values r = values (code_of r).0 (code_of r).1 (code_of r).2 0
 
-abbrev pub write_values : WriteVerdict → Values
-write_values (Clean n) = values 0 0 0 n
-write_values (Broken place rule) = values 0 place rule 0
-write_values (Refused r) = refusal_values r
+abbrev pub write_values : Result WriteVerdict Refusal → Values
+write_values (Ok (Clean n)) = values 0 0 0 n
+write_values (Ok (Broken place rule)) = values 0 place rule 0
+write_values (Err r) = refusal_values r
 
 -- the same of the first refusal and the first finding
 abbrev pub values_for : Option Refusal → Option Finding → ℕ → Values
@@ -79,7 +79,7 @@ values_for None None n = values 0 0 0 n
 -- ---- the contract of the call: the answer is the definition's, with these numbers. They are said through the checks and not through
 -- the answer, so that a wrong line of `write_values` breaks the contract itself.
 
-pub record WritesJudged (b : Burst) (xs : List ℕ) (r : WriteVerdict) : Type 0 where
+pub record WritesJudged (b : Burst) (xs : List ℕ) (r : Result WriteVerdict Refusal) : Type 0 where
   pub is : r ≡ write_answer b xs
   pub shows :
       write_values r

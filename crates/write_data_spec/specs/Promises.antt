@@ -1,22 +1,21 @@
 -- What is proved of judging write beats, a statement each. Words in quotes are the request's (paper 02, T-05); its numbers are typed here
 -- once more, which pins the named ones. The proofs are in proofs/Promises.
-use Rattle.std.specs.Prelude.{Bool, true, false, List, [], ◌∷◌, ◌⊎◌, ◌↔◌, ◌≢◌, ◌≡◌, ℕ, zero, suc, ◌+◌, ◌*◌, ◌/◌, ◌%◌, ◌≤◌, ◌<◌, eqb, length, get_or, None}
+use Rattle.std.specs.Prelude.{Bool, true, false, List, [], ◌∷◌, ◌⊎◌, ◌↔◌, ◌≢◌, ◌≡◌, ℕ, zero, suc, ◌+◌, ◌*◌, ◌/◌, ◌%◌, ◌≤◌, ◌<◌, eqb, length, get_or, None, Ok, Err}
 use Rattle.refusal.specs.declared.Refusal.{Refusal}
 use Rattle.refusal.specs.declared.Refusal.TheVariants.{Length, Field}
 use Rattle.stream_spec.specs.Layout.{bit}
 use Rattle.stream_spec.specs.Legal.{Octets}
 use Rattle.burst_spec.specs.declared.Burst.{Burst}
-use Rattle.burst_spec.specs.declared.Judgement.TheVariants as judged
 use Rattle.burst_spec.specs.Address.{beats, beat_of}
 use Rattle.burst_spec.specs.Answers.{judgement}
-use Rattle.write_data_spec.specs.declared.WriteVerdict.TheVariants.{Clean, Broken, Refused}
+use Rattle.write_data_spec.specs.declared.WriteVerdict.TheVariants.{Clean, Broken}
 use Rattle.write_data_spec.specs.Layout.{write_beats, flags, wlast, strobe, all_strobes}
 use Rattle.write_data_spec.specs.Rules.{w1, w2, w3, w4, Finding, finding}
 use Rattle.write_data_spec.specs.Answers.{field_fault, write_refusal, write_answer}
 
 -- a burst that none of 7 to 12 refuses
 abbrev pub IsAccepted : Burst → Type 0
-IsAccepted b = judgement b ≡ judged.Accepted
+IsAccepted b = judgement b ≡ Ok tt
 
 -- the octets of a beat record: "one octet .., then bus/8 octets (rounded up)"
 abbrev pub octets_each : ℕ → ℕ
@@ -63,7 +62,7 @@ pub record IsEarliest (b : Burst) (rs : List (List ℕ)) (f : Finding) : Type 0 
 abbrev pub BrokenExactly : Type 0
 BrokenExactly =
     (b : Burst) (xs : List ℕ) (p n : ℕ)
-    → (write_answer b xs ≡ Broken p n) ↔ ((write_refusal b xs ≡ None) × IsEarliest b (write_beats b.bus xs) (finding p n))
+    → (write_answer b xs ≡ Ok (Broken p n)) ↔ ((write_refusal b xs ≡ None) × IsEarliest b (write_beats b.bus xs) (finding p n))
 
 -- no rule is broken at any of the first n beats
 abbrev pub Sound : Burst → List (List ℕ) → ℕ → Type 0
@@ -87,7 +86,7 @@ StrayExactly = (b : Burst) (k : ℕ) (r : List ℕ) → (w1 b k r ≡ true) ↔ 
 abbrev pub CleanSound : Type 0
 CleanSound =
     (b : Burst) (xs : List ℕ) (n : ℕ)
-    → (write_answer b xs ≡ Clean n)
+    → (write_answer b xs ≡ Ok (Clean n))
     ↔ ((write_refusal b xs ≡ None) × (length (write_beats b.bus xs) ≡ beats b) × Sound b (write_beats b.bus xs) (beats b)
     × (n ≡ all_strobes b.bus (write_beats b.bus xs)))
 
@@ -101,7 +100,7 @@ pub record CleanTake (b : Burst) (rs : List (List ℕ)) : Type 0 where
 abbrev pub CleanExactly : Type 0
 CleanExactly =
     (b : Burst) (xs : List ℕ) (n : ℕ)
-    → (write_answer b xs ≡ Clean n)
+    → (write_answer b xs ≡ Ok (Clean n))
     ↔ ((write_refusal b xs ≡ None) × CleanTake b (write_beats b.bus xs) × (n ≡ all_strobes b.bus (write_beats b.bus xs)))
 
 -- "W4 a beat past the last": exactly where there are more beats than the burst has and none of the burst's breaks a rule, at the
@@ -109,14 +108,14 @@ CleanExactly =
 abbrev pub TooManyExactly : Type 0
 TooManyExactly =
     (b : Burst) (xs : List ℕ) (p : ℕ)
-    → (write_answer b xs ≡ Broken p 4)
+    → (write_answer b xs ≡ Ok (Broken p 4))
     ↔ ((write_refusal b xs ≡ None) × (p ≡ beats b) × (beats b < length (write_beats b.bus xs)) × Sound b (write_beats b.bus xs) (beats b))
 
 -- "W5, too few beats, names the count given as its place": exactly where there are fewer and none given breaks a rule
 abbrev pub TooFewExactly : Type 0
 TooFewExactly =
     (b : Burst) (xs : List ℕ) (p : ℕ)
-    → (write_answer b xs ≡ Broken p 5)
+    → (write_answer b xs ≡ Ok (Broken p 5))
     ↔ ((write_refusal b xs ≡ None) × (p ≡ length (write_beats b.bus xs)) × (p < beats b) × Sound b (write_beats b.bus xs) p)
 
 -- ---- the refusals
@@ -133,13 +132,13 @@ NothingRefused = (b : Burst) (xs : List ℕ) → (write_refusal b xs ≡ None) �
 
 -- "the burst's own": what judging refuses is refused with the same, whatever the octets
 abbrev pub RefusedAsJudged : Type 0
-RefusedAsJudged = (b : Burst) (xs : List ℕ) (r : Refusal) → judgement b ≡ judged.Refused r → write_answer b xs ≡ Refused r
+RefusedAsJudged = (b : Burst) (xs : List ℕ) (r : Refusal) → judgement b ≡ Err r → write_answer b xs ≡ Err r
 
 -- "then LENGTH": "input is over 65,536 octets or no whole number of records" (01)
 abbrev pub LengthExactly : Type 0
 LengthExactly =
     (b : Burst) (xs : List ℕ)
-    → (write_answer b xs ≡ Refused Length) ↔ (IsAccepted b × ((65536 < length xs) ⊎ (length xs % octets_each b.bus ≢ 0)))
+    → (write_answer b xs ≡ Err Length) ↔ (IsAccepted b × ((65536 < length xs) ⊎ (length xs % octets_each b.bus ≢ 0)))
 
 -- "then FIELD at the first record with a bit set that must be zero", beats past the last included
 pub record FirstBad (b : Burst) (xs : List ℕ) (k : ℕ) : Type 0 where
@@ -151,7 +150,7 @@ pub record FirstBad (b : Burst) (xs : List ℕ) (k : ℕ) : Type 0 where
   pub earlier : (j : ℕ) → j < k → field_fault b.bus (beat (write_beats b.bus xs) j) ≡ false
 
 abbrev pub FieldExactly : Type 0
-FieldExactly = (b : Burst) (xs : List ℕ) (k : ℕ) → (write_answer b xs ≡ Refused (Field k)) ↔ FirstBad b xs k
+FieldExactly = (b : Burst) (xs : List ℕ) (k : ℕ) → (write_answer b xs ≡ Err (Field k)) ↔ FirstBad b xs k
 
 -- such a bit: octet 0 is neither 0 nor 1, or a strobe bit that the record has "at or above the bus" is high
 pub record StrobeAbove (bus : ℕ) (r : List ℕ) : Type 0 where

@@ -2,13 +2,10 @@
 // above; what it must answer is in specs/, and the laws about that are in proofs/. Nothing is computed here.
 #![tactic(auto)]
 
-use refusal::Refusal;
-
-// What judging write beats answers: clean with the number of high strobes, or broken with the first beat that breaks a rule and
-// the lowest rule that it breaks, or refused.
-#[derive(Clone, Copy)]
+// What write beats that are not refused are judged: clean with the number of high strobes, or broken with the first beat that
+// breaks a rule and the lowest rule that it breaks, 1 to 5.
+#[derive(Clone, Copy, Debug, PartialEq, Eq)]
 pub enum WriteVerdict {
     Clean(usize),
     Broken(usize, u32),
-    Refused(Refusal),
 }
