@@ -59,7 +59,7 @@ in_sixteens x l c e =
           ∙ ap (run (λ j. beats (piece x j)) 0) e
           ∙ run-last (λ j. beats (piece x j)) c
           ∙ ap (λ ns. ns ++ (beats (piece x c) ∷ [])) (run_constant (λ j. beats (piece x j)) 16 0 c full);
-      Some = omega arith;
+      some = omega arith;
       most = omega arith;
       number = run_length (piece x) 0 (piece_count x) ∙ count-is x l;
     }

@@ -35,7 +35,7 @@ pub refused-some : (o : Option Refusal) (r : Refusal) → judgement_for o ≡ Er
 refused-some (Some q) r e = cc
 refused-some None r e = absurd (clash cc)
 
-judgement-shows : (o : Option Refusal) → judgement_values (judgement_for o) ≡ values_for o (judgement_values Ok tt)
+judgement-shows : (o : Option Refusal) → judgement_values (judgement_for o) ≡ values_for o (judgement_values (Ok tt))
 judgement-shows (Some r) = refl
 judgement-shows None = refl
 
@@ -185,13 +185,13 @@ module _ (x : Burst) (k : ℕ) where
   pub present-is : Accepted x → k < beats x → (y : Beat) → beat_answer x k ≡ Ok y → beat_of x k ≡ y
   present-is a h y e = same (beat_of x k) (sym (present-beat a h) ∙ e)
     where
-      same : (z : Beat) → Ok z ≡ Ok y → z ≡ y
+      same : (z : Beat) → ◌≡◌ {A = Result Beat Refusal} (Ok z) (Ok y) → z ≡ y
       same z f = cc
 
   pub present_never : Accepted x → k < beats x → (r : Refusal) → beat_answer x k ≡ Err r → ⊥
   present_never a h r e = apart (beat_of x k) (sym (present-beat a h) ∙ e)
     where
-      apart : (z : Beat) → Ok z ≡ Err r → ⊥
+      apart : (z : Beat) → ◌≡◌ {A = Result Beat Refusal} (Ok z) (Err r) → ⊥
       apart z f = clash cc
 
   pub refused-beat : (r : Refusal) → judgement_for (first (checks_of_beat x k)) ≡ Err r → BeatGiven x k (Err r)

@@ -1,9 +1,10 @@
 -- A contract leaves one answer: two answers that meet it on the same arguments are equal, and show the same numbers. So no
 -- field of a contract can be emptied unseen. Assumes nothing.
-use Rattle.std.specs.Prelude.{Result}
+use Rattle.std.specs.Prelude.{ℤ, Result}
 use mathlib.Core.Path.{◌≡◌, sym, ◌∙◌}
 use Prim.Native.Nat.{ℕ}
 use Rattle.refusal.specs.declared.Refusal.{Refusal}
+use Rattle.burst_spec.specs.declared.Beat.{Beat}
 use Rattle.burst_spec.specs.declared.Burst.{Burst}
 use Rattle.burst_spec.specs.Answers.{judgement_values, beat_values, step_values, Judged, BeatGiven, StepGiven}
 

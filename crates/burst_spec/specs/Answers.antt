@@ -69,7 +69,7 @@ refusal_values r =
     record { refusal = (code_of r).0; place = (code_of r).1; rule = (code_of r).2; address = 0; lower = 0; upper = 0; step = pos 0 }
 
 abbrev pub judgement_values : Result (Unit {0}) Refusal → Values
-judgement_values Ok tt = values 0 0 0 (pos 0)
+judgement_values (Ok u) = values 0 0 0 (pos 0)
 judgement_values (Err r) = refusal_values r
 
 abbrev pub beat_values : Result Beat Refusal → Values

@@ -13,18 +13,16 @@ use Rattle.refusal.specs.declared.Refusal.{Refusal}
 use Rattle.refusal.proofs.First.{first-none, append-none, append-found, append-passed}
 use Rattle.stream_spec.specs.declared.Shape.{Shape}
 use Rattle.stream_spec.specs.Checks.{length_check, take_checks, room_check}
+use Rattle.merge_spec.specs.declared.PortRefusal.{PortRefusal}
 use Rattle.merge_spec.specs.Merge.{merged_records, merged}
-use Rattle.merge_spec.specs.Answers.{Named, naming, port_checks, merge_refusal, merged_by, lent_by, merge_answer, merge_after, merged_values, values_for, PortsMerged}
+use Rattle.merge_spec.specs.Answers.{named, naming, port_checks, merge_refusal, merged_by, lent_by, merge_answer, merge_after, merged_values, values_for, PortsMerged}
 
 pub clash : {A : Type 0} → ◌≡◌ {A = ℕ} 0 1 → A
 clash e = absurd (omega arith)
 
 -- ---- checks that name a port
 
-abbrev pub named : ℕ → Refusal → Named
-named port r = record { port = port; refusal = r }
-
-abbrev pub named_by : ℕ → Option Refusal → Option Named
+abbrev pub named_by : ℕ → Option Refusal → Option PortRefusal
 named_by port None = None
 named_by port (Some r) = Some (named port r)
 
@@ -45,7 +43,7 @@ pub named_some : (port q : ℕ) (r : Refusal) (o : Option Refusal) → named_by 
 named_some port q r None e = clash cc
 named_some port q r (Some p) e =
     let same : named port p ≡ named q r = cc in
-    (sym (ap (λ (f : Named). f.port) same), ap (λ (f : Named). Some f.refusal) same)
+    (sym (ap (λ (f : PortRefusal). f.port) same), ap (λ (f : PortRefusal). Some f.refusal) same)
 
 pub naming-none : (port : ℕ) (cs : List (Check Refusal)) → first (naming port cs) ≡ None → first cs ≡ None
 naming-none port cs e = named_none port (first cs) (sym (naming-first port cs) ∙ e)
@@ -66,16 +64,16 @@ append-some cs ds x e = go (first cs) refl
 
 -- what a call has passed where the parts in front find nothing, and what finds a fault
 module _ (s : Shape) (xs ys : List ℕ) (room : ℕ) where
-  abbrev pub roomed : List (Check Named)
+  abbrev pub roomed : List (Check PortRefusal)
   roomed = naming 0 (room_check (merged s xs ys) room ∷ [])
 
-  abbrev pub fourth : List (Check Named)
+  abbrev pub fourth : List (Check PortRefusal)
   fourth = naming 1 (port_checks s ys) ++ roomed
 
-  abbrev pub third : List (Check Named)
+  abbrev pub third : List (Check PortRefusal)
   third = naming 0 (port_checks s xs) ++ fourth
 
-  abbrev pub second : List (Check Named)
+  abbrev pub second : List (Check PortRefusal)
   second = naming 1 (length_check s ys ∷ []) ++ third
 
   -- nothing is found
@@ -132,7 +130,7 @@ pub answer-taken : (s : Shape) (xs ys : List ℕ) (room n : ℕ) → merge_answe
 unfolding merge_answer
 answer-taken s xs ys room n e = go (merge_refusal s xs ys room) refl e
   where
-    go : (o : Option Named) → merge_refusal s xs ys room ≡ o → merged_by o (length (merged_records s xs ys)) ≡ Ok n
+    go : (o : Option PortRefusal) → merge_refusal s xs ys room ≡ o → merged_by o (length (merged_records s xs ys)) ≡ Ok n
         → (merge_refusal s xs ys room ≡ None) × (n ≡ length (merged_records s xs ys))
     go (Some f) h k = clash cc
     go None h k = (h, cc)
@@ -143,26 +141,25 @@ unfolding merge_answer
 taken-answer s xs ys room e = rw e refl
 
 pub answer-refused : (s : Shape) (xs ys : List ℕ) (room port : ℕ) (r : Refusal)
-    → (merge_answer s xs ys room ≡ Err (record { port = port; refusal = r })) ↔ (merge_refusal s xs ys room ≡ Some (named port r))
+    → (merge_answer s xs ys room ≡ Err (named port r)) ↔ (merge_refusal s xs ys room ≡ Some (named port r))
 unfolding merge_answer
 answer-refused s xs ys room port r = (λ e. go (merge_refusal s xs ys room) refl e, λ e. rw e refl)
   where
-    go : (o : Option Named) → merge_refusal s xs ys room ≡ o → merged_by o (length (merged_records s xs ys)) ≡ Err (record { port = port; refusal = r })
+    go : (o : Option PortRefusal) → merge_refusal s xs ys room ≡ o → merged_by o (length (merged_records s xs ys)) ≡ Err (named port r)
         → merge_refusal s xs ys room ≡ Some (named port r)
     go None h k = clash cc
     go (Some f) h k =
-        let p : f.port ≡ port = cc in
-        let q : f.refusal ≡ r = cc in
-        h ∙ (λ i. Some (record { port = p i; refusal = q i }))
+        let p : f ≡ named port r = cc in
+        h ∙ ap Some p
 
 -- an answer that is the defined one shows the paper's numbers
-shown : (o : Option Named) (n : ℕ) → merged_values (merged_by o n) ≡ values_for o n
+shown : (o : Option PortRefusal) (n : ℕ) → merged_values (merged_by o n) ≡ values_for o n
 shown (Some f) n = refl
 shown None n = refl
 
 module _ (s : Shape) (xs ys before : List ℕ) where
   pub merged-refused : (port : ℕ) (r : Refusal) → merge_refusal s xs ys (length before) ≡ Some (named port r)
-      → PortsMerged s xs ys before before (Err (record { port = port; refusal = r }))
+      → PortsMerged s xs ys before before (Err (named port r))
   unfolding merge_answer merge_after
   merged-refused port r e = record { is = rw e refl; shows = rw e refl; leaves = rw e refl }
 

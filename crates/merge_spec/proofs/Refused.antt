@@ -15,17 +15,18 @@ use Rattle.refusal.specs.declared.Refusal.TheVariants.{Width, UserBits, Length, 
 use Rattle.refusal.proofs.First.{append-found}
 use Rattle.stream_spec.specs.declared.Shape.{Shape}
 use Rattle.stream_spec.specs.Checks.{width_check, user_check, length_check, take_checks, room_check}
+use Rattle.merge_spec.specs.declared.PortRefusal.{PortRefusal}
 use Rattle.merge_spec.specs.Merge.{merged}
-use Rattle.merge_spec.specs.Answers.{Named, naming, port_checks, merge_refusal}
+use Rattle.merge_spec.specs.Answers.{named, naming, port_checks, merge_refusal}
 use Rattle.merge_spec.specs.Promises.{AllSound, Readable, RefusedBy, HighBy}
-use Rattle.merge_spec.proofs.Refusals.{clash, named, naming-first, naming-none, named_some, append-some, roomed, fourth, third, second, after-take, after-other, after-firsts, after_seconds}
+use Rattle.merge_spec.proofs.Refusals.{clash, naming-first, naming-none, named_some, append-some, roomed, fourth, third, second, after-take, after-other, after-firsts, after_seconds}
 use Rattle.merge_spec.proofs.Faults.{all_sound, sound-all, high-at, at_high, readable_of, take-readable, other-readable}
 use Rattle.merge_spec.proofs.Merge.{merged_both}
 
 -- ---- part by part: one of them gives it, and none of those in front gives anything
 
 module _ (s : Shape) (xs ys : List ℕ) (room port : ℕ) (r : Refusal) where
-  abbrev it : Named
+  abbrev it : PortRefusal
   it = named port r
 
   by_port : (p : ℕ) (cs : List (Check Refusal)) → first (naming p cs) ≡ Some it → (port ≡ p) × (first cs ≡ Some r)

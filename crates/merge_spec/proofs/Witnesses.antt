@@ -18,7 +18,7 @@ use Rattle.stream_spec.specs.Tables.{lanes, one, stream}
 use Rattle.stream_spec.proofs.Tables.{octets_tested, divides_tested}
 use Rattle.merge_spec.specs.Turns.{those}
 use Rattle.merge_spec.specs.Merge.{restored, high_tid, low_tid, merged_records}
-use Rattle.merge_spec.specs.Answers.{merge_answer, merge_after}
+use Rattle.merge_spec.specs.Answers.{named, merge_answer, merge_after}
 use Rattle.merge_spec.specs.Promises.{sent_by, InTurns, cut_turns}
 use Rattle.merge_spec.specs.Cases.{rec, flagged}
 use Rattle.merge_spec.proofs.Promises.{nothing_refused, refused_in_order, tags_exactly, memory_kept, merge_writes, shares, takes_turns, merged_only, fair_turns, merged_legal, merged_calls, merged_parts, packed_shares, packed_turns}
@@ -226,7 +226,7 @@ tags-one_again = let t = tags_exactly (lanes 1) (rec 0 1 10) (one 0 128 0 0 0 0)
 -- ---- each line of the refusals' order, both ways; and the memory afterwards
 
 abbrev Again : List ℕ → List ℕ → ℕ → ℕ → Refusal → Type 0
-Again xs ys room port r = merge_answer (lanes 1) xs ys room ≡ Err (record { port = port; refusal = r })
+Again xs ys room port r = merge_answer (lanes 1) xs ys room ≡ Err (named port r)
 
 again : (xs ys : List ℕ) (room port : ℕ) (r : Refusal) → Again xs ys room port r → Again xs ys room port r
 again xs ys room port r e = let t = refused_in_order (lanes 1) xs ys room port r in t.1 (t.0 e)

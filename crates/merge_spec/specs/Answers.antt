@@ -15,11 +15,10 @@ use Rattle.merge_spec.specs.Merge.{high_tid, merged_records, merged}
 -- ---- refusals
 
 -- "the refusal names the port"
-pub record Named : Type 0 where
-  pub port : ℕ
-  pub refusal : Refusal
+abbrev pub named : ℕ → Refusal → PortRefusal
+named port r = record { port = port; refusal = r }
 
-abbrev pub naming : ℕ → List (Check Refusal) → List (Check Named)
+abbrev pub naming : ℕ → List (Check Refusal) → List (Check PortRefusal)
 naming port cs = map (λ (c : Check Refusal). check c.found (record { port = port; refusal = c.gives })) cs
 
 -- one record at place k of its own list: "3, 4, then 17 TAGS for a TID of 128 or more in that record"
@@ -31,7 +30,7 @@ port_checks s xs = each (port_faults s) 0 (records s xs)
 
 -- "1, 2 for port 0's list before port 1's, then port 0's records before port 1's .., and ROOM last"; 16 stands straight after 1
 -- (T-06). "0 for 1, 16 and ROOM".
-abbrev pub merge_refusal : Shape → List ℕ → List ℕ → ℕ → Option Named
+abbrev pub merge_refusal : Shape → List ℕ → List ℕ → ℕ → Option PortRefusal
 merge_refusal s xs ys room =
     first
     (naming 0 (take_checks s xs)
@@ -42,11 +41,11 @@ merge_refusal s xs ys room =
 
 -- "An accepted writing call answers the number of records and leaves the output after them unchanged"; refused, "lent memory keeps its
 -- content" (01).
-abbrev pub merged_by : Option Named → ℕ → Result ℕ PortRefusal
-merged_by (Some f) n = Err (record { port = f.port; refusal = f.refusal })
+abbrev pub merged_by : Option PortRefusal → ℕ → Result ℕ PortRefusal
+merged_by (Some f) n = Err f
 merged_by None n = Ok n
 
-abbrev pub lent_by : Option Named → List ℕ → List ℕ → List ℕ
+abbrev pub lent_by : Option PortRefusal → List ℕ → List ℕ → List ℕ
 lent_by (Some f) result lent = lent
 lent_by None result lent = in_front result lent
 
@@ -70,10 +69,10 @@ values refusal port place count = record { refusal = refusal; port = port; place
 
 abbrev pub merged_values : Result ℕ PortRefusal → Values
 merged_values (Ok n) = values 0 0 0 n
-merged_values (Err (record { port = port; refusal = r })) = values (code_of r).0 port (code_of r).1 0
+merged_values (Err f) = values (code_of f.refusal).0 f.port (code_of f.refusal).1 0
 
 -- the same of the first refusal
-abbrev pub values_for : Option Named → ℕ → Values
+abbrev pub values_for : Option PortRefusal → ℕ → Values
 values_for (Some f) n = values (code_of f.refusal).0 f.port (code_of f.refusal).1 0
 values_for None n = values 0 0 0 n
 

@@ -11,7 +11,7 @@ use Rattle.stream_spec.specs.Legal.{Octets, Legal}
 use Rattle.stream_spec.specs.Demand3.{Call, CallsKeep, Part, whole, AllAccepted, results_joined, sum, Divides}
 use Rattle.merge_spec.specs.Turns.{into_first, passed, those}
 use Rattle.merge_spec.specs.Merge.{tid, restored, high_tid, low_tid, turns, merged_records, merged}
-use Rattle.merge_spec.specs.Answers.{port_checks, merge_answer, merge_after}
+use Rattle.merge_spec.specs.Answers.{named, port_checks, merge_answer, merge_after}
 
 -- ---- what is accepted, and what is refused
 
@@ -60,7 +60,7 @@ RefusedBy s xs ys room port r =
 abbrev pub RefusedInOrder : Type 0
 RefusedInOrder =
     (s : Shape) (xs ys : List ℕ) (room port : ℕ) (r : Refusal)
-    → (merge_answer s xs ys room ≡ Err (record { port = port; refusal = r })) ↔ RefusedBy s xs ys room port r
+    → (merge_answer s xs ys room ≡ Err (named port r)) ↔ RefusedBy s xs ys room port r
 
 -- 17: "for a TID of 128 or more in that record", with items or without, and "the record in its own list"; it has neither 3 nor 4, and
 -- nothing before it has a fault
@@ -82,7 +82,7 @@ TagsExactly =
 -- "A refused call changes no octet of lent memory" (demand 1).
 abbrev pub MemoryKept : Type 0
 MemoryKept =
-    (s : Shape) (xs ys out : List ℕ) (port : ℕ) (r : Refusal) → merge_answer s xs ys (length out) ≡ Err (record { port = port; refusal = r })
+    (s : Shape) (xs ys out : List ℕ) (port : ℕ) (r : Refusal) → merge_answer s xs ys (length out) ≡ Err (named port r)
     → merge_after s xs ys out ≡ out
 
 -- ---- what is written

@@ -3,6 +3,7 @@
 use Rattle.std.specs.Prelude.{Option}
 use mathlib.Core.List.{List, map}
 use mathlib.Core.Path.{◌≡◌, refl}
+use Rattle.report_setup_spec.specs.declared.Setup.{Setup}
 use Rattle.report_setup_spec.specs.Grammar.{text, sheet_of}
 use Rattle.report_setup_spec.specs.Answers.{sheet_values}
 use Rattle.report_setup_spec.specs.Cases.{Told, Case, worked_cases}

@@ -4,6 +4,7 @@ use Rattle.std.specs.Prelude.{Option}
 use mathlib.Core.List.{List}
 use mathlib.Core.Path.{◌≡◌, sym, ◌∙◌}
 use Prim.Native.Nat.{ℕ}
+use Rattle.report_setup_spec.specs.declared.Setup.{Setup}
 use Rattle.report_setup_spec.specs.Answers.{sheet_values, Parsed}
 
 pub parsed_once : {sheet : List ℕ} {a b : Option Setup} → Parsed sheet a → Parsed sheet b → (a ≡ b) × (sheet_values a ≡ sheet_values b)

@@ -242,7 +242,7 @@ word_line key spelling ws h xs l e =
     let p : (w : List ℕ) × (one_of ws w ≡ Some l.value) × (xs ≡ line_text key w l.rest) = line-only key (one_of ws) xs l e in
     p.2 ∙ ap (λ (w : List ℕ). line_text key w l.rest) (words_only spelling ws h p.0 l.value p.1)
 
-absurd_refused : {B : Type 0} {u : Setup} → ◌≡◌ {A = Sheet} None (Some u) → B
+absurd_refused : {B : Type 0} {u : Setup} → ◌≡◌ {A = Option Setup} None (Some u) → B
 absurd_refused e = let z : ◌≡◌ {A = ℕ} 0 1 = cc in absurd (omega arith)
 
 line_taken : {A : Type 0} (o : Option (Line A)) (f : Line A → Option Setup) (u : Setup) → on_line o f ≡ Some u → (l : Line A) × (o ≡ Some l) × (f l ≡ Some u)

@@ -20,10 +20,11 @@ use Rattle.stream_spec.specs.Memory.{in_front}
 use Rattle.stream_spec.specs.Walk.{Narrow, Passed}
 use Rattle.stream_spec.proofs.Passed.{take-passed, checks-passed, passed-shape, passed_narrow}
 use Rattle.stream_spec.proofs.Size.{size_pos}
+use Rattle.merge_spec.specs.declared.PortRefusal.{PortRefusal}
 use Rattle.merge_spec.specs.declared.Merged.TheVariants.{Records, Refused}
 use Rattle.merge_spec.specs.Merge.{merged_records, merged}
-use Rattle.merge_spec.specs.Answers.{Named, naming, port_checks, PortsMerged}
-use Rattle.merge_spec.proofs.Refusals.{named, naming-first, second, third, fourth, roomed, after-take, after-other, after-firsts, after_seconds, after-all, merged-refused, merged-written}
+use Rattle.merge_spec.specs.Answers.{named, naming, port_checks, PortsMerged}
+use Rattle.merge_spec.proofs.Refusals.{naming-first, second, third, fourth, roomed, after-take, after-other, after-firsts, after_seconds, after-all, merged-refused, merged-written}
 use Rattle.merge_spec.proofs.Faults.{faultless-low}
 use Rattle.merge_spec.proofs.Merge.{merged-long, merged_both}
 use Rattle.stream_merge.specs.declared.Turn.{Turn}
@@ -47,7 +48,7 @@ module _ (s : Shape) (xs ys out : List ℕ) (fits : ListsFit s xs ys out) (z : �
 -- ---- the tests
 
 -- a list of checks that names a port, before others
-found_front : (port : ℕ) (cs : List (Check Refusal)) (ds : List (Check Named)) (r : Refusal) → first cs ≡ Some r
+found_front : (port : ℕ) (cs : List (Check Refusal)) (ds : List (Check PortRefusal)) (r : Refusal) → first cs ≡ Some r
     → first (naming port cs ++ ds) ≡ Some (named port r)
 found_front port cs ds r e = append-found (naming port cs) ds (named port r) (naming-first port cs ∙ rw e refl)
 
