@@ -38,6 +38,7 @@ use Rattle.report_setup_spec.specs.declared.Tlast.{Tlast}
 use Rattle.report_setup_spec.specs.declared.Tlast.TheVariants.{Wired, Absent, Low}
 use Rattle.report_setup_spec.specs.Grammar.{sheet_of, text as ascii}
 use Rattle.report_spec.specs.declared.Tally.{Tally}
+use Rattle.report_spec.specs.declared.Verdict.{Verdict}
 use Rattle.report_spec.specs.declared.Verdict.TheVariants.{Clean, Broken}
 use Rattle.report_spec.specs.Report.{Outcome, shape_of, out_shape, prepared, cycles_of, transfers_of, lasts, packet_count, convert_answer, convert_result, tally, converted, converted_transfers, after_judging, capture_outcome, ratio_checks, setup_checks, Passes, unless, setup_outcome, sheet_outcome, outcome_of, Whole, whole, report_of}
 use Rattle.report_spec.specs.Promises.{OctetsOf, ReportsSetup, is_clean, OnlyWhenClean, CleanTally, CleanTallies, sampled_at, result_by, TlastNone, TlastLow, LeastRecords, ArchivesReported, may_show, RefusalsShown, NeverReservedNorUnclean, PackNeverRatio, ordered_checks, converted_of, tally_of, in_order, ReportInOrder, TextShort}
@@ -160,7 +161,7 @@ abbrev AllShow : Mode → List (Check Refusal) → Type 0
 AllShow m [] = Unit {0}
 AllShow m (c ∷ cs) = (may_show m (code_of c.gives).0 ≡ true) × AllShow m cs
 
-same-refusal : (m : Mode) (q r : Refusal) → Err q ≡ Err r → may_show m (code_of q).0 ≡ true → may_show m (code_of r).0 ≡ true
+same-refusal : (m : Mode) (q r : Refusal) → ◌≡◌ {A = Result Verdict Refusal} (Err q) (Err r) → may_show m (code_of q).0 ≡ true → may_show m (code_of r).0 ≡ true
 same-refusal m q r e h = let same : q ≡ r = cc in subst (λ (x : Refusal). may_show m (code_of x).0 ≡ true) same h
 
 first-shows : (m : Mode) (cs : List (Check Refusal)) → AllShow m cs → (r : Refusal) → first cs ≡ Some r → may_show m (code_of r).0 ≡ true
@@ -253,7 +254,7 @@ never_14 : (m : Mode) → may_show m 14 ≡ false
 never_14 Pack = refl
 never_14 Lanes = refl
 
-bad-sheet : (r : Refusal) → Err BadSheet ≡ Err r → ((code_of r).0 ≢ 4) × ((code_of r).0 ≢ 14)
+bad-sheet : (r : Refusal) → ◌≡◌ {A = Result Verdict Refusal} (Err BadSheet) (Err r) → ((code_of r).0 ≢ 4) × ((code_of r).0 ≢ 14)
 bad-sheet r e =
     let same : BadSheet ≡ r = cc in
     subst (λ (x : Refusal). ((code_of x).0 ≢ 4) × ((code_of x).0 ≢ 14)) same (eqb-false 15 4 refl, eqb-false 15 14 refl)
