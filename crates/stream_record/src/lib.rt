@@ -6,6 +6,7 @@
 mod checks;
 mod faults;
 pub mod layout;
+mod take;
 
 ghost use Rattle.std.specs.Prelude.{◌≡◌, ℕ, ◌+◌, ◌*◌, ◌%◌, ◌≤◌, ◌<◌, ◌^◌, ltb, length, get_or};
 ghost use Rattle.stream_spec.specs.Layout.{head_octets, width_most, user_most, user_octets, user_number, shaped, at_width, size, types_of, any_reserved};
@@ -13,37 +14,22 @@ ghost use Rattle.stream_spec.specs.Checks.{width_check, length_check, user_fault
 ghost use Rattle.stream_spec.specs.Walk.{Narrow};
 ghost use Rattle.stream_record.specs.Header.{header_of, header_fault};
 
-pub use checks::{check_input, check_length, check_shapes, check_take};
-pub use faults::{fault_in, fault_of, find_fault, record_fault};
+pub use checks::{check_length, check_shape, check_shapes};
+pub use faults::{Fault, fault_in, fault_of, record_fault};
 pub use layout::HEAD_OCTETS;
 use layout::{CAPTURE_MOST, FLAGS, TDEST, TDEST_MOST, TID, TKEEP, TSTRB, USER_MOST, WIDTH_MOST};
-use refusal::Refusal;
 use stream_spec::Shape;
+pub use take::Take;
 use words::{load8, widen4};
 
 // The fields of a record before its data.
-#[derive(Clone, Copy)]
+#[derive(Clone, Copy, Debug, PartialEq, Eq)]
 pub struct Header {
     pub flags: u32,
     pub tid: u8,
     pub tdest: u8,
     pub keep: u32,
     pub strb: u32,
-}
-
-// What tests in a stated order answer: the first refusal, if there is one.
-#[derive(Clone, Copy)]
-pub enum Checked {
-    Passed,
-    Refused(Refusal),
-}
-
-// What is wrong with a transfer record.
-#[derive(Clone, Copy)]
-pub enum Fault {
-    Sound,
-    Field,
-    Reserved,
 }
 
 // The shape of records of so many lanes with so many user bits to a byte, and of the same kind of records at another width. No
@@ -57,20 +43,14 @@ pub fn shape_of(width: usize, user: usize) -> Shape
 pub fn at_width(s: Shape, v: usize) -> Shape
     ensures { result ≡ at_width s v }
 {
-    Shape {
-        width: v,
-        user: s.user,
-    }
+    Shape { width: v, ..s }
 }
 
 // Whether a width is refused.
 fn bad_width(w: usize) -> bool
     ensures { result ≡ (width_check w).found }
 {
-    if w == 0 {
-        return true;
-    }
-    WIDTH_MOST < w
+    w == 0 || WIDTH_MOST < w
 }
 
 // Whether a number of user bits is refused.
@@ -118,10 +98,7 @@ pub fn bad_padding(s: Shape, rec: &[u8]) -> bool
     ensures { result ≡ user_fault s rec.now }
 {
     let n = user_rest(s);
-    if n == 0 {
-        return false;
-    }
-    1u8 << n <= rec[rec.len() - 1]
+    n != 0 && 1u8 << n <= rec[rec.len() - 1]
 }
 
 // The user bits of all lanes of a record as one number. Eight octets that end with the record's last one are read, other octets
@@ -143,10 +120,7 @@ fn bad_length(s: Shape, input: &[u8]) -> bool
     ensures { result ≡ (length_check s input.now).found }
 {
     let n = input.len();
-    if CAPTURE_MOST < n {
-        return true;
-    }
-    n % record_size(s) != 0
+    CAPTURE_MOST < n || n % record_size(s) != 0
 }
 
 // The mask of two octets from octet i on, low octet first.
@@ -177,16 +151,7 @@ fn field_fault(h: Header, used: u32, s: Shape) -> bool
     ensures { result ≡ header_fault used s h }
 {
     let limit = 1u32 << s.width;
-    if 1u32 << used <= h.flags {
-        return true;
-    }
-    if TDEST_MOST < h.tdest {
-        return true;
-    }
-    if limit <= h.keep {
-        return true;
-    }
-    limit <= h.strb
+    1u32 << used <= h.flags || TDEST_MOST < h.tdest || limit <= h.keep || limit <= h.strb
 }
 
 // Whether a lane is reserved: TSTRB high where TKEEP is low.

@@ -1,12 +1,12 @@
 -- Walking over a take record by record: a walk's start, the record at `at` with what is left behind it, and a walk's end.
 -- Assumes nothing.
 use mathlib.Core.Path.{◌≡◌, refl, sym, ap, ap₂, ◌∙◌, subst}
-use mathlib.Core.List.{List, [], ◌∷◌}
+use mathlib.Core.List.{List, [], ◌∷◌, ◌++◌}
 use Prim.Native.Nat.{ℕ, suc, ◌+◌, ◌-◌, ◌/◌, ◌%◌, ◌≤◌, ◌<◌}
-use native.Mathlib.Nat.{zero-div, add-div_right}
+use native.Mathlib.Nat.{zero-div, add-div_right, div-eq_of_lt}
 use native.Mathlib.Omega.{arith}
-use lib.ListN.{length, get_or, take, drop, length-drop, drop_of_length-le}
-use lib.Seq.{drop-drop, length-take-le, get_or-take, get_or-drop}
+use lib.ListN.{length, get_or, take, drop, length-append, length-drop, drop_of_length-le}
+use lib.Seq.{drop-drop, length-take-le, take_at, drop_at, get_or-take, get_or-drop}
 use Rattle.stream_spec.specs.declared.Shape.{Shape}
 use Rattle.stream_spec.specs.Layout.{size, pieces_of, record_count, records}
 use Rattle.stream_spec.specs.Walk.{LeftBy, Left, record_at}
@@ -110,3 +110,33 @@ module _ (s : Shape) (xs : List ℕ) (at : ℕ) (end : length xs ≤ at) where
 
   pub no-count : record_count s (drop at xs) ≡ 0
   no-count = ap (record_count s) none_left ∙ zero-div (size s)
+
+-- ---- the same by what is left, as an iterator over the pieces holds it
+
+module _ (z : ℕ) (pos : 0 < z) (xs r rest : List ℕ) (cut : xs ≡ r ++ rest) (long : length r ≡ z) (whole : length xs % z ≡ 0) where
+  front : FirstPiece z xs
+  front = first_piece z pos xs whole (omega (arith, ap length cut, length-append r rest))
+
+  -- a piece in front is the first piece
+  pub pieces_front : pieces_of z xs ≡ r ∷ pieces_of z rest
+  pieces_front =
+      front.is
+      ∙ ap₂ (λ (p q : List ℕ). p ∷ pieces_of z q) (ap (take z) cut ∙ take_at r rest z long) (ap (drop z) cut ∙ drop_at r rest z long)
+
+  -- and whole pieces are left behind it
+  pub whole_behind : length rest % z ≡ 0
+  whole_behind = subst (λ (ys : List ℕ). length ys % z ≡ 0) (ap (drop z) cut ∙ drop_at r rest z long) front.whole
+
+-- less than a piece is none
+pub no_pieces_short : (z : ℕ) (xs : List ℕ) → length xs < z → pieces_of z xs ≡ []
+no_pieces_short z xs h = rw (div-eq_of_lt h) refl
+
+module _ (s : Shape) (xs r rest : List ℕ) (cut : xs ≡ r ++ rest) (long : length r ≡ size s) (whole : length xs % size s ≡ 0) where
+  pub records_front : records s xs ≡ r ∷ records s rest
+  records_front = pieces_front (size s) (size_pos s) xs r rest cut long whole
+
+  pub records_behind : length rest % size s ≡ 0
+  records_behind = whole_behind (size s) (size_pos s) xs r rest cut long whole
+
+pub no_records_short : (s : Shape) (xs : List ℕ) → length xs < size s → records s xs ≡ []
+no_records_short s xs h = no_pieces_short (size s) xs h

@@ -1,15 +1,6 @@
--- `stream_record::bad_length` meets its contract: one test after the other, as the check has them. Assumes nothing.
-use mathlib.Core.Path.{refl}
-use borrow.Author.Tests.{lt-ltb, le-ltb}
-use lib.ListN.{length}
+-- `stream_record::bad_length`: a record has octets. Assumes nothing.
 use Rattle.stream_spec.proofs.Size.{size_pos}
 use Rattle.stream_record.proofs.bad_length.Goals as goal
 
-pub returns-then-n-gt-CAPTURE_MOST : goal.returns-then-n-gt-CAPTURE_MOST
-returns-then-n-gt-CAPTURE_MOST c = rw (lt-ltb 65536 (length c.args.input.now) c.if-n-gt-CAPTURE_MOST.true) refl
-
 pub nonzero_rem-result : goal.nonzero_rem-result
 nonzero_rem-result c = rw c.record_size.ensures (size_pos c.args.s)
-
-pub returns : goal.returns
-returns c = rw (c.record_size.ensures, le-ltb 65536 (length c.args.input.now) c.if-n-gt-CAPTURE_MOST.false) refl
