@@ -1,5 +1,5 @@
-// Octets moved in groups of one, two, four and eight, as numbers with the low octet first: one load and one store each
-// when compiled. Functions with a `requires` are for the crates above. What the octets mean is not known here.
+// Octets moved as words of one, two, four and eight, numbers with the low octet first: one load and one store each when
+// compiled. Functions with a `requires` are for the crates above. What the octets mean is not known here.
 #![tactic(auto)]
 
 ghost use Rattle.std.specs.Prelude.{◌≡◌, ℕ, ◌+◌, ◌-◌, ◌*◌, ◌/◌, ◌^◌, ◌≤◌, ◌<◌, length, drop, nat_eq, refl};
