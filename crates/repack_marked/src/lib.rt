@@ -35,7 +35,7 @@ fn unmarked_near(marks: &[u8], from: usize) -> bool
     requires { from + 32 ≤ 8 * length marks.now }
     ensures { result ≡ true → (i : ℕ) → i < 16 → get_or (mark_bits marks.now) (from + i) 0 ≡ 0 }
 {
-    words::load4(marks, from / 8) == 0
+    words::load::<u32>(marks, from / 8) == 0
 }
 
 // The data octets of the n items from item `from` on, from lane 0 up; answers their TSTRB.

@@ -17,7 +17,6 @@ ghost use Rattle.repack_parse.specs.Read.{Closable, Turned, Ended, Carries, Adde
 use refusal::Refusal;
 use repack_scratch::{Lanes, Open};
 use stream_record::{Fault, HEAD_OCTETS, Header};
-use words::widen4;
 
 // What reading one record gives: how far the take has been read, with no mark or with some, or the record's fault.
 #[derive(Clone, Copy)]
@@ -102,7 +101,7 @@ pub fn with_items(st: Open, n: usize) -> Open
 pub fn pair_code(h: Header) -> u32
     ensures { result ≡ pair_code h.tid h.tdest }
 {
-    widen4(h.tid) + 0x100 * widen4(h.tdest)
+    u32::from(h.tid) + 0x100 * u32::from(h.tdest)
 }
 
 // One record more, which has no fault and an item, and of which each kept lane is data.

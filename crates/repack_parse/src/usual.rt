@@ -25,8 +25,8 @@ fn usual_at(transfers: &[u8], at: usize, pair: u32, full: u32) -> bool
     requires { (at + head_octets ≤ length transfers.now) × (pair < pair_limit) }
     ensures { result ≡ true → UsualAt transfers.now at pair full }
 {
-    let lo = words::load4(transfers, at);
-    let hi = words::load4(transfers, at + TKEEP);
+    let lo = words::load::<u32>(transfers, at);
+    let hi = words::load::<u32>(transfers, at + TKEEP);
     stream_head::is_usual(lo, hi, pair, full)
 }
 
@@ -44,8 +44,8 @@ fn add_usual(
     requires width_in_bounds { (at + size (of_width lanes.width) ≤ length transfers.now) × UsualAt transfers.now at st.pair lanes.full }
     ensures { AddedData lanes.width (record_from (of_width lanes.width) transfers.now at) octets.old table.old st octets.new table.new result }
 {
-    let lo = words::load4(transfers, at);
-    let hi = words::load4(transfers, at + TKEEP);
+    let lo = words::load::<u32>(transfers, at);
+    let hi = words::load::<u32>(transfers, at + TKEEP);
     let n = repack_gather::gather(
         octets,
         st.items,

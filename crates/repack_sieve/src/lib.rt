@@ -113,7 +113,7 @@ fn sift4(octets: &mut [u8], at: usize, x: u64, keep: u32, sieve: &[u64]) -> usiz
 {
     let l = 4 * (keep % 16) as usize;
     let y = close(x, sieve[l], sieve[l + 1], sieve[l + 2]);
-    words::store4(octets, at, (y % FOUR_OCTETS) as u32);
+    words::store::<u32>(octets, at, (y % FOUR_OCTETS) as u32);
     at + sieve[l + 3] as usize
 }
 
@@ -130,9 +130,9 @@ fn sift8(octets: &mut [u8], at: usize, x: u64, keep: u32, sieve: &[u64]) -> usiz
         both(sieve[l + 1], sieve[h + 1]),
         both(sieve[l + 2], sieve[h + 2]),
     );
-    words::store4(octets, at, (y % FOUR_OCTETS) as u32);
+    words::store::<u32>(octets, at, (y % FOUR_OCTETS) as u32);
     let n = at + sieve[l + 3] as usize;
-    words::store4(octets, n, (y / FOUR_OCTETS) as u32);
+    words::store::<u32>(octets, n, (y / FOUR_OCTETS) as u32);
     n + sieve[h + 3] as usize
 }
 
@@ -141,7 +141,7 @@ fn last4(transfers: &[u8], end: usize, n: usize) -> u64
     requires { (1 ≤ n) × (n ≤ 4) × (4 ≤ end) × (end ≤ length transfers.now) }
     ensures { (result < four_octets) × (octets_of_word 4 result ≡ padded 4 n (drop (end - n) transfers.now)) }
 {
-    (words::load4(transfers, end - 4) / (1u32 << (8 * (4 - n)))) as u64
+    u64::from(words::load_before::<u32>(transfers, end, n))
 }
 
 // The same as a word of eight. Eight octets are read.
@@ -149,7 +149,7 @@ fn last8(transfers: &[u8], end: usize, n: usize) -> u64
     requires { (1 ≤ n) × (n ≤ 8) × (8 ≤ end) × (end ≤ length transfers.now) }
     ensures { octets_of_word 8 result ≡ padded 8 n (drop (end - n) transfers.now) }
 {
-    words::load8(transfers, end - 8) / (1u64 << (8 * (8 - n)))
+    words::load_before::<u64>(transfers, end, n)
 }
 
 // The kept ones of the w lanes at place `from` of a take. A record's header stands before them, so four or eight octets that
@@ -176,7 +176,7 @@ pub fn sift(
     let n = sift8(
         octets,
         at,
-        words::load8(transfers, from),
+        words::load::<u64>(transfers, from),
         keep % 0x100,
         sieve,
     );

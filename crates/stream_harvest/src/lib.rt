@@ -39,7 +39,7 @@ fn put_transfer(rec: &[u8], out: &mut [u8])
     let more = grouped(n);
     words::place(out, 8, &rec[8..], more, more);
     if 24 < n {
-        words::store8(out, n - 8, words::load8(rec, n - 8));
+        words::store::<u64>(out, n - 8, words::load::<u64>(rec, n - 8));
     }
 }
 

@@ -27,8 +27,8 @@ pub fn breaks(rec: &[u8], z: Zeros) -> bool
     requires { head_octets ≤ length rec.now }
     ensures { TellsFault z rec.now result }
 {
-    if words::load4(rec, FLAGS) & z.low != 0 {
+    if words::load::<u32>(rec, FLAGS) & z.low != 0 {
         return true;
     }
-    words::load4(rec, TKEEP) & z.high != 0
+    words::load::<u32>(rec, TKEEP) & z.high != 0
 }

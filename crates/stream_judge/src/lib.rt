@@ -27,7 +27,7 @@ fn differ4(prev: &[u8], rec: &[u8], i: usize) -> bool
     requires { (i + 4 ≤ length prev.now) × (i + 4 ≤ length rec.now) }
     ensures { result ≡ not (same_octets (take 4 (drop i prev.now)) (take 4 (drop i rec.now))) }
 {
-    words::load4(prev, i) != words::load4(rec, i)
+    words::load::<u32>(prev, i) != words::load::<u32>(rec, i)
 }
 
 // The same for eight octets.
@@ -35,7 +35,7 @@ fn differ8(prev: &[u8], rec: &[u8], i: usize) -> bool
     requires { (i + 8 ≤ length prev.now) × (i + 8 ≤ length rec.now) }
     ensures { result ≡ not (same_octets (take 8 (drop i prev.now)) (take 8 (drop i rec.now))) }
 {
-    words::load8(prev, i) != words::load8(rec, i)
+    words::load::<u64>(prev, i) != words::load::<u64>(rec, i)
 }
 
 // Whether some octet from 1 on, or TLAST, differs between two records of one size: groups that may overlap are compared.

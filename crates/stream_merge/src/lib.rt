@@ -76,7 +76,7 @@ fn move8(rec: &[u8], out: &mut [u8], at: usize)
     requires { (at + 8 ≤ length rec.now) × (at + 8 ≤ length out.old) }
     ensures { out.new ≡ splice at (take 8 (drop at rec.now)) out.old }
 {
-    words::store8(out, at, words::load8(rec, at));
+    words::store::<u64>(out, at, words::load::<u64>(rec, at));
 }
 
 // A record at the front of `out`, eight octets at a time; the last eight may overlap those before them.
@@ -130,7 +130,7 @@ fn ends_turn(rec: &[u8]) -> bool
     requires { 1 ≤ length rec.now }
     ensures { result ≡ last_of rec.now }
 {
-    tlast(words::widen4(rec[FLAGS])) == 1
+    tlast(u32::from(rec[FLAGS])) == 1
 }
 
 // Whether port 1 has the turn where `wanted` says that it comes to it: a port with nothing left is skipped.

@@ -20,7 +20,6 @@ pub use layout::HEAD_OCTETS;
 use layout::{CAPTURE_MOST, FLAGS, TDEST, TDEST_MOST, TID, TKEEP, TSTRB, USER_MOST, WIDTH_MOST};
 use stream_spec::Shape;
 pub use take::Take;
-use words::{load8, widen4};
 
 // The fields of a record before its data.
 #[derive(Clone, Copy, Debug, PartialEq, Eq)]
@@ -111,7 +110,7 @@ pub fn load_user(rec: &[u8], s: Shape) -> u64
     if k == 0 {
         return 0;
     }
-    load8(rec, rec.len() - 8) >> (8 * (8 - k))
+    words::load_before::<u64>(rec, rec.len(), k)
 }
 
 // Whether the length of an input is refused. The shape has passed its test.
@@ -128,7 +127,7 @@ fn read_mask(rec: &[u8], i: usize) -> u32
     requires { i + 2 ≤ length rec.now }
     ensures { result ≡ get_or rec.now i 0 + 256 * get_or rec.now (i + 1) 0 }
 {
-    widen4(rec[i]) + 0x100 * widen4(rec[i + 1])
+    u32::from(rec[i]) + 0x100 * u32::from(rec[i + 1])
 }
 
 // The header of the record at the front of `rec`.
@@ -137,7 +136,7 @@ pub fn read_header(rec: &[u8]) -> Header
     ensures { result ≡ header_of rec.now }
 {
     Header {
-        flags: widen4(rec[FLAGS]),
+        flags: u32::from(rec[FLAGS]),
         tid: rec[TID],
         tdest: rec[TDEST],
         keep: read_mask(rec, TKEEP),

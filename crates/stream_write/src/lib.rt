@@ -38,7 +38,7 @@ pub fn write_data_header(out: &mut [u8], last: u32, pair: u32, n: usize)
     ensures { out.new ≡ data_header last pair n ++ (0 ∷ drop 8 out.old) }
 {
     let lanes = (1u64 << n) - 1;
-    words::store8(
+    words::store::<u64>(
         out,
         0,
         (last as u64) + PAIR * (pair as u64) + BOTH_MASKS * lanes,
@@ -50,7 +50,7 @@ pub fn write_one(out: &mut [u8], pair: u32, lane: u8)
     requires { (8 ≤ length out.old) × (pair < 0x10000) }
     ensures { out.new ≡ data_header 0 pair 1 ++ (lane ∷ drop 8 out.old) }
 {
-    words::store8(
+    words::store::<u64>(
         out,
         0,
         PAIR * (pair as u64) + BOTH_MASKS + LANE_0 * (lane as u64),

@@ -1,16 +1,17 @@
 -- A word's octets are those it was read from; of a word that is cut off they are the first ones, then zeros; two
 -- overlapping groups make one row. Assumes nothing.
-use mathlib.Core.Path.{◌≡◌, refl, sym, ap, ◌∙◌}
-use mathlib.Core.List.{List, [], ◌∷◌, ◌++◌, append_assoc}
+use mathlib.Core.Path.{◌≡◌, refl, ap, ◌∙◌}
+use mathlib.Core.List.{List, [], ◌∷◌, ◌++◌}
 use Prim.Native.Nat.{ℕ, zero, suc, ◌+◌, ◌-◌, ◌*◌, ◌/◌, ◌%◌, ◌^◌, ◌≤◌, ◌<◌}
-use native.Mathlib.Nat.{add-zero, one-mul, mul_assoc, mod-eq_of_lt}
+use native.Mathlib.Nat.{add-mul-div_left, div-eq_of_lt, add-zero, one-mul, mul_assoc, mod-eq_of_lt}
 use native.Mathlib.Omega.{arith}
-use lib.Pow.{mod-pow-add, pow-add, pow_pos, pow-lt, shr-shr}
-use lib.ListN.{length, get_or, take, drop, set, length-drop}
-use lib.Seq.{drop-drop, get_or-drop, sets-eq, set_split}
+use lib.Pow.{mod-pow-add, pow-add, pow_pos, pow-lt}
+use lib.ListN.{length, get_or, take, drop, length-drop}
+use lib.Seq.{drop-drop, get_or-drop}
+use Rattle.std.proofs.lemmas.List.{take_all}
 use Rattle.words.specs.Splice.{splice}
 use Rattle.words.specs.Words.{word_at, octets_of_word, padded}
-use Rattle.words.proofs.Splice.{splice-splice, splice_over}
+use Rattle.words.proofs.Splice.{splice_over}
 
 -- ---- words and octets
 
@@ -37,6 +38,12 @@ word-drop zero a xs i = refl
 word-drop (suc k) a xs i =
     let next : a + i + 1 ≡ a + (i + 1) = omega arith in
     rw (get_or-drop a xs i 0, next, word-drop k a xs (i + 1)) refl
+
+-- so it is the word at the front of the rest
+pub word_rest : (k i : ℕ) (s : List ℕ) → word_at k (take (length s - i) (drop i s)) 0 ≡ word_at k s i
+word_rest k i s =
+    let rest : take (length s - i) (drop i s) ≡ drop i s = take_all (length s - i) (drop i s) (omega (arith, length-drop i s)) in
+    rw (rest, ← word-drop k i s 0, add-zero i) refl
 
 -- a number that k octets hold comes back from them
 pub word_back : (k n : ℕ) → n < 2 ^ (8 * k) → word_at k (octets_of_word k n) 0 ≡ n
@@ -107,20 +114,19 @@ word_split (suc a) b s i =
     let high : 2 ^ (8 * suc a) ≡ 256 * 2 ^ (8 * a) = rw eight (pow-add 2 8 (8 * a)) in
     rw (one, past, high) (omega (arith, word_split a b s (i + 1), mul_assoc 256 (2 ^ (8 * a)) (word_at b s (i + 1 + a))))
 
-pub octets_split : (a b x : ℕ) → octets_of_word (a + b) x ≡ octets_of_word a x ++ octets_of_word b (x / 2 ^ (8 * a))
-octets_split zero b x =
-    let none : 0 + b ≡ b = omega arith in
-    let whole : x / 1 ≡ x = omega arith in
-    rw (none, whole) refl
-octets_split (suc a) b x =
-    let one : suc a + b ≡ suc (a + b) = omega arith in
-    let eight : 8 * suc a ≡ 8 + 8 * a = omega arith in
-    let past : x / 2 ^ (8 * suc a) ≡ x / 256 / 2 ^ (8 * a) = rw eight (sym (shr-shr x 8 (8 * a))) in
-    rw (one, past) (ap {B = List ℕ} (λ l. x % 256 ∷ l) (octets_split a b (x / 256)))
+-- a word whose first octets are shifted out
+pub word_shifted : (a b : ℕ) (s : List ℕ) (i : ℕ) → ((j : ℕ) → get_or s j 0 < 256) → word_at (a + b) s i / 2 ^ (8 * a) ≡ word_at b s (i + a)
+word_shifted a b s i h =
+    let split = add-mul-div_left (word_at a s i) (word_at b s (i + a)) (pow_pos (8 * a)) in
+    rw (word_split a b s i, split, div-eq_of_lt (word_fits a s i h)) (omega arith)
 
--- of a word's low octets nothing above them is seen
-pub octets-low : (a x : ℕ) → octets_of_word a (x % 2 ^ (8 * a)) ≡ octets_of_word a x
-octets-low a x = low-octets a a x ∙ sym (padded-all a a x (omega arith))
+-- so the last n of k octets before place e are a word
+pub word_before : (k n e size x y : ℕ) (s : List ℕ) → ((j : ℕ) → get_or s j 0 < 256) → n ≤ k → k ≤ e → size ≡ k → x ≡ word_at k s (e - size)
+    → y ≡ x / 2 ^ (8 * (k - n)) → y ≡ word_at n s (e - n)
+word_before k n e size x y s h r t d f g =
+    let all : k - n + n ≡ k = omega arith in
+    let there : e - k + (k - n) ≡ e - n = omega arith in
+    g ∙ rw (f, d) (rw (all, there) at (word_shifted (k - n) n s (e - k) h))
 
 -- ---- rows
 
@@ -161,36 +167,6 @@ module _ (s : List ℕ) (at : ℕ) where
 
 -- ---- what the code computes
 
-pub word4 : (s : List ℕ) (i a b c d : ℕ) → a ≡ get_or s i 0 → b ≡ get_or s (i + 1) 0 → c ≡ get_or s (i + 2) 0 → d ≡ get_or s (i + 3) 0
-    → a + 256 * b + 0x10000 * c + 0x1000000 * d ≡ word_at 4 s i
-word4 s i a b c d p q r t =
-    let two : i + 1 + 1 ≡ i + 2 = omega arith in
-    let three : i + 2 + 1 ≡ i + 3 = omega arith in
-    rw (two, three) (omega (arith, p, q, r, t))
-
-pub stored4 : (s : List ℕ) (i x : ℕ) → i + 4 ≤ length s
-    → set (set (set (set s i (x % 256)) (i + 1) (x / 256 % 256)) (i + 2) (x / 0x10000 % 256)) (i + 3) (x / 0x1000000 % 256) ≡ splice i (octets_of_word 4 x) s
-stored4 s i x h =
-    let one : i + 1 ≡ suc i = omega arith in
-    let two : i + 2 ≡ suc (suc i) = omega arith in
-    let three : i + 3 ≡ suc (suc (suc i)) = omega arith in
-    let o2 : x / 0x10000 ≡ x / 256 / 256 = omega arith in
-    let o3 : x / 0x1000000 ≡ x / 256 / 256 / 256 = omega arith in
-    rw (one, two, three, o2, o3) (sets-eq (octets_of_word 4 x) s i h ∙ append_assoc (take i s) (octets_of_word 4 x) (drop (i + 4) s))
-
--- eight octets by halves
-pub word8 : (s : List ℕ) (i lo hi : ℕ) → lo ≡ word_at 4 s i → hi ≡ word_at 4 s (i + 4) → lo + 0x100000000 * hi ≡ word_at 8 s i
-word8 s i lo hi p q = rw (p, q) (sym (word_split 4 4 s i))
-
-pub stored8 : (s out1 out2 : List ℕ) (i x : ℕ) → i + 8 ≤ length s → out1 ≡ splice i (octets_of_word 4 (x % 0x100000000)) s
-    → out2 ≡ splice (i + 4) (octets_of_word 4 (x / 0x100000000)) out1 → out2 ≡ splice i (octets_of_word 8 x) s
-stored8 s out1 out2 i x h e f =
-    let low : out1 ≡ splice i (octets_of_word 4 x) s = e ∙ ap (λ (xs : List ℕ). splice i xs s) (octets-low 4 x) in
-    f
-    ∙ ap (splice (i + 4) (octets_of_word 4 (x / 0x100000000))) low
-    ∙ splice-splice i (octets_of_word 4 x) (octets_of_word 4 (x / 0x100000000)) s (omega arith)
-    ∙ ap (λ (xs : List ℕ). splice i xs s) (sym (octets_split 4 4 x))
-
 -- a one shifted left, where it stays below the top
 pub shifted : (top n : ℕ) → 8 * n < top → 1 * 2 ^ (8 * n) % 2 ^ top ≡ 2 ^ (8 * n)
 shifted top n h = rw (one-mul (2 ^ (8 * n))) (mod-eq_of_lt (pow-lt h))
@@ -204,35 +180,8 @@ pub first_stored : (k n x y i at : ℕ) (s to out : List ℕ) → ((j : ℕ) →
 first_stored k n x y i at s to out h e f g = g ∙ rw (f, e, word-octets k s i h, padded-padded k n (drop i s)) refl
 
 -- k octets, then the last k of v, which may overlap them
-pub rows : (s xs out1 out2 : List ℕ) (at n k v m : ℕ) → k ≤ v → v ≤ k + k → at + v ≤ length s → m ≡ n - (v - k)
-    → out1 ≡ splice at (padded k n xs) s → out2 ≡ splice (at + v - k) (padded k m (drop (v - k) xs)) out1 → out2 ≡ splice at (padded v n xs) s
-rows s xs out1 out2 at n k v m h l r e f g =
-    let there : at + v - k ≡ at + (v - k) = omega arith in
-    let all : v - k + k ≡ v = omega arith in
-    g ∙ rw (f, e, there) (row_on s at xs n k k (v - k) (omega arith) (omega arith) (omega arith) ∙ rw all refl)
-
--- one octet, the next one, and the last of v, which may be that one
-pub few : (s xs out1 out2 out3 : List ℕ) (at n v m1 m2 : ℕ) → 1 < v → v ≤ 3 → at + v ≤ length s → m1 ≡ n - 1 → m2 ≡ n - (v - 1)
-    → out1 ≡ splice at (padded 1 n xs) s → out2 ≡ splice (at + 1) (padded 1 m1 (drop 1 xs)) out1
-    → out3 ≡ splice (at + v - 1) (padded 1 m2 (drop (v - 1) xs)) out2 → out3 ≡ splice at (padded v n xs) s
-few s xs out1 out2 out3 at n v m1 m2 h l r e e' f g k =
-    let there : at + v - 1 ≡ at + (v - 1) = omega arith in
-    let all : v - 1 + 1 ≡ v = omega arith in
-    let two : out2 ≡ splice at (padded 2 n xs) s = g ∙ rw (f, e) (row_on s at xs n 1 1 1 (omega arith) (omega arith) (omega arith)) in
-    k ∙ rw (two, e', there) (row_on s at xs n 2 1 (v - 1) (omega arith) (omega arith) (omega arith) ∙ rw all refl)
-
--- one octet stored
-pub stored1 : (s xs : List ℕ) (at i n y : ℕ) → at < length s → (y ∷ []) ≡ padded 1 n (get_or xs i 0 ∷ [])
-    → set s at y ≡ splice at (padded 1 n (drop i xs)) s
-stored1 s xs at i zero y h e =
-    let past : suc at ≡ at + 1 = omega arith in
-    let zero-octet : y ≡ 0 = ap (λ (l : List ℕ). get_or l 0 0) e in
-    rw zero-octet (set_split s at 0 h ∙ rw past refl)
-stored1 s xs at i (suc n) y h e =
-    let past : suc at ≡ at + 1 = omega arith in
-    let octet : y ≡ get_or (drop i xs) 0 0 = ap (λ (l : List ℕ). get_or l 0 0) e ∙ sym (get_or-drop i xs 0 0 ∙ rw (add-zero i) refl) in
-    rw (← octet) (set_split s at y h ∙ rw past refl)
-
-pub first_one : (x n : ℕ) → (n ≡ 0 → ⊥) → (x ∷ []) ≡ padded 1 n (x ∷ [])
-first_one x zero h = absurd (h refl)
-first_one x (suc n) h = refl
+pub rows : (s xs out1 out2 : List ℕ) (at n k v last m : ℕ) → k ≤ v → v ≤ 2 * k → at + v ≤ length s → last ≡ v - k → m ≡ n - last
+    → out1 ≡ splice at (padded k n xs) s → out2 ≡ splice (at + last) (padded k m (drop last xs)) out1 → out2 ≡ splice at (padded v n xs) s
+rows s xs out1 out2 at n k v last m h l r d e f g =
+    let all : last + k ≡ v = omega (arith, d) in
+    g ∙ rw (f, e) (row_on s at xs n k k last (omega arith) (omega (arith, d)) (omega (arith, d)) ∙ rw all refl)

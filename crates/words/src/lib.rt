@@ -1,152 +1,203 @@
-// Octets moved in groups of four and eight, as numbers with the low octet first: one load and one store each when
+// Octets moved as words of one, two, four and eight, numbers with the low octet first: one load and one store each when
 // compiled. Functions with a `requires` are for the crates above. What the octets mean is not known here.
 #![tactic(auto)]
 
-ghost use Rattle.std.specs.Prelude.{◌≡◌, [], ◌∷◌, ◌+◌, ◌-◌, ◌≤◌, ◌<◌, length, drop};
+ghost use Rattle.std.specs.Prelude.{◌≡◌, ℕ, ◌+◌, ◌-◌, ◌*◌, ◌/◌, ◌^◌, ◌≤◌, ◌<◌, length, drop, nat_eq, refl};
 ghost use Rattle.words.specs.Splice.{splice};
 ghost use Rattle.words.specs.Words.{word_at, octets_of_word, padded};
 
-// An octet as a word of four octets.
-pub fn widen4(x: u8) -> u32
-    ensures { (result ≡ x) × (result < 256) }
-{
-    x as u32
+// An unsigned number as the octets that hold it, low octet first.
+pub trait Word: Copy + PartialEq {
+    // How many octets it has.
+    const OCTETS: usize;
+
+    ghost OCTETS: { ℕ };
+
+    // The number that it is.
+    ghost value: { Self → ℕ };
+
+    // The word at the front of s.
+    fn read(s: &[u8]) -> Self
+        requires { OCTETS ≤ length s.now }
+        ensures { value result ≡ word_at OCTETS s.now 0 };
+
+    // Its octets at the front of s.
+    fn write(self, s: &mut [u8])
+        requires { OCTETS ≤ length s.old }
+        ensures { s.new ≡ splice 0 (octets_of_word OCTETS (value self)) s.old };
+
+    // Its first n octets, zeros after them.
+    fn first(self, n: usize) -> Self
+        ensures { octets_of_word OCTETS (value result) ≡ padded OCTETS n (octets_of_word OCTETS (value self)) };
+
+    // Its last n octets, zeros after them.
+    fn last(self, n: usize) -> Self
+        requires { (1 ≤ n) × (n ≤ OCTETS) }
+        ensures { value result ≡ value self / 2 ^ (8 * (OCTETS - n)) };
+
+    // Words are equal where their numbers are.
+    ghost equal: { (x y : Self) → Self.eq x y ≡ nat_eq (value x) (value y) };
 }
 
-// Four octets from place i on.
-pub fn load4(s: &[u8], i: usize) -> u32
-    requires { i + 4 ≤ length s.now }
-    ensures { result ≡ word_at 4 s.now i }
-{
-    widen4(s[i])
-        + 0x100 * widen4(s[i + 1])
-        + 0x1_0000 * widen4(s[i + 2])
-        + 0x100_0000 * widen4(s[i + 3])
-}
+impl Word for u8 {
+    const OCTETS: usize = 1;
 
-// Eight octets from place i on, by halves.
-pub fn load8(s: &[u8], i: usize) -> u64
-    requires { i + 8 ≤ length s.now }
-    ensures { result ≡ word_at 8 s.now i }
-{
-    (load4(s, i) as u64) + 0x1_0000_0000 * (load4(s, i + 4) as u64)
-}
+    ghost OCTETS = { 1 };
 
-// The four octets of x at place i.
-pub fn store4(s: &mut [u8], i: usize, x: u32)
-    requires { i + 4 ≤ length s.old }
-    ensures { s.new ≡ splice i (octets_of_word 4 x) s.old }
-{
-    s[i] = (x % 0x100) as u8;
-    s[i + 1] = (x / 0x100 % 0x100) as u8;
-    s[i + 2] = (x / 0x1_0000 % 0x100) as u8;
-    s[i + 3] = (x / 0x100_0000 % 0x100) as u8;
-}
+    ghost value = { λ x. x };
 
-// The eight octets of x at place i, by halves.
-pub fn store8(s: &mut [u8], i: usize, x: u64)
-    requires { i + 8 ≤ length s.old }
-    ensures { s.new ≡ splice i (octets_of_word 8 x) s.old }
-{
-    store4(s, i, (x % 0x1_0000_0000) as u32);
-    store4(s, i + 4, (x / 0x1_0000_0000) as u32);
-}
+    ghost equal = { λ x y. refl };
 
-// The first n octets of four, zeros after them.
-fn first4(x: u32, n: usize) -> u32
-    ensures { octets_of_word 4 result ≡ padded 4 n (octets_of_word 4 x) }
-{
-    if 4 <= n {
-        return x;
+    fn read(s: &[u8]) -> u8 {
+        s[0]
     }
-    x % (1u32 << (8 * n))
-}
 
-// The first n octets of eight, zeros after them.
-fn first8(x: u64, n: usize) -> u64
-    ensures { octets_of_word 8 result ≡ padded 8 n (octets_of_word 8 x) }
-{
-    if 8 <= n {
-        return x;
+    fn write(self, s: &mut [u8]) {
+        s[0] = self;
     }
-    x % (1u64 << (8 * n))
-}
 
-// The octet, or zero where none is wanted.
-fn first1(x: u8, n: usize) -> u8
-    ensures { (result ∷ []) ≡ padded 1 n (x ∷ []) }
-{
-    if n == 0 {
-        return 0;
+    fn first(self, n: usize) -> u8 {
+        if n == 0 { 0 } else { self }
     }
-    x
-}
 
-// How far n is beyond m.
-fn beyond(n: usize, m: usize) -> usize
-    ensures { result ≡ n - m }
-{
-    if n <= m {
-        return 0;
+    fn last(self, _n: usize) -> u8 {
+        self
     }
-    n - m
 }
 
-// Four octets at place `at`: those of `from` at place i, of which the first n are wanted, and zeros.
-fn place4(to: &mut [u8], at: usize, from: &[u8], i: usize, n: usize)
-    requires { (at + 4 ≤ length to.old) × (i + 4 ≤ length from.now) }
-    ensures { to.new ≡ splice at (padded 4 n (drop i from.now)) to.old }
+impl Word for u16 {
+    const OCTETS: usize = 2;
+
+    ghost OCTETS = { 2 };
+
+    ghost value = { λ x. x };
+
+    ghost equal = { λ x y. refl };
+
+    fn read(s: &[u8]) -> u16 {
+        u16::from_le_bytes([s[0], s[1]])
+    }
+
+    fn write(self, s: &mut [u8]) {
+        s[..2].copy_from_slice(&self.to_le_bytes());
+    }
+
+    fn first(self, n: usize) -> u16 {
+        if 2 <= n {
+            self
+        } else {
+            self % (1u16 << (8 * n))
+        }
+    }
+
+    fn last(self, n: usize) -> u16 {
+        self >> (8 * (2 - n))
+    }
+}
+
+impl Word for u32 {
+    const OCTETS: usize = 4;
+
+    ghost OCTETS = { 4 };
+
+    ghost value = { λ x. x };
+
+    ghost equal = { λ x y. refl };
+
+    fn read(s: &[u8]) -> u32 {
+        u32::from_le_bytes([s[0], s[1], s[2], s[3]])
+    }
+
+    fn write(self, s: &mut [u8]) {
+        s[..4].copy_from_slice(&self.to_le_bytes());
+    }
+
+    fn first(self, n: usize) -> u32 {
+        if 4 <= n {
+            self
+        } else {
+            self % (1u32 << (8 * n))
+        }
+    }
+
+    fn last(self, n: usize) -> u32 {
+        self >> (8 * (4 - n))
+    }
+}
+
+impl Word for u64 {
+    const OCTETS: usize = 8;
+
+    ghost OCTETS = { 8 };
+
+    ghost value = { λ x. x };
+
+    ghost equal = { λ x y. refl };
+
+    fn read(s: &[u8]) -> u64 {
+        u64::from_le_bytes([s[0], s[1], s[2], s[3], s[4], s[5], s[6], s[7]])
+    }
+
+    fn write(self, s: &mut [u8]) {
+        s[..8].copy_from_slice(&self.to_le_bytes());
+    }
+
+    fn first(self, n: usize) -> u64 {
+        if 8 <= n {
+            self
+        } else {
+            self % (1u64 << (8 * n))
+        }
+    }
+
+    fn last(self, n: usize) -> u64 {
+        self >> (8 * (8 - n))
+    }
+}
+
+// The word at place i.
+pub fn load<W: Word>(s: &[u8], i: usize) -> W
+    requires { i + W.OCTETS ≤ length s.now }
+    ensures { W.value result ≡ word_at W.OCTETS s.now i }
 {
-    store4(to, at, first4(load4(from, i), n));
+    W::read(&s[i..])
 }
 
-// The same with eight octets.
-fn place8(to: &mut [u8], at: usize, from: &[u8], i: usize, n: usize)
-    requires { (at + 8 ≤ length to.old) × (i + 8 ≤ length from.now) }
-    ensures { to.new ≡ splice at (padded 8 n (drop i from.now)) to.old }
+// The n octets before place `end` as a word, zeros after them. So many octets are read as the word has.
+pub fn load_before<W: Word>(s: &[u8], end: usize, n: usize) -> W
+    requires { (1 ≤ n) × (n ≤ W.OCTETS) × (W.OCTETS ≤ end) × (end ≤ length s.now) }
+    ensures { W.value result ≡ word_at n s.now (end - n) }
 {
-    store8(to, at, first8(load8(from, i), n));
+    let word: W = load(s, end - W::OCTETS);
+    word.last(n)
 }
 
-// The same with one octet.
-fn place1(to: &mut [u8], at: usize, from: &[u8], i: usize, n: usize)
-    requires { (at < length to.old) × (i < length from.now) }
-    ensures { to.new ≡ splice at (padded 1 n (drop i from.now)) to.old }
+// The octets of x at place i.
+pub fn store<W: Word>(s: &mut [u8], i: usize, x: W)
+    requires { i + W.OCTETS ≤ length s.old }
+    ensures { s.new ≡ splice i (octets_of_word W.OCTETS (W.value x)) s.old }
 {
-    to[at] = first1(from[i], n);
+    x.write(&mut s[i..]);
 }
 
-// Eight to sixteen octets: the first eight and the last eight, which may overlap.
-fn place_many(to: &mut [u8], at: usize, from: &[u8], n: usize, v: usize)
-    requires { (8 ≤ v) × (v ≤ 16) × (v ≤ length from.now) × (at + v ≤ length to.old) }
+// A word of octets at place `at`: those of `from` at place i, of which the first n are wanted, and zeros.
+fn place_word<W: Word>(to: &mut [u8], at: usize, from: &[u8], i: usize, n: usize)
+    requires { (at + W.OCTETS ≤ length to.old) × (i + W.OCTETS ≤ length from.now) }
+    ensures { to.new ≡ splice at (padded W.OCTETS n (drop i from.now)) to.old }
+{
+    let word: W = load(from, i);
+    store(to, at, word.first(n));
+}
+
+// One word of octets or two: the first and the last, which may overlap.
+fn place_words<W: Word>(to: &mut [u8], at: usize, from: &[u8], n: usize, v: usize)
+    requires { (W.OCTETS ≤ v) × (v ≤ 2 * W.OCTETS) × (v ≤ length from.now) × (at + v ≤ length to.old) }
     ensures { to.new ≡ splice at (padded v n from.now) to.old }
 {
-    place8(to, at, from, 0, n);
-    if 8 < v {
-        place8(to, at + v - 8, from, v - 8, beyond(n, v - 8));
-    }
-}
-
-// Four to eight octets, likewise.
-fn place_some(to: &mut [u8], at: usize, from: &[u8], n: usize, v: usize)
-    requires { (4 ≤ v) × (v ≤ 8) × (v ≤ length from.now) × (at + v ≤ length to.old) }
-    ensures { to.new ≡ splice at (padded v n from.now) to.old }
-{
-    place4(to, at, from, 0, n);
-    if 4 < v {
-        place4(to, at + v - 4, from, v - 4, beyond(n, v - 4));
-    }
-}
-
-// One to three octets.
-fn place_few(to: &mut [u8], at: usize, from: &[u8], n: usize, v: usize)
-    requires { (1 ≤ v) × (v ≤ 3) × (v ≤ length from.now) × (at + v ≤ length to.old) }
-    ensures { to.new ≡ splice at (padded v n from.now) to.old }
-{
-    place1(to, at, from, 0, n);
-    if 1 < v {
-        place1(to, at + 1, from, 1, beyond(n, 1));
-        place1(to, at + v - 1, from, v - 1, beyond(n, v - 1));
+    place_word::<W>(to, at, from, 0, n);
+    if W::OCTETS < v {
+        let last = v - W::OCTETS;
+        place_word::<W>(to, at + last, from, last, n.saturating_sub(last));
     }
 }
 
@@ -156,12 +207,12 @@ pub fn place(to: &mut [u8], at: usize, from: &[u8], n: usize, v: usize)
     ensures { to.new ≡ splice at (padded v n from.now) to.old }
 {
     if 8 <= v {
-        place_many(to, at, from, n, v);
-        return;
+        place_words::<u64>(to, at, from, n, v);
+    } else if 4 <= v {
+        place_words::<u32>(to, at, from, n, v);
+    } else if 2 <= v {
+        place_words::<u16>(to, at, from, n, v);
+    } else {
+        place_word::<u8>(to, at, from, 0, n);
     }
-    if 4 <= v {
-        place_some(to, at, from, n, v);
-        return;
-    }
-    place_few(to, at, from, n, v);
 }

@@ -15,7 +15,6 @@ ghost use Rattle.write_data.specs.Scan.{size_most, BeatRecord, octet_stray, stra
 use burst_spec::{BeatAnswer, Burst, Judgement};
 use refusal::Refusal;
 use stream_record::layout::CAPTURE_MOST;
-use words::widen4;
 use write_data_spec::WriteVerdict;
 
 // A beat record: octet 0 has WLAST in bit 0, the strobes follow, eight lanes to an octet.
@@ -82,7 +81,7 @@ fn field_fault(bus: u32, rec: &[u8]) -> bool
     if LANES_EACH <= bus {
         return false;
     }
-    1u32 << bus <= widen4(rec[STROBES])
+    1u32 << bus <= u32::from(rec[STROBES])
 }
 
 // 3 FIELD of all records, those past the last beat too.
@@ -203,7 +202,7 @@ fn octet_outside(octet: u8, lane: u32, lower: u32, upper: u32) -> bool
     if all_inside(lane, lower, upper) {
         return false;
     }
-    let strobes = widen4(octet);
+    let strobes = u32::from(octet);
     let below = lanes_below(lower, lane);
     if strobes % (1u32 << below) != 0 {
         return true;
@@ -255,7 +254,7 @@ fn high_strobes(bus: u32, rec: &[u8]) -> usize
 fn octet_high(octet: u8) -> usize
     ensures { (result ≡ octet_high octet) × (result ≤ lanes_each) }
 {
-    let x = widen4(octet);
+    let x = u32::from(octet);
     let twos = x - ((x / 2) & 0x55);
     let fours = (twos & 0x33) + ((twos / 4) & 0x33);
     ((fours + fours / 0x10) & 0xF) as usize

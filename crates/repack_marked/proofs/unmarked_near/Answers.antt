@@ -5,4 +5,4 @@ use Rattle.repack_marked.proofs.Near.{unmarked-word}
 use Rattle.repack_marked.proofs.unmarked_near.Goals as goal
 
 pub returns : goal.returns
-returns c = λ e i h. unmarked-word c.args.marks.now c.args.from c.requires (sym c.load4.ensures ∙ eqb-true c.load4.result 0 e) i h
+returns c = λ e i h. unmarked-word c.args.marks.now c.args.from c.requires (sym c.load.ensures ∙ eqb-true c.load.result 0 e) i h

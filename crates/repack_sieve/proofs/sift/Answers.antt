@@ -21,5 +21,5 @@ pub returns : goal.returns
 returns c =
     let a = c.args in
     let p = c.requires in
-    many-lanes a.w a.from a.keep a.at c.sift8-n.result c.sift8-2.result c.load8.result c.last8-2.result a.transfers.now a.octets.now c.sift8-n.new.octets c.sift8-2.new.octets
-    (λ j. omega (arith, c.type_inv.transfers j)) (omega (arith, c.if-w-le8.false)) p.1 p.4 p.5 c.load8.ensures c.last8-2.ensures c.sift8-n.ensures c.sift8-2.ensures
+    many-lanes a.w a.from a.keep a.at c.sift8-n.result c.sift8-2.result c.load.result c.last8-2.result a.transfers.now a.octets.now c.sift8-n.new.octets c.sift8-2.new.octets
+    (λ j. omega (arith, c.type_inv.transfers j)) (omega (arith, c.if-w-le8.false)) p.1 p.4 p.5 c.load.ensures c.last8-2.ensures c.sift8-n.ensures c.sift8-2.ensures

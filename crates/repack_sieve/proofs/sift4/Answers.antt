@@ -28,5 +28,5 @@ returns c =
     let p = c.requires in
     let s = a.sieve.now in
     let l = 4 * (a.keep % 16) in
-    sifted4 a.at a.x c.close-y.result a.keep (get_or s l 0) (get_or s (l + 1) 0) (get_or s (l + 2) 0) (get_or s (l + 3) 0) a.octets.now c.store4.new.s
-    (row_read s a.keep p.2) p.0 p.1 c.close-y.ensures c.store4.ensures
+    sifted4 a.at a.x c.close-y.result a.keep (get_or s l 0) (get_or s (l + 1) 0) (get_or s (l + 2) 0) (get_or s (l + 3) 0) a.octets.now c.store.new.s
+    (row_read s a.keep p.2) p.0 p.1 c.close-y.ensures c.store.ensures

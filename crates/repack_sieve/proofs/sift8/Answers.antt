@@ -47,10 +47,10 @@ overflow_add-n-2 c =
     let b = c in
     omega (arith, (row_read b.args.sieve.now b.args.keep b.requires.1).count, b)
 
-pub store4-requires-2 : goal.store4-requires-2
-store4-requires-2 c =
+pub store-requires-2 : goal.store-requires-2
+store-requires-2 c =
     let b = c in
-    omega (arith, (row_read b.args.sieve.now b.args.keep b.requires.1).count, b.requires.0, c.store4.auto.s)
+    omega (arith, (row_read b.args.sieve.now b.args.keep b.requires.1).count, b.requires.0, c.store.auto.s)
 
 pub bounds-sieve-h-4 : goal.bounds-sieve-h-4
 bounds-sieve-h-4 c = omega (arith, rows_long)
@@ -68,6 +68,6 @@ returns c =
     let l = 4 * (a.keep % 16) in
     let h = 4 * (a.keep / 16 % 16) in
     sifted8 a.at a.x c.close-y.result a.keep (get_or s l 0) (get_or s (l + 1) 0) (get_or s (l + 2) 0) (get_or s (l + 3) 0) (get_or s h 0) (get_or s (h + 1) 0) (get_or s (h + 2) 0) (get_or s (h + 3) 0)
-    c.both.result c.both-2.result c.both-3.result a.octets.now c.store4.new.s c.store4-2.new.s
+    c.both.result c.both-2.result c.both-3.result a.octets.now c.store.new.s c.store-2.new.s
     (row_read s a.keep p.1) (row_read s (a.keep / 16) p.1) p.0 (omega (arith, c.ranges.x)) c.both.ensures c.both-2.ensures c.both-3.ensures
-    c.close-y.ensures c.store4.ensures c.store4-2.ensures
+    c.close-y.ensures c.store.ensures c.store-2.ensures

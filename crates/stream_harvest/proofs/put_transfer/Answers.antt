@@ -68,11 +68,11 @@ overflow_sub-n c = let n = c.if-n-gt24.true in omega (arith, n)
 pub overflow_sub-n-then-n-gt24 : goal.overflow_sub-n-then-n-gt24
 overflow_sub-n-then-n-gt24 c = let n = c.if-n-gt24.true in omega (arith, n)
 
-pub load8-requires : goal.load8-requires
-load8-requires c = let n = c.if-n-gt24.true in omega (arith, n)
+pub load-requires : goal.load-requires
+load-requires c = let n = c.if-n-gt24.true in omega (arith, n)
 
-pub store8-requires : goal.store8-requires
-store8-requires c =
+pub store-requires : goal.store-requires
+store-requires c =
     let rec : List ℕ = c.args.rec.now in
     let out : List ℕ = c.args.out.now in
     let zeroth : List ℕ = set out 0 (get_or rec 0 0 % 2) in
@@ -102,11 +102,11 @@ shape_of-out-then-n-gt24 c =
     ∙ ap (splice 8 (take c.grouped-more.result (drop 8 rec))) one
     ∙ copied_over rec out c.requires.room 7 7 m (omega arith) (omega arith) (omega (arith, fits)) in
     let over : 24 < length rec = c.if-n-gt24.true in
-    let three : c.store8.new.s ≡ copied rec out (length rec - 9 + 8) = let from = length rec - 8 in
+    let three : c.store.new.s ≡ copied rec out (length rec - 9 + 8) = let from = length rec - 8 in
     let all : 7 + c.grouped-more.result ≡ 23 = omega (arith, c.grouped-more.ensures.4 over) in
     let place : length rec - 8 ≡ 1 + (length rec - 9) = omega (arith, over) in
-    c.store8.ensures
-    ∙ ap (λ (x : ℕ). splice (length rec - 8) (octets_of_word 8 x) c.place-2.new.to) c.load8.ensures
+    c.store.ensures
+    ∙ ap (λ (x : ℕ). splice (length rec - 8) (octets_of_word 8 x) c.place-2.new.to) c.load.ensures
     ∙ ap (λ (xs : List ℕ). splice (length rec - 8) xs c.place-2.new.to) (word-take 8 rec from octets (omega (arith, over)))
     ∙ ap (splice (length rec - 8) (take 8 (drop (length rec - 8) rec))) (two ∙ ap (copied rec out) all)
     ∙ ap (λ (i : ℕ). splice i (take 8 (drop i rec)) (copied rec out 23)) place
@@ -127,11 +127,11 @@ returns-then-n-gt24 c =
     ∙ ap (splice 8 (take c.grouped-more.result (drop 8 rec))) one
     ∙ copied_over rec out c.requires.room 7 7 m (omega arith) (omega arith) (omega (arith, fits)) in
     let over : 24 < length rec = c.if-n-gt24.true in
-    let three : c.store8.new.s ≡ copied rec out (length rec - 9 + 8) = let from = length rec - 8 in
+    let three : c.store.new.s ≡ copied rec out (length rec - 9 + 8) = let from = length rec - 8 in
     let all : 7 + c.grouped-more.result ≡ 23 = omega (arith, c.grouped-more.ensures.4 over) in
     let place : length rec - 8 ≡ 1 + (length rec - 9) = omega (arith, over) in
-    c.store8.ensures
-    ∙ ap (λ (x : ℕ). splice (length rec - 8) (octets_of_word 8 x) c.place-2.new.to) c.load8.ensures
+    c.store.ensures
+    ∙ ap (λ (x : ℕ). splice (length rec - 8) (octets_of_word 8 x) c.place-2.new.to) c.load.ensures
     ∙ ap (λ (xs : List ℕ). splice (length rec - 8) xs c.place-2.new.to) (word-take 8 rec from octets (omega (arith, over)))
     ∙ ap (splice (length rec - 8) (take 8 (drop (length rec - 8) rec))) (two ∙ ap (copied rec out) all)
     ∙ ap (λ (i : ℕ). splice i (take 8 (drop i rec)) (copied rec out 23)) place

@@ -9,4 +9,4 @@ returns c =
     let p = c.requires in
     words_differ a.prev.now a.rec.now 4 a.i
     (λ j. omega (arith, c.type_inv.prev j)) (λ j. omega (arith, c.type_inv.rec j))
-    p.0 p.1 c.load4.result c.load4-2.result c.load4.ensures c.load4-2.ensures
+    p.0 p.1 c.load.result c.load-2.result c.load.ensures c.load-2.ensures

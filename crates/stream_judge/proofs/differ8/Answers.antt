@@ -9,4 +9,4 @@ returns c =
     let p = c.requires in
     words_differ a.prev.now a.rec.now 8 a.i
     (λ j. omega (arith, c.type_inv.prev j)) (λ j. omega (arith, c.type_inv.rec j))
-    p.0 p.1 c.load8.result c.load8-2.result c.load8.ensures c.load8-2.ensures
+    p.0 p.1 c.load.result c.load-2.result c.load.ensures c.load-2.ensures

@@ -8,7 +8,7 @@ use Rattle.stream_merge.proofs.ends_turn.Goals as goal
 
 pub returns : goal.returns
 returns c =
-    rw (c.tlast.ensures.0, c.widen4.ensures.0) (go (bit 0 (get_or c.args.rec.now 0 0)))
+    rw (c.tlast.ensures.0, c.from.ensures) (go (bit 0 (get_or c.args.rec.now 0 0)))
   where
     go : (b : Bool) → eqb (bit_of b) 1 ≡ b
     go true = refl

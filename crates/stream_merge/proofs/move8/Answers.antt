@@ -10,8 +10,8 @@ use Rattle.stream_merge.proofs.move8.Goals as goal
 
 pub returns : goal.returns
 returns c =
-    let word = c.load8 in
-    c.store8.ensures
+    let word = c.load in
+    c.store.ensures
     ∙ ap (λ (x : ℕ). splice c.args.at (octets_of_word 8 x) c.args.out.now) word.ensures
     ∙ ap (λ (xs : List ℕ). splice c.args.at xs c.args.out.now)
     (word-take 8 c.args.rec.now c.args.at (λ j. omega (arith, c.type_inv.rec j)) c.requires.0)

@@ -25,5 +25,5 @@ pub returns : goal.returns
 returns c =
     let a = c.args in
     let p = c.requires in
-    header_placed a.out.now c.store8.new.s a.last a.pair a.n (1 * 2 ^ a.n % 0x10000000000000000 - 1) p.1 p.2 p.3
-    (rw (shifted_wide a.n p.3) refl) c.store8.ensures
+    header_placed a.out.now c.store.new.s a.last a.pair a.n (1 * 2 ^ a.n % 0x10000000000000000 - 1) p.1 p.2 p.3
+    (rw (shifted_wide a.n p.3) refl) c.store.ensures

@@ -6,4 +6,4 @@ use Rattle.stream_write.proofs.write_one.Goals as goal
 pub returns : goal.returns
 returns c =
     let a = c.args in
-    one_placed a.out.now c.store8.new.s a.pair a.lane c.requires.1 (search rules) c.store8.ensures
+    one_placed a.out.now c.store.new.s a.pair a.lane c.requires.1 (search rules) c.store.ensures

@@ -20,5 +20,5 @@ bounds-rec-1 c =
 
 pub returns : goal.returns
 returns c =
-    told_narrow c.args.bus c.args.rec.now c.requires.0 c.if-rec-gt1.false c.if-bus-ge-LANES_EACH.false c.widen4.result
-    c.widen4.ensures.0 c.widen4.ensures.1
+    told_narrow c.args.bus c.args.rec.now c.requires.0 c.if-rec-gt1.false c.if-bus-ge-LANES_EACH.false c.from.result
+    c.from.ensures (omega (arith, c.from.ensures))

@@ -21,13 +21,13 @@ nonzero_rem-strobes c =
 pub returns-then-strobes-below-ne0 : goal.returns-then-strobes-below-ne0
 returns-then-strobes-below-ne0 c =
     let a = c.args in
-    let w = c.widen4-strobes in
-    told-low a.octet a.lane a.lower a.upper w.result c.lanes_below-below.result w.ensures.0 w.ensures.1
+    let w = c.from-strobes in
+    told-low a.octet a.lane a.lower a.upper w.result c.lanes_below-below.result w.ensures (omega (arith, w.ensures))
     c.lanes_below-below.ensures c.if-strobes-below-ne0.true
 
 pub returns : goal.returns
 returns c =
     let a = c.args in
-    let w = c.widen4-strobes in
-    told-high a.octet a.lane a.lower a.upper w.result c.lanes_below-below.result w.ensures.0 w.ensures.1
+    let w = c.from-strobes in
+    told-high a.octet a.lane a.lower a.upper w.result c.lanes_below-below.result w.ensures (omega (arith, w.ensures))
     c.lanes_below-below.ensures c.lanes_below-end.result c.lanes_below-end.ensures c.if-strobes-below-ne0.false

@@ -5,17 +5,17 @@ use Rattle.stream_spec.proofs.Size.{size_holds}
 use Rattle.repack_parse.proofs.Skimming.{usual_added}
 use Rattle.repack_parse.proofs.usual.add_usual.Goals as goal
 
-pub load4-lo-requires : goal.load4-lo-requires
-load4-lo-requires c =
+pub load-lo-requires : goal.load-lo-requires
+load-lo-requires c =
     omega (arith, c.requires.width_in_bounds.0, size_holds (of_width c.args.lanes.width))
 
-pub load4-hi-requires : goal.load4-hi-requires
-load4-hi-requires c =
+pub load-hi-requires : goal.load-hi-requires
+load-hi-requires c =
     omega (arith, c.requires.width_in_bounds.0, size_holds (of_width c.args.lanes.width))
 
 pub gather-n-requires : goal.gather-n-requires
 gather-n-requires c =
-    let p = c.requires in record { wide = (p.wide.0, omega (arith, p.width_in_bounds.1.within, c.load4-hi.ensures), omega arith, omega (arith, p.width_in_bounds.0, size_holds (of_width c.args.lanes.width))); at_in_bounds = (p.wide.2.holds, p.wide.1) }
+    let p = c.requires in record { wide = (p.wide.0, omega (arith, p.width_in_bounds.1.within, c.load-hi.ensures), omega arith, omega (arith, p.width_in_bounds.0, size_holds (of_width c.args.lanes.width))); at_in_bounds = (p.wide.2.holds, p.wide.1) }
 
 pub end-requires : goal.end-requires
 end-requires c =
@@ -36,5 +36,5 @@ returns c =
     let a = c.args in
     let p = c.requires in
     usual_added a.lanes.width a.transfers.now a.octets.now a.table.now a.st a.at a.lanes.full (λ i. omega (arith, c.type_inv.transfers i)) p.width_in_bounds.0 p.wide.0.full p.wide.2 p.width_in_bounds.1
-    c.gather-n.new.octets c.end.new.table c.end.result c.gather-n.result c.load4-lo.result c.load4-hi.result
-    c.load4-lo.ensures c.load4-hi.ensures c.gather-n.ensures (rw c.with_items.ensures at c.end.ensures)
+    c.gather-n.new.octets c.end.new.table c.end.result c.gather-n.result c.load-lo.result c.load-hi.result
+    c.load-lo.ensures c.load-hi.ensures c.gather-n.ensures (rw c.with_items.ensures at c.end.ensures)

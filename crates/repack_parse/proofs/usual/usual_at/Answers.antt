@@ -6,5 +6,5 @@ use Rattle.repack_parse.proofs.usual.usual_at.Goals as goal
 pub returns : goal.returns
 returns c =
     let a = c.args in
-    λ t. usual_told a.transfers.now a.at a.pair a.full c.load4-lo.result c.load4-hi.result (λ i. omega (arith, c.type_inv.transfers i))
-    c.load4-lo.ensures c.load4-hi.ensures (c.is_usual.ensures.1 t)
+    λ t. usual_told a.transfers.now a.at a.pair a.full c.load-lo.result c.load-hi.result (λ i. omega (arith, c.type_inv.transfers i))
+    c.load-lo.ensures c.load-hi.ensures (c.is_usual.ensures.1 t)
