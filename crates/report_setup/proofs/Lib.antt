@@ -1,3 +1,2 @@
--- Laws of the parts of a sheet, as the code walks them.
+-- Laws of the parts of a sheet, as the code finds them.
 pub mod Laws
-pub mod Words
