@@ -2,15 +2,15 @@
 -- decimal number reads back. Assumes nothing.
 use mathlib.Core.Path.{◌≡◌, refl, sym, ap, ap₂, ◌∙◌}
 use mathlib.Core.Bool.{Bool, true, false}
-use mathlib.Core.List.{List, [], ◌∷◌, ◌++◌, append_assoc}
+use mathlib.Core.List.{List, [], ◌∷◌, ◌++◌, append_assoc, append-nil}
 use Prim.Native.Nat.{ℕ, zero, suc, ◌+◌, ◌-◌, ◌*◌, ◌/◌, ◌%◌, ◌^◌, ◌≤◌, ◌<◌}
 use native.Mathlib.Nat.{pow-suc}
-use native.Mathlib.Numerals.{add-one}
 use native.Mathlib.Omega.{arith}
-use borrow.Author.Tests.{ltb-true, ltb-false, lt-ltb, le-ltb}
-use lib.Dec.{ltb}
-use lib.ListN.{length, take, drop, get_or, set, length-append}
-use lib.Seq.{take-length, set_split, paste, paste-zero, paste-suc, length-paste}
+use borrow.Author.Tests.{ltb-true, ltb-false, lt-ltb, ne_eqb}
+use lib.Dec.{eqb, ltb}
+use lib.ListN.{length, length-append}
+use Rattle.std.proofs.lemmas.Fmt.{length-decimal-le}
+use Rattle.std.specs.Fmt.{decimal as std_decimal, digits as std_digits, digits_onto}
 use Rattle.words.specs.Splice.{splice}
 use Rattle.words.proofs.Splice.{splice-long, splice-splice}
 use Rattle.text.specs.Text.{digit, digits, decimal, lf, line, Put, read_on, read, ReadsBack, LeadingDigit, NoLeadingZero}
@@ -32,114 +32,38 @@ put_put at xs ys a b c m r room p q =
       next = omega (arith, p.next, q.next, length-append xs ys);
     }
 
--- a loop that copies: its first i octets stand in their place
-pub record Copied (at : ℕ) (xs before out : List ℕ) (i : ℕ) : Type 0 where
-  pub within : i ≤ length xs
-  pub room : at + length xs ≤ length before
-  pub is : out ≡ paste before at xs i
-
-module _ (at : ℕ) (xs before : List ℕ) where
-  pub copied_none : at + length xs ≤ length before → Copied at xs before before 0
-  copied_none h = record { within = omega arith; room = h; is = paste-zero before at xs }
-
-  module _ (out : List ℕ) (i : ℕ) (c : Copied at xs before out i) where
-    pub copied_long : length out ≡ length before
-    copied_long = ap length c.is ∙ length-paste before at xs i (omega (arith, c.within, c.room)) c.within
-
-    pub copied_more : i < length xs → Copied at xs before (set out (at + i) (get_or xs i 0)) (i + 1)
-    copied_more l =
-        record {
-          within = omega (arith, l);
-          room = c.room;
-          is =
-              ap (λ (o : List ℕ). set o (at + i) (get_or xs i 0)) c.is
-              ∙ paste-suc before at xs i 0 (omega (arith, l, c.room)) l
-              ∙ ap (paste before at xs) (sym (add-one i));
-        }
-
-    pub copied_all : length xs ≤ i → Put at xs before out (at + length xs)
-    copied_all l =
-        let all : i ≡ length xs = omega (arith, l, c.within) in
-        record {
-          leaves =
-              c.is
-              ∙ ap (paste before at xs) all
-              ∙ ap (λ (ys : List ℕ). take at before ++ ys ++ drop (at + length xs) before) (take-length xs)
-              ∙ append_assoc (take at before) xs (drop (at + length xs) before);
-          next = refl;
-        }
-
--- one octet stored
-pub put_one : (at x : ℕ) (out : List ℕ) → at < length out → Put at (x ∷ []) out (set out at x) (at + 1)
-put_one at x out h =
-    record { leaves = set_split out at x h ∙ ap (λ (k : ℕ). take at out ++ (x ∷ drop k out)) (sym (add-one at)); next = refl }
-
 -- ---- decimal numbers
 
--- n + 1 digits are always enough
-digits-enough : (j k n : ℕ) → n < j → n < k → digits j n ≡ digits k n
-digits-enough zero k n h l = absurd (omega arith)
-digits-enough (suc j) zero n h l = absurd (omega arith)
-digits-enough (suc j) (suc k) n h l = go (ltb n 10) refl (λ small less. digits-enough j k (n / 10) small less)
+-- digits in front of others, as std writes them
+digits_std : (k most n : ℕ) (acc : List ℕ) → n < most → n < 10 ^ suc k → digits most n ++ acc ≡ digits_onto (suc k) 10 false n acc
+digits_std k zero n acc h l = absurd (omega arith)
+digits_std zero (suc most) n acc h l =
+    let small : n < 10 = omega (arith, l) in
+    let none : n / 10 ≡ 0 = omega (arith, small) in
+    let all : n % 10 ≡ n = omega (arith, small) in
+    rw (lt-ltb n 10 small, none, all, lt-ltb n 10 small) refl
+digits_std (suc k) (suc most) n acc h l = go (ltb n 10) refl (λ less. digits_std k most (n / 10) (digit (n % 10) ∷ acc) less (omega (arith, l, pow-suc 10 (suc k))))
   where
-    go : (b : Bool) → ltb n 10 ≡ b → (n / 10 < j → n / 10 < k → digits j (n / 10) ≡ digits k (n / 10)) → digits (suc j) n ≡ digits (suc k) n
-    go true e before = rw e refl
+    go : (b : Bool) → ltb n 10 ≡ b → (n / 10 < most → digits most (n / 10) ++ (digit (n % 10) ∷ acc) ≡ digits_onto (suc k) 10 false (n / 10) (digit (n % 10) ∷ acc))
+        → digits (suc most) n ++ acc ≡ digits_onto (suc (suc k)) 10 false n acc
+    go true e before =
+        let small = ltb-true n 10 e in
+        let none : n / 10 ≡ 0 = omega (arith, small) in
+        let all : n % 10 ≡ n = omega (arith, small) in
+        rw (e, none, all, e) refl
     go false e before =
         let big = ltb-false n 10 e in
-        rw e (ap (λ (ds : List ℕ). ds ++ (digit (n % 10) ∷ [])) (before (omega (arith, big)) (omega (arith, big))))
+        let some : eqb (n / 10) 0 ≡ false = ne_eqb (n / 10) 0 (λ z. omega (arith, z, big)) in
+        rw (e, some, lt-ltb (n % 10) 10 (omega arith), append_assoc (digits most (n / 10)) (digit (n % 10) ∷ []) acc) (before (omega (arith, big)))
 
-pub decimal-small : (n : ℕ) → n < 10 → decimal n ≡ digit n ∷ []
-unfolding decimal
-decimal-small n h = rw (lt-ltb n 10 h) refl
-
-pub decimal_more : (n : ℕ) → 10 ≤ n → decimal n ≡ decimal (n / 10) ++ (digit (n % 10) ∷ [])
-unfolding decimal
-decimal_more n h =
-    rw (le-ltb n 10 h) (ap (λ (ds : List ℕ). ds ++ (digit (n % 10) ∷ [])) (digits-enough n (suc (n / 10)) (n / 10) (omega arith) (omega arith)))
-
--- a number below 10 to the power k has at most k digits
-digits-few : (most k n : ℕ) → n < 10 ^ k → 0 < k → length (digits most n) ≤ k
-digits-few zero k n h l = omega arith
-digits-few (suc most) zero n h l = absurd (omega arith)
-digits-few (suc most) (suc zero) n h l = rw (lt-ltb n 10 (omega (arith, h))) (omega arith)
-digits-few (suc most) (suc (suc k)) n h l =
-    go (ltb n 10) refl (digits-few most (suc k) (n / 10) (omega (arith, h, pow-suc 10 (suc k))) (omega arith))
-  where
-    go : (b : Bool) → ltb n 10 ≡ b → length (digits most (n / 10)) ≤ suc k → length (digits (suc most) n) ≤ suc (suc k)
-    go true e before = rw e (omega arith)
-    go false e before = rw e (omega (arith, before, length-append (digits most (n / 10)) (digit (n % 10) ∷ [])))
-
-pub decimal-few : (k n : ℕ) → 0 < k → n < 10 ^ k → length (decimal n) ≤ k
-unfolding decimal
-decimal-few k n l h = digits-few (suc n) k n h l
+-- so a number of 64 bits is written as std's `decimal`
+pub decimal_std : (n : ℕ) → n < 2 ^ 64 → decimal n ≡ std_decimal n
+unfolding decimal std_digits
+decimal_std n h = sym (append-nil (digits (suc n) n)) ∙ digits_std 63 (suc n) n [] (omega arith) (omega (arith, h))
 
 -- a number of 64 bits has at most 20 digits
 pub decimal_20 : (n : ℕ) → n < 2 ^ 64 → length (decimal n) ≤ 20
-decimal_20 n h = decimal-few 20 n (omega arith) (omega (arith, h))
-
--- the two ways of writing it: a digit, or what is before the last digit and then that
-module _ (at n : ℕ) (out : List ℕ) (room : at + length (decimal n) ≤ length out) where
-  pub digit_room : n < 10 → at < length out
-  digit_room h = omega (arith, room, ap length (decimal-small n h))
-
-  pub digit_put : n < 10 → (after : List ℕ) (r : ℕ) → Put at (digit n ∷ []) out after r → Put at (decimal n) out after r
-  digit_put h after r p = rw (decimal-small n h) p
-
-  module _ (h : 10 ≤ n) where
-    long : length (decimal n) ≡ length (decimal (n / 10)) + 1
-    long = ap length (decimal_more n h) ∙ length-append (decimal (n / 10)) (digit (n % 10) ∷ [])
-
-    pub front_room : at + length (decimal (n / 10)) ≤ length out
-    front_room = omega (arith, room, long)
-
-    module _ (mid : List ℕ) (to : ℕ) (p : Put at (decimal (n / 10)) out mid to) where
-      pub last-room : to < length mid
-      last-room = omega (arith, room, long, p.next, put_long at (decimal (n / 10)) out mid to p front_room)
-
-      pub last_put : (after : List ℕ) (r : ℕ) → Put to (digit (n % 10) ∷ []) mid after r → Put at (decimal n) out after r
-      last_put after r q =
-          rw (decimal_more n h)
-          (put_put at (decimal (n / 10)) (digit (n % 10) ∷ []) out mid after to r (omega (arith, room, long)) p q)
+decimal_20 n h = rw (decimal_std n h) (length-decimal-le 20 n (omega arith) (omega (arith, h)) h)
 
 -- a line: its key, its number, its end
 module _ (at n : ℕ) (key out : List ℕ) (room : at + length (line key n) ≤ length out) where

@@ -3,41 +3,26 @@
 // caller's (report_call). Helpers for other crates: each asks that there is room, and the caller shows that there is.
 #![tactic(auto)]
 
-ghost use Rattle.std.specs.Prelude.{◌+◌, ◌≤◌, ◌<◌, [], ◌∷◌, length};
-ghost use Rattle.text.specs.Text.{digit, decimal, line, Put};
+ghost use Rattle.std.specs.Prelude.{◌+◌, ◌≤◌, length};
+ghost use Rattle.text.specs.Text.{decimal, line, Put};
 
 // Writes these octets from `at` on.
 pub fn put_octets(out: &mut [u8], at: usize, octets: &[u8]) -> usize
     requires { at + length octets.now ≤ length out.old }
     ensures { Put at octets.now out.old out.new result }
 {
-    let mut i = 0;
-    while i < octets.len() {
-        out[at + i] = octets[i];
-        i += 1;
-    }
-    at + octets.len()
+    let end = at + octets.len();
+    out[at..end].copy_from_slice(octets);
+    end
 }
 
-// Writes the digit d, 0 to 9, at `at`.
-fn put_digit(out: &mut [u8], at: usize, d: usize) -> usize
-    requires { (at < length out.old) × (d < 10) }
-    ensures { Put at (digit d ∷ []) out.old out.new result }
-{
-    out[at] = 48 + d as u8;
-    at + 1
-}
-
-// Writes n in decimal from `at` on: what is before its last digit, then that.
+// Writes n in decimal from `at` on.
 pub fn put_decimal(out: &mut [u8], at: usize, n: usize) -> usize
     requires { at + length (decimal n) ≤ length out.old }
     ensures { Put at (decimal n) out.old out.new result }
 {
-    if n < 10 {
-        return put_digit(out, at, n);
-    }
-    let to = put_decimal(out, at, n / 10);
-    put_digit(out, to, n % 10)
+    let mut buffer = itoa::Buffer::new();
+    put_octets(out, at, buffer.format(n).as_bytes())
 }
 
 // Writes the line `key` n LF from `at` on; the key has its `=`.
