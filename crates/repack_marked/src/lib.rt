@@ -10,6 +10,7 @@ ghost use Rattle.repack_plain.specs.Write.{item_octet, item_strobe, record_at, H
 ghost use Rattle.repack_marked.specs.Marked.{items_from, lanes_put, RecordFits};
 
 use repack_plain::{Cursor, Head};
+use stream_record::Header;
 use stream_record::layout::HEAD_OCTETS;
 
 // The mark of item i.
@@ -72,11 +73,13 @@ fn put_lanes(
     stream_write::write_nulls(out, n, v);
     stream_write::write_header(
         out,
-        (head.last % 0x100) as u8,
-        (head.pair % 0x100) as u8,
-        (head.pair / 0x100 % 0x100) as u8,
-        (1u32 << n) - 1,
-        strb,
+        Header {
+            flags: head.last,
+            tid: (head.pair % 0x100) as u8,
+            tdest: (head.pair / 0x100 % 0x100) as u8,
+            keep: (1u32 << n) - 1,
+            strb,
+        },
     );
 }
 

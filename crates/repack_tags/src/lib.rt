@@ -9,6 +9,7 @@ ghost use Rattle.stream_spec.specs.Packed.{fitted};
 ghost use Rattle.repack_scratch.specs.Codes.{tagged_code, pair_from};
 ghost use Rattle.repack_tags.specs.Tags.{GatheredTags, TagsFit, item_lanes, tags_of, RecordFits};
 
+use stream_record::Header;
 use stream_record::layout::HEAD_OCTETS;
 
 // TSTRB and the user bits of a record's lanes, lane 0's bits the lowest.
@@ -102,10 +103,12 @@ pub fn put_record(
     );
     stream_write::write_header(
         out,
-        (last % 0x100) as u8,
-        (pair % 0x100) as u8,
-        (pair / 0x100 % 0x100) as u8,
-        (1u32 << n) - 1,
-        tags.strb,
+        Header {
+            flags: last,
+            tid: (pair % 0x100) as u8,
+            tdest: (pair / 0x100 % 0x100) as u8,
+            keep: (1u32 << n) - 1,
+            strb: tags.strb,
+        },
     );
 }

@@ -37,6 +37,7 @@ write_header-requires c =
     let long : length (items_from a.octets.now a.marks.now a.from a.n) ≡ a.n =
     length-take-le a.n (drop a.from (codes_in a.octets.now a.marks.now)) (omega (arith, few, p.held, length_from a.octets.now a.marks.now a.from p.marked)) in (
       omega (arith, size_bare a.v, c.requires.1, c.put_items-strb.auto.out, c.write_nulls.auto.out),
+      omega (arith, p.headed.last),
       omega (arith, shifted a.n few, pow_mono few),
       omega (arith, c.put_items-strb.ensures.value, rw long at (strb-fits (items_from a.octets.now a.marks.now a.from a.n)), pow_mono few),
     )
@@ -45,6 +46,7 @@ pub returns : goal.returns
 returns c =
     let a = c.args in
     let p = c.requires.0 in
+    let flags : a.head.last % 256 ≡ a.head.last = omega (arith, p.headed.last) in
     record_written a.v a.out.now c.put_items-strb.new.out c.write_nulls.new.out c.write_header.new.out (drop a.from (codes_in a.octets.now a.marks.now)) a.n a.head.pair a.head.last
     (1 * 2 ^ a.n % 0x1_0000_0000 - 1) c.put_items-strb.result p.few (omega (arith, p.few, p.high, p.held, length_from a.octets.now a.marks.now a.from p.marked)) c.requires.1 p.headed.pair p.headed.last
-    (rw (shifted a.n (omega (arith, p.few, p.high))) refl) c.put_items-strb.ensures.value c.put_items-strb.ensures.out_after c.write_nulls.ensures c.write_header.ensures
+    (rw (shifted a.n (omega (arith, p.few, p.high))) refl) c.put_items-strb.ensures.value c.put_items-strb.ensures.out_after c.write_nulls.ensures (rw flags c.write_header.ensures)

@@ -61,6 +61,7 @@ write_header-requires c =
     let most : a.n ≤ 16 = omega (arith, p.few, p.high) in
     let codes = take a.n (drop a.from a.items.now) in (
       omega (arith, size_is (shaped a.v a.m), c.requires.1, c.put_items-tags.auto.out, c.write_nulls.auto.out, c.write_user.auto.out),
+      omega (arith, p.headed.1),
       omega (arith, shifted a.n most, pow_mono most),
       omega (arith, ap (λ (t : Tags). t.strb) c.put_items-tags.ensures.value, strobes-small codes (omega (arith, most, few a.items.now a.from a.n p.held))),
     )
@@ -71,9 +72,10 @@ returns c =
     let p = c.requires.0 in
     let most : a.n ≤ 16 = omega (arith, p.few, p.high) in
     let k = c.user_octets in
+    let flags : a.last % 256 ≡ a.last = omega (arith, p.headed.1) in
     let shape = c.shape_of in
     record_written a.m a.v a.out.now c.put_items-tags.new.out c.write_nulls.new.out c.write_user.new.out c.write_header.new.out (take a.n (drop a.from a.items.now))
     a.n a.pair a.last (1 * 2 ^ a.n % 0x1_0000_0000 - 1) k.result c.put_items-tags.result
     (few a.items.now a.from a.n p.held) p.few c.requires.1 p.headed.0 p.headed.1 (rw (shifted a.n most) refl)
     (octets-of shape.result k.result a.v a.m shape.ensures k.ensures.0)
-    c.put_items-tags.ensures.value c.put_items-tags.ensures.out_after c.write_nulls.ensures c.write_user.ensures c.write_header.ensures
+    c.put_items-tags.ensures.value c.put_items-tags.ensures.out_after c.write_nulls.ensures c.write_user.ensures (rw flags c.write_header.ensures)
