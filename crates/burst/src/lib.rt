@@ -68,7 +68,13 @@ pub fn judge(b: Burst) -> Result<(), Refusal>
 }
 
 // The same of five plain numbers.
-pub fn judge_numbers(start: Address, len: u32, size: u32, kind: u32, bus: u32) -> Result<(), Refusal>
+pub fn judge_numbers(
+    start: Address,
+    len: u32,
+    size: u32,
+    kind: u32,
+    bus: u32,
+) -> Result<(), Refusal>
     ensures { Judged (burst_of start len size kind bus) result }
 {
     judge(burst_of(start, len, size, kind, bus))
@@ -285,5 +291,6 @@ fn lane(x: Address) -> u32
     requires { x < bus_most }
     ensures { result ≡ x }
 {
+    // stays: the `requires` lets the cast, and `u32::try_from` is an `unwrap` more on a path that tests/masks refuses.
     x as u32
 }

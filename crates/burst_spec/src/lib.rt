@@ -20,6 +20,7 @@ pub enum Kind {
 // Every number from 3 on is the reserved kind, which is refused after BUS and SIZE.
 impl From<u32> for Kind {
     ghost use Rattle.burst_spec.specs.Answers.{kind_of};
+
     ghost from_gives = { λ number kind. kind ≡ kind_of number };
 
     fn from(number: u32) -> Kind {
@@ -35,6 +36,7 @@ impl From<u32> for Kind {
 // AxBURST of a kind; no accepted burst has the reserved one.
 impl From<Kind> for u64 {
     ghost use Rattle.burst_spec.specs.Answers.{kind_number};
+
     ghost from_gives = { λ kind number. number ≡ kind_number kind };
 
     fn from(kind: Kind) -> u64 {

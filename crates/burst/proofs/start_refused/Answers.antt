@@ -1,6 +1,6 @@
 -- `burst::start_refused` meets its contract: only WRAP asks for an aligned start. Assumes nothing.
-use mathlib.Core.Bool.{Bool, true, false, not}
-use mathlib.Core.Path.{◌≡◌, refl, sym, ◌∙◌}
+use mathlib.Core.Bool.{true, false, not}
+use mathlib.Core.Path.{◌≡◌, refl, ◌∙◌}
 use Prim.Native.Nat.{ℕ, ◌%◌, ◌^◌}
 use lib.Dec.{eqb}
 use denote.Enum.Bare.{sameb}
