@@ -4,20 +4,11 @@ use mathlib.Core.Path.{◌≡◌}
 use Prim.Native.Nat.{◌+◌, ◌*◌}
 use native.Mathlib.Omega.{arith}
 use Rattle.burst_spec.specs.Address.{beat_address}
-use Rattle.burst_spec.proofs.Known.{size_small, span_small}
 use Rattle.burst.proofs.Formulas.{address_bits, incr_first, incr_later, address-fits, lt_by}
 use Rattle.burst.proofs.incr_address.Goals as goal
 
 pub returns-then-k-eq0 : goal.returns-then-k-eq0
 returns-then-k-eq0 c = incr_first c.args.b c.args.k c.requires.1 c.if-k-eq0.true
-
-pub bytes_of-bytes-requires : goal.bytes_of-bytes-requires
-bytes_of-bytes-requires c = size_small c.args.b c.requires.0.legal
-
-pub overflow_mul-result : goal.overflow_mul-result
-overflow_mul-result c =
-    rw (c.wide.ensures, c.bytes_of-bytes.ensures)
-    (omega (arith, span_small c.args.b c.requires.0.legal c.args.k (omega (arith, c.requires.2))))
 
 pub overflow_add-result : goal.overflow_add-result
 overflow_add-result c =

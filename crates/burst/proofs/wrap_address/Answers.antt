@@ -5,30 +5,13 @@ use Prim.Native.Nat.{◌+◌, ◌*◌}
 use native.Mathlib.Omega.{arith}
 use Rattle.burst_spec.specs.Address.{beat_address}
 use Rattle.burst_spec.specs.Legal.{Power}
-use Rattle.burst_spec.proofs.Known.{known, size_small, span_small}
 use Rattle.burst.proofs.Formulas.{address_bits, container_power, offset_small, wrap_formula, address-fits, lt_by}
 use Rattle.burst.proofs.wrap_address.Goals as goal
-
-pub bytes_of-bytes-requires : goal.bytes_of-bytes-requires
-bytes_of-bytes-requires c = size_small c.args.b c.requires.0.legal
-
-pub overflow_add-b : goal.overflow_add-b
-overflow_add-b c = omega (arith, (known c.args.b c.requires.0.legal).few)
-
-pub overflow_mul-container : goal.overflow_mul-container
-overflow_mul-container c =
-    rw (c.wide.ensures, c.bytes_of-bytes.ensures)
-    (omega (arith, span_small c.args.b c.requires.0.legal (c.args.b.len + 1) (omega arith)))
 
 pub low_part-requires : goal.low_part-requires
 low_part-requires c =
     let container : Power (c.bytes_of-bytes.result * c.wide.result) = rw (c.wide.ensures, c.bytes_of-bytes.ensures) (container_power c.args.b c.requires.0.legal c.requires.1) in
     container
-
-pub overflow_mul-offset : goal.overflow_mul-offset
-overflow_mul-offset c =
-    rw (c.wide-2.ensures, c.bytes_of-bytes.ensures)
-    (omega (arith, span_small c.args.b c.requires.0.legal c.args.k (omega (arith, c.requires.2))))
 
 pub overflow_add-offset : goal.overflow_add-offset
 overflow_add-offset c =
