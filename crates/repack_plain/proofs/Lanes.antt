@@ -87,12 +87,6 @@ slice_small items j n h k =
     let few : length (slice j n items) ≤ 16 = rw (length-slice j n items h) (omega arith) in
     omega (arith, strb-fits (slice j n items), pow_mono few)
 
--- an octet or nothing is an octet
-pub octet-small : (d strobe : ℕ) → d < 256 → strobe ≤ 1 → d * strobe < 256
-octet-small d zero h s = omega arith
-octet-small d (suc zero) h s = omega arith
-octet-small d (suc (suc n)) h s = absurd (omega arith)
-
 -- ---- items that are all data
 
 pub data_octet : (d : ℕ) → d < 256 → item_octet (data_code d) ≡ d

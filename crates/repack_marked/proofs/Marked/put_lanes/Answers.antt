@@ -1,4 +1,4 @@
--- `repack_marked::put_lanes` meets its contract: items, nulls and header make the record. Assumes nothing.
+-- `Marked::put_lanes` meets its contract: items, nulls and header make the record. Assumes nothing.
 use mathlib.Core.Path.{◌≡◌, refl}
 use Prim.Native.Nat.{◌-◌, ◌*◌, ◌%◌, ◌^◌, ◌≤◌}
 use native.Mathlib.Omega.{arith}
@@ -12,41 +12,43 @@ use Rattle.repack_plain.proofs.Lanes.{strb-fits}
 use Rattle.repack_plain.proofs.Memory.{record_written}
 use Rattle.repack_marked.specs.Marked.{items_from}
 use Rattle.repack_marked.proofs.Near.{length_from}
-use Rattle.repack_marked.proofs.put_lanes.Goals as goal
+use Rattle.repack_marked.proofs.Marked.put_lanes.Goals as goal
 
 pub put_items-strb-requires : goal.put_items-strb-requires
 put_items-strb-requires c =
-    let a = c.args in
-    let p = c.requires.0 in
-    (omega (arith, p.few, p.high), omega (arith, p.few, p.high, p.held), p.marked, omega (arith, size_bare a.v, p.few, c.requires.1))
+    let p = c.requires.1 in
+    (omega (arith, p.few, p.high), c.requires.0, omega (arith, size_bare c.args.v, p.few, p.room))
 
 pub write_nulls-requires : goal.write_nulls-requires
-write_nulls-requires c =
-    (c.requires.0.few, omega (arith, size_bare c.args.v, c.requires.1, c.put_items-strb.auto.out))
+write_nulls-requires c = (c.requires.1.few, omega (arith, size_bare c.args.v, c.requires.1.room, c.put_items-strb.auto.out))
 
 pub overflow_sub-n : goal.overflow_sub-n
 overflow_sub-n c =
-    let p = c.requires.0 in
+    let p = c.requires.1 in
     omega (arith, shifted c.args.n (omega (arith, p.few, p.high)), pow_pos c.args.n)
 
 pub write_header-requires : goal.write_header-requires
 write_header-requires c =
     let a = c.args in
-    let p = c.requires.0 in
+    let p = c.requires.1 in
+    let octets = a.self.now.octets.now in
+    let marks = a.self.now.marks.now in
     let few : a.n ≤ 16 = omega (arith, p.few, p.high) in
-    let long : length (items_from a.octets.now a.marks.now a.from a.n) ≡ a.n =
-    length-take-le a.n (drop a.from (codes_in a.octets.now a.marks.now)) (omega (arith, few, p.held, length_from a.octets.now a.marks.now a.from p.marked)) in (
-      omega (arith, size_bare a.v, c.requires.1, c.put_items-strb.auto.out, c.write_nulls.auto.out),
+    let long : length (items_from octets marks a.from a.n) ≡ a.n =
+    length-take-le a.n (drop a.from (codes_in octets marks)) (omega (arith, c.requires.0, length_from octets marks a.from a.self.now.same)) in (
+      omega (arith, size_bare a.v, p.room, c.put_items-strb.auto.out, c.write_nulls.auto.out),
       omega (arith, p.headed.last),
       omega (arith, shifted a.n few, pow_mono few),
-      omega (arith, c.put_items-strb.ensures.value, rw long at (strb-fits (items_from a.octets.now a.marks.now a.from a.n)), pow_mono few),
+      omega (arith, c.put_items-strb.ensures.value, rw long at (strb-fits (items_from octets marks a.from a.n)), pow_mono few),
     )
 
 pub returns : goal.returns
 returns c =
     let a = c.args in
-    let p = c.requires.0 in
+    let p = c.requires.1 in
+    let octets = a.self.now.octets.now in
+    let marks = a.self.now.marks.now in
     let flags : a.head.last % 256 ≡ a.head.last = omega (arith, p.headed.last) in
-    record_written a.v a.out.now c.put_items-strb.new.out c.write_nulls.new.out c.write_header.new.out (drop a.from (codes_in a.octets.now a.marks.now)) a.n a.head.pair a.head.last
-    (1 * 2 ^ a.n % 0x1_0000_0000 - 1) c.put_items-strb.result p.few (omega (arith, p.few, p.high, p.held, length_from a.octets.now a.marks.now a.from p.marked)) c.requires.1 p.headed.pair p.headed.last
+    record_written a.v a.out.now c.put_items-strb.new.out c.write_nulls.new.out c.write_header.new.out (drop a.from (codes_in octets marks)) a.n a.head.pair a.head.last
+    (1 * 2 ^ a.n % 0x1_0000_0000 - 1) c.put_items-strb.result p.few (omega (arith, c.requires.0, length_from octets marks a.from a.self.now.same)) p.room p.headed.pair p.headed.last
     (rw (shifted a.n (omega (arith, p.few, p.high))) refl) c.put_items-strb.ensures.value c.put_items-strb.ensures.out_after c.write_nulls.ensures (rw flags c.write_header.ensures)
