@@ -55,16 +55,16 @@ impl<'a> Marked<'a> {
 
     // A record with the n items from item `from` on, lane by lane, at the front of `out`.
     fn put_lanes(&self, out: &mut [u8], from: usize, n: usize, v: usize, head: Head)
-        requires { (from + n ≤ length self.now.octets.now) × RecordFits 0 v n head out.old }
-        ensures { out.new ≡ record_at 0 v head.pair head.last (codes_in self.now.octets.now self.now.marks.now) from n ++ drop (size (of_width v)) out.old }
+        requires { (from + n ≤ length self.now.octets.now) × RecordFits 0 v n out.old }
+        ensures { out.new ≡ record_at 0 v head (codes_in self.now.octets.now self.now.marks.now) from n ++ drop (size (of_width v)) out.old }
     {
         let strb = self.put_items(out, from, n);
         stream_write::write_nulls(out, n, v);
         stream_write::write_header(
             out,
-            (head.last % 0x100) as u8,
+            u8::from(head.last),
             (head.pair % 0x100) as u8,
-            (head.pair / 0x100 % 0x100) as u8,
+            (head.pair / 0x100) as u8,
             (1u32 << n) - 1,
             strb,
         );

@@ -1,17 +1,18 @@
 -- `Marked::put_lanes` meets its contract: items, nulls and header make the record. Assumes nothing.
-use mathlib.Core.Path.{◌≡◌, refl}
-use Prim.Native.Nat.{◌-◌, ◌*◌, ◌%◌, ◌^◌, ◌≤◌}
+use mathlib.Core.Path.{◌≡◌, refl, ◌∙◌}
+use Prim.Native.Nat.{◌-◌, ◌*◌, ◌/◌, ◌%◌, ◌^◌, ◌≤◌}
 use native.Mathlib.Omega.{arith}
 use lib.Pow.{pow_pos, pow_mono}
 use lib.ListN.{length, drop}
 use lib.Seq.{length-take-le}
 use Rattle.stream_spec.proofs.Size.{size_bare}
 use Rattle.stream_record.proofs.Field.{shifted}
-use Rattle.repack_scratch.specs.Codes.{codes_in}
-use Rattle.repack_plain.proofs.Lanes.{strb-fits}
+use Rattle.repack_scratch.specs.Codes.{codes_in, mark_bits}
+use Rattle.repack_scratch.proofs.Held.{length-held}
+use Rattle.repack_plain.proofs.Lanes.{strb-fits, bool-bit}
 use Rattle.repack_plain.proofs.Memory.{record_written}
 use Rattle.repack_marked.specs.Marked.{items_from}
-use Rattle.repack_marked.proofs.Near.{length_from}
+use Rattle.repack_marked.proofs.Near.{marks-same, length_from}
 use Rattle.repack_marked.proofs.Marked.put_lanes.Goals as goal
 
 pub put_items-strb-requires : goal.put_items-strb-requires
@@ -47,6 +48,8 @@ returns c =
     let p = c.requires.1 in
     let octets = a.self.now.octets.now in
     let marks = a.self.now.marks.now in
-    record_written a.v a.out.now c.put_items-strb.new.out c.write_nulls.new.out c.write_header.new.out (drop a.from (codes_in octets marks)) a.n a.head.pair a.head.last
-    (1 * 2 ^ a.n % 0x1_0000_0000 - 1) c.put_items-strb.result p.few (omega (arith, c.requires.0, length_from octets marks a.from a.self.now.same)) p.room p.headed.pair p.headed.last
-    (rw (shifted a.n (omega (arith, p.few, p.high))) refl) c.put_items-strb.ensures.value c.put_items-strb.ensures.out_after c.write_nulls.ensures c.write_header.ensures
+    record_written a.v a.head a.out.now c.put_items-strb.new.out c.write_nulls.new.out c.write_header.new.out (codes_in octets marks) a.from a.n
+    c.from.result (a.head.pair % 256) (a.head.pair / 256) (1 * 2 ^ a.n % 0x1_0000_0000 - 1) c.put_items-strb.result
+    p.few (omega (arith, c.requires.0, length-held octets (mark_bits marks) (marks-same octets marks a.self.now.same))) p.room
+    (c.from.ensures ∙ bool-bit a.head.last) refl refl (rw (shifted a.n (omega (arith, p.few, p.high))) refl)
+    c.put_items-strb.ensures.value c.put_items-strb.ensures.out_after c.write_nulls.ensures c.write_header.ensures
