@@ -1,7 +1,7 @@
--- `repack_tags::put_record` meets its contract: items, nulls, user bits and header make the record. Assumes nothing.
+-- A record of items with user bits: items, nulls, user bits and header make it. Assumes nothing.
 use mathlib.Core.Path.{◌≡◌, refl, ap, ◌∙◌}
 use mathlib.Core.List.{List}
-use Prim.Native.Nat.{ℕ, ◌+◌, ◌-◌, ◌*◌, ◌%◌, ◌^◌, ◌≤◌}
+use Prim.Native.Nat.{ℕ, ◌+◌, ◌-◌, ◌*◌, ◌/◌, ◌%◌, ◌^◌, ◌≤◌}
 use native.Mathlib.Omega.{arith}
 use lib.Pow.{pow_pos, pow_mono}
 use lib.ListN.{length, take, drop, length-drop}
@@ -12,8 +12,10 @@ use Rattle.stream_spec.specs.Walk.{Narrow}
 use Rattle.stream_spec.proofs.Size.{size_is}
 use Rattle.stream_record.proofs.Field.{shifted}
 use Rattle.repack_tags.specs.declared.Tags.{Tags}
+use Rattle.repack_plain.proofs.Lanes.{bool-bit}
+use Rattle.repack_tags.proofs.Lanes.{front_part}
 use Rattle.repack_tags.proofs.Putting.{strobes-small, record_written}
-use Rattle.repack_tags.proofs.put_record.Goals as goal
+use Rattle.repack_tags.proofs.TaggedItems.put_record.Goals as goal
 
 few : (items : List ℕ) (from n : ℕ) → from + n ≤ length items → length (take n (drop from items)) ≡ n
 few items from n h = length-take-le n (drop from items) (omega (arith, length-drop from items))
@@ -26,54 +28,59 @@ octets-of s k v m e f = f ∙ ap (λ (t : Shape). user_octets t.width t.user) e
 
 pub put_items-tags-requires : goal.put_items-tags-requires
 put_items-tags-requires c =
-    let p = c.requires.0 in
-    (omega (arith, p.few, p.high), p.user, p.held, omega (arith, size_is (shaped c.args.v c.args.m), p.few, c.requires.1), p.fits)
+    let a = c.args in
+    let p = c.requires.1 in
+    let h = c.requires.0 in
+    record {
+      few = (omega (arith, p.few, p.high), h.0, omega (arith, size_is (shaped a.v a.self.now.user), p.few, p.room));
+      fits = front_part a.self.now.user a.from a.n a.self.now.items.now h.0 h.1;
+    }
 
 pub write_nulls-requires : goal.write_nulls-requires
 write_nulls-requires c =
-    (c.requires.0.few, omega (arith, size_is (shaped c.args.v c.args.m), c.requires.1, c.put_items-tags.auto.out))
+    (c.requires.1.few, omega (arith, size_is (shaped c.args.v c.args.self.now.user), c.requires.1.room, c.put_items-tags.auto.out))
 
 pub user_octets-requires : goal.user_octets-requires
 user_octets-requires c =
-    narrow c.shape_of.result c.args.v c.args.m c.requires.0.high c.requires.0.user c.shape_of.ensures
+    narrow c.shape_of.result c.args.v c.args.self.now.user c.requires.1.high c.args.self.now.narrow c.shape_of.ensures
 
 pub write_user-requires : goal.write_user-requires
 write_user-requires c =
     let a = c.args in
     omega (
       arith,
-      size_is (shaped a.v a.m),
-      octets-of c.shape_of.result c.user_octets.result a.v a.m c.shape_of.ensures c.user_octets.ensures.0,
-      c.requires.1,
+      size_is (shaped a.v a.self.now.user),
+      octets-of c.shape_of.result c.user_octets.result a.v a.self.now.user c.shape_of.ensures c.user_octets.ensures.0,
+      c.requires.1.room,
       c.put_items-tags.auto.out,
       c.write_nulls.auto.out,
     )
 
 pub overflow_sub-n : goal.overflow_sub-n
 overflow_sub-n c =
-    let p = c.requires.0 in
+    let p = c.requires.1 in
     omega (arith, shifted c.args.n (omega (arith, p.few, p.high)), pow_pos c.args.n)
 
 pub write_header-requires : goal.write_header-requires
 write_header-requires c =
     let a = c.args in
-    let p = c.requires.0 in
+    let p = c.requires.1 in
     let most : a.n ≤ 16 = omega (arith, p.few, p.high) in
-    let codes = take a.n (drop a.from a.items.now) in (
-      omega (arith, size_is (shaped a.v a.m), c.requires.1, c.put_items-tags.auto.out, c.write_nulls.auto.out, c.write_user.auto.out),
+    let codes = take a.n (drop a.from a.self.now.items.now) in (
+      omega (arith, size_is (shaped a.v a.self.now.user), p.room, c.put_items-tags.auto.out, c.write_nulls.auto.out, c.write_user.auto.out),
       omega (arith, shifted a.n most, pow_mono most),
-      omega (arith, ap (λ (t : Tags). t.strb) c.put_items-tags.ensures.value, strobes-small codes (omega (arith, most, few a.items.now a.from a.n p.held))),
+      omega (arith, ap (λ (t : Tags). t.strb) c.put_items-tags.ensures.value, strobes-small codes (omega (arith, most, few a.self.now.items.now a.from a.n c.requires.0.0))),
     )
 
 pub returns : goal.returns
 returns c =
     let a = c.args in
-    let p = c.requires.0 in
+    let p = c.requires.1 in
     let most : a.n ≤ 16 = omega (arith, p.few, p.high) in
     let k = c.user_octets in
     let shape = c.shape_of in
-    record_written a.m a.v a.out.now c.put_items-tags.new.out c.write_nulls.new.out c.write_user.new.out c.write_header.new.out (take a.n (drop a.from a.items.now))
-    a.n a.pair a.last (1 * 2 ^ a.n % 0x1_0000_0000 - 1) k.result c.put_items-tags.result
-    (few a.items.now a.from a.n p.held) p.few c.requires.1 p.headed.0 p.headed.1 (rw (shifted a.n most) refl)
-    (octets-of shape.result k.result a.v a.m shape.ensures k.ensures.0)
+    record_written a.self.now.user a.v a.head a.out.now c.put_items-tags.new.out c.write_nulls.new.out c.write_user.new.out c.write_header.new.out (take a.n (drop a.from a.self.now.items.now))
+    a.n c.from.result (a.head.pair % 256) (a.head.pair / 256) (1 * 2 ^ a.n % 0x1_0000_0000 - 1) k.result c.put_items-tags.result
+    (few a.self.now.items.now a.from a.n c.requires.0.0) p.few p.room (c.from.ensures ∙ bool-bit a.head.last) refl refl (rw (shifted a.n most) refl)
+    (octets-of shape.result k.result a.v a.self.now.user shape.ensures k.ensures.0)
     c.put_items-tags.ensures.value c.put_items-tags.ensures.out_after c.write_nulls.ensures c.write_user.ensures c.write_header.ensures
