@@ -60,14 +60,7 @@ impl<'a> Marked<'a> {
     {
         let strb = self.put_items(out, from, n);
         stream_write::write_nulls(out, n, v);
-        stream_write::write_header(
-            out,
-            u8::from(head.last),
-            (head.pair % 0x100) as u8,
-            (head.pair / 0x100) as u8,
-            (1u32 << n) - 1,
-            strb,
-        );
+        stream_write::write_header(out, head.header(n, strb));
     }
 }
 

@@ -67,21 +67,20 @@ record_octets v pair last codes tail h =
     (rw (append_assoc (map item_octet codes) (replicate {A = ℕ} (v - length codes) 0) tail) refl)
 
 -- what the three writes of a record come to
-pub record_written : (v : ℕ) (head : Head) (out out1 out2 out3 codes : List ℕ) (from n flags tid tdest keep strb : ℕ)
-    → n ≤ v → from + n ≤ length codes → size (of_width v) ≤ length out → flags ≡ bit_of head.last → tid ≡ head.pair % 256 → tdest ≡ head.pair / 256
-    → keep ≡ 2 ^ n - 1 → strb ≡ mask_of (map item_strobe (take n (drop from codes)))
+pub record_written : (v : ℕ) (head : Head) (out out1 out2 out3 codes : List ℕ) (from n strb : ℕ)
+    → n ≤ v → from + n ≤ length codes → size (of_width v) ≤ length out → strb ≡ mask_of (map item_strobe (take n (drop from codes)))
     → out1 ≡ take 7 out ++ (map item_octet (take n (drop from codes)) ++ drop (7 + n) out)
     → out2 ≡ take (7 + n) out1 ++ (replicate {A = ℕ} (v - n) 0 ++ drop (7 + v) out1)
-    → out3 ≡ header_octets flags tid tdest keep strb ++ drop 7 out2
+    → out3 ≡ header_octets (bit_of head.last) (head.pair % 256) (head.pair / 256) (2 ^ n - 1) strb ++ drop 7 out2
     → out3 ≡ record_at 0 v head codes from n ++ drop (size (of_width v)) out
-record_written v head out out1 out2 out3 codes from n flags tid tdest keep strb k i h fe ie de ke se e f g =
+record_written v head out out1 out2 out3 codes from n strb k i h se e f g =
     let items : List ℕ = take n (drop from codes) in
     let long : length items ≡ n = length-take-le n (drop from codes) (omega (arith, length-drop from codes)) in
     let room : 7 + v ≤ length out = omega (arith, size_bare v) in
     rw (size_bare v)
-    (three_writes out (map item_octet items) (replicate {A = ℕ} (v - n) 0) (header_octets flags tid tdest keep strb)
+    (three_writes out (map item_octet items) (replicate {A = ℕ} (v - n) 0) (header_octets (bit_of head.last) (head.pair % 256) (head.pair / 256) (2 ^ n - 1) strb)
     n v k (length-map items item_octet ∙ long) room out1 out2 out3 e f g
-    ∙ rw (fe, ie, de, ke, se)
+    ∙ rw se
     (subst
     (λ (m : ℕ).
     header_octets (bit_of head.last) (head.pair % 256) (head.pair / 256) (2 ^ m - 1) (mask_of (map item_strobe items))

@@ -1,9 +1,10 @@
 -- What is written of a stretch that is held as codes, and what holds while it is written, stated by what remains.
-use Rattle.std.specs.Prelude.{◌≡◌, Bool, List, ◌++◌, map, ℕ, ◌+◌, ◌-◌, ◌/◌, ◌^◌, ◌≤◌, ◌<◌, length, take, drop, Some}
+use Rattle.std.specs.Prelude.{◌≡◌, Bool, List, ◌++◌, map, ℕ, ◌+◌, ◌-◌, ◌/◌, ◌%◌, ◌^◌, ◌≤◌, ◌<◌, length, take, drop, Some}
 use Rattle.stream_spec.specs.Items.{Pair, Transfer}
 use Rattle.stream_spec.specs.Packed.{fitted, spread}
-use Rattle.stream_spec.specs.Layout.{width_most, size, shaped, Kept, strb_bit, lane_octet, octets_of, octets}
+use Rattle.stream_spec.specs.Layout.{width_most, size, shaped, Kept, bit_of, strb_bit, lane_octet, octets_of, octets}
 use Rattle.stream_spec.specs.Memory.{Writing, Writes}
+use Rattle.stream_record.specs.declared.Header.{Header}
 use Rattle.repack_scratch.specs.Codes.{kept_of, pair_from}
 use Rattle.repack_plain.specs.declared.stretch.Cursor.{Cursor}
 use Rattle.repack_plain.specs.declared.stretch.Head.{Head}
@@ -34,6 +35,11 @@ abbrev pub left_octets : ℕ → ℕ → Head → List ℕ → Cursor → List �
 left_octets m v head codes c = stretch_octets m v (pair_from head.pair) (take c.left (drop c.from codes)) head.last
 
 -- ---- a record
+
+-- the header of one with items on its first n lanes, and this TSTRB
+abbrev pub header_with : Head → ℕ → ℕ → Header
+header_with head n strb =
+    record { flags = bit_of head.last; tid = head.pair % 0x100; tdest = head.pair / 0x100; keep = 2 ^ n - 1; strb = strb }
 
 -- A record of v lanes with n items can be written at the front of memory: the lanes are enough, and there is room for it.
 pub record RecordFits (m v n : ℕ) (out : List ℕ) : Type 0 where

@@ -187,20 +187,20 @@ record_octets m v head codes tail h =
     refl
 
 -- what the four writes of a record come to
-pub record_written : (m v : ℕ) (head : Head) (out out1 out2 out3 out4 codes : List ℕ) (n flags tid tdest keep k : ℕ) (tags : Tags)
+pub record_written : (m v : ℕ) (head : Head) (out out1 out2 out3 out4 codes : List ℕ) (n k : ℕ) (tags : Tags)
     → length codes ≡ n → n ≤ v → size (shaped v m) ≤ length out
-    → flags ≡ bit_of head.last → tid ≡ head.pair % 256 → tdest ≡ head.pair / 256 → keep ≡ 2 ^ n - 1 → k ≡ user_octets v m
+    → k ≡ user_octets v m
     → tags ≡ tags_of m (lanes_with codes)
     → out1 ≡ splice 7 (map lane_octet (lanes_with codes)) out
     → out2 ≡ null_lanes n v out1
     → out3 ≡ splice (7 + v) (octets_of_word k tags.user) out2
-    → out4 ≡ header_octets flags tid tdest keep tags.strb ++ drop 7 out3
+    → out4 ≡ header_octets (bit_of head.last) (head.pair % 256) (head.pair / 256) (2 ^ n - 1) tags.strb ++ drop 7 out3
     → out4 ≡ octets_of m (record_of v (pair_from head.pair) codes head.last) ++ drop (size (shaped v m)) out
-record_written m v head out out1 out2 out3 out4 codes n flags tid tdest keep k tags long few room fe ie de ke kk te e f g h =
+record_written m v head out out1 out2 out3 out4 codes n k tags long few room kk te e f g h =
     let us_long : length (octets_of_word (user_octets v m) (users_of m (lanes_with codes))) ≡ user_octets v m =
     length-octets (user_octets v m) (users_of m (lanes_with codes)) in
     let end : 7 + v + length (octets_of_word (user_octets v m) (users_of m (lanes_with codes))) ≡ size (shaped v m) = omega (arith, us_long, size_is (shaped v m)) in
     four_writes out out1 out2 out3 out4 (map lane_octet (lanes_with codes)) (replicate {A = ℕ} (v - n) 0) (octets_of_word (user_octets v m) (users_of m (lanes_with codes)))
     (header_octets (bit_of head.last) (head.pair % 256) (head.pair / 256) (2 ^ n - 1) (mask_of (map strb_bit (lanes_with codes)))) n v (length_octs codes ∙ long) (length-replicate {A = ℕ} (v - n) 0) few (omega (arith, end)) e f
-    (g ∙ rw (kk, te) refl) (h ∙ rw (fe, ie, de, ke, te) refl)
+    (g ∙ rw (kk, te) refl) (h ∙ rw te refl)
     ∙ rw (end, ← long) (record_octets m v head codes (drop (size (shaped v m)) out) (omega arith))

@@ -108,14 +108,7 @@ impl<'a> Items for Tagged<'a> {
             tags.user,
             stream_record::user_octets(stream_record::shape_of(v, self.user)),
         );
-        stream_write::write_header(
-            out,
-            u8::from(head.last),
-            (head.pair % 0x100) as u8,
-            (head.pair / 0x100) as u8,
-            (1u32 << n) - 1,
-            tags.strb,
-        );
+        stream_write::write_header(out, head.header(n, tags.strb));
     }
 
     ghost held = { λ items n h. h.0 };

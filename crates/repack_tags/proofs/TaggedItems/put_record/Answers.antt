@@ -1,18 +1,17 @@
 -- A record of items with user bits: items, nulls, user bits and header make it. Assumes nothing.
-use mathlib.Core.Path.{◌≡◌, refl, ap, ◌∙◌}
+use mathlib.Core.Path.{◌≡◌, ap, ◌∙◌}
 use mathlib.Core.List.{List}
-use Prim.Native.Nat.{ℕ, ◌+◌, ◌-◌, ◌*◌, ◌/◌, ◌%◌, ◌^◌, ◌≤◌}
+use Prim.Native.Nat.{ℕ, ◌+◌, ◌≤◌}
 use native.Mathlib.Omega.{arith}
-use lib.Pow.{pow_pos, pow_mono}
+use lib.Pow.{pow_mono}
 use lib.ListN.{length, take, drop, length-drop}
 use lib.Seq.{length-take-le}
 use Rattle.stream_spec.specs.declared.Shape.{Shape}
 use Rattle.stream_spec.specs.Layout.{shaped, user_octets}
 use Rattle.stream_spec.specs.Walk.{Narrow}
 use Rattle.stream_spec.proofs.Size.{size_is}
-use Rattle.stream_record.proofs.Field.{shifted}
 use Rattle.repack_tags.specs.declared.Tags.{Tags}
-use Rattle.repack_plain.proofs.Lanes.{bool-bit}
+use Rattle.repack_plain.proofs.Lanes.{bit-small}
 use Rattle.repack_tags.proofs.Lanes.{front_part}
 use Rattle.repack_tags.proofs.Putting.{strobes-small, record_written}
 use Rattle.repack_tags.proofs.TaggedItems.put_record.Goals as goal
@@ -56,19 +55,19 @@ write_user-requires c =
       c.write_nulls.auto.out,
     )
 
-pub overflow_sub-n : goal.overflow_sub-n
-overflow_sub-n c =
-    let p = c.requires.1 in
-    omega (arith, shifted c.args.n (omega (arith, p.few, p.high)), pow_pos c.args.n)
+pub header-requires : goal.header-requires
+header-requires c = omega (arith, c.requires.1.few, c.requires.1.high)
 
 pub write_header-requires : goal.write_header-requires
 write_header-requires c =
     let a = c.args in
     let p = c.requires.1 in
     let most : a.n ≤ 16 = omega (arith, p.few, p.high) in
-    let codes = take a.n (drop a.from a.self.now.items.now) in (
+    let codes = take a.n (drop a.from a.self.now.items.now) in
+    rw c.header.ensures (
       omega (arith, size_is (shaped a.v a.self.now.user), p.room, c.put_items-tags.auto.out, c.write_nulls.auto.out, c.write_user.auto.out),
-      omega (arith, shifted a.n most, pow_mono most),
+      omega (arith, bit-small a.head.last),
+      omega (arith, pow_mono most),
       omega (arith, ap (λ (t : Tags). t.strb) c.put_items-tags.ensures.value, strobes-small codes (omega (arith, most, few a.self.now.items.now a.from a.n c.requires.0.0))),
     )
 
@@ -80,7 +79,7 @@ returns c =
     let k = c.user_octets in
     let shape = c.shape_of in
     record_written a.self.now.user a.v a.head a.out.now c.put_items-tags.new.out c.write_nulls.new.out c.write_user.new.out c.write_header.new.out (take a.n (drop a.from a.self.now.items.now))
-    a.n c.from.result (a.head.pair % 256) (a.head.pair / 256) (1 * 2 ^ a.n % 0x1_0000_0000 - 1) k.result c.put_items-tags.result
-    (few a.self.now.items.now a.from a.n c.requires.0.0) p.few p.room (c.from.ensures ∙ bool-bit a.head.last) refl refl (rw (shifted a.n most) refl)
+    a.n k.result c.put_items-tags.result
+    (few a.self.now.items.now a.from a.n c.requires.0.0) p.few p.room
     (octets-of shape.result k.result a.v a.self.now.user shape.ensures k.ensures.0)
-    c.put_items-tags.ensures.value c.put_items-tags.ensures.out_after c.write_nulls.ensures c.write_user.ensures c.write_header.ensures
+    c.put_items-tags.ensures.value c.put_items-tags.ensures.out_after c.write_nulls.ensures c.write_user.ensures (rw c.header.ensures at c.write_header.ensures)
