@@ -1,5 +1,5 @@
 // Judging the beats of the write data channel against their burst (paper 02, T-05). The call takes any numbers and octets and refuses
-// what is not allowed. What it answers is defined in the crate write_data_spec; a beat's lanes are what `burst::beat` answers. The call comes
+// what is not allowed. What it answers is defined in the crate write_data_spec; a beat's lanes are what `AcceptedBurst::beat` answers. The call comes
 // first, then the refusals, the rules of one beat, and its strobes octet by octet.
 #![tactic(auto)]
 
