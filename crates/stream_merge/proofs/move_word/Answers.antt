@@ -1,4 +1,4 @@
--- `stream_merge::move8` meets its contract: a word's octets are those it was read from. Assumes nothing.
+-- `stream_merge::move_word` meets its contract: a word's octets are those it was read from. Assumes nothing.
 use mathlib.Core.List.{List}
 use mathlib.Core.Path.{ap, ◌∙◌}
 use Prim.Native.Nat.{ℕ}
@@ -6,7 +6,7 @@ use native.Mathlib.Omega.{arith}
 use Rattle.words.specs.Splice.{splice}
 use Rattle.words.specs.Words.{octets_of_word}
 use Rattle.words.proofs.Words.{word-take}
-use Rattle.stream_merge.proofs.move8.Goals as goal
+use Rattle.stream_merge.proofs.move_word.Goals as goal
 
 pub returns : goal.returns
 returns c =
