@@ -24,6 +24,7 @@ pub struct Take<'a> {
 
 impl<'a> Take<'a> {
     ghost use Rattle.stream_record.specs.Taken.{IsTakeOf};
+    ghost use Rattle.stream_record.specs.Finding.{TakesRecords, FindsFirst};
 
     // The tests in front of a call that has no other width: the shape, then the length.
     pub fn new(shape: Shape, octets: &'a [u8]) -> Result<Take<'a>, Refusal>
@@ -53,13 +54,25 @@ impl<'a> Take<'a> {
         self.octets.chunks_exact(record_size(self.shape))
     }
 
+    // The first refusal for the records by a fault of one record, told at its place.
+    pub fn first_fault<F: Fn(usize, &[u8]) -> Result<(), Refusal>>(
+        &self,
+        fault: F,
+    ) -> Result<(), Refusal>
+        requires { TakesRecords (F.pre fault) self.now.shape }
+        ensures { FindsFirst (F.post fault) self.now.shape self.now.octets.now result }
+    {
+        for (k, rec) in self.records().enumerate() {
+            fault(k, rec)?;
+        }
+        Ok(())
+    }
+
     // The first refusal for the records, where they are transfer records.
     pub fn find_fault(&self) -> Result<(), Refusal>
         ensures { result_err result ≡ first (transfer_checks self.now.shape 0 (records self.now.shape self.now.octets.now)) }
     {
-        for (k, rec) in self.records().enumerate() {
-            record_fault(self.shape, rec, k)?;
-        }
-        Ok(())
+        let s = self.shape;
+        self.first_fault(|k, rec| record_fault(s, rec, k))
     }
 }
