@@ -5,6 +5,7 @@
 #   CRATE proof Module.name T a public law whose whole type is the name T
 #   CRATE case W07            the id of a worked case, a comment '-- W07: ..' in specs/
 #   CRATE call a::name        what src/ hands out; a is the crate, or the crate and the file's module
+#   CRATE call a::T::name     a method of the type T, or of a trait that T has
 #   CRATE inner a::name       what src/ does not hand out
 # Names in a `where` are not public and are not printed.
 FNR == 1 {
@@ -34,7 +35,25 @@ path[3] != "src" && /[^ ]/ && !/^ *--/ {
         print crate, "promise", name
 }
 
-path[3] == "src" && /^(pub )?(extern "C" )?(fn|struct|enum|type|const) / {
+# the type that an impl is of, or a trait with its methods
+path[3] == "src" && /^impl/ {
+    type = $0
+    of_trait = / for /
+    sub(/^impl(<[^>]*>)? /, "", type)
+    sub(/^.* for /, "", type)
+    sub(/[^A-Za-z0-9_].*/, "", type)
+}
+path[3] == "src" && /^(pub )?trait / { type = $0; of_trait = 1; sub(/^(pub )?trait /, "", type); sub(/[^A-Za-z0-9_].*/, "", type) }
+path[3] == "src" && /^}/ { type = "" }
+path[3] == "src" && type != "" && /^    (pub )?fn / {
+    name = $0
+    kind = $1 == "pub" || of_trait ? "call" : "inner"
+    sub(/^ *(pub )?fn /, "", name)
+    sub(/[^A-Za-z0-9_].*/, "", name)
+    print crate, kind, crate "::" type "::" name
+}
+
+path[3] == "src" && /^(pub )?(extern "C" )?(fn|struct|enum|type|const|trait) / {
     kind = $1 == "pub" ? "call" : "inner"
     sub(/^(pub )?(extern "C" )?[a-z]* /, "")
     match($0, /^[A-Za-z0-9_]+/)

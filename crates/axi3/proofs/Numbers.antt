@@ -1,34 +1,32 @@
 -- A row of numbers while descriptions are written to it, and when all are. Assumes nothing.
-use Rattle.std.specs.Prelude.{Option, None, Some}
+use Rattle.std.specs.Prelude.{Option, None, Some, Err}
+use Rattle.std.proofs.lemmas.List.{take_all}
 use mathlib.Core.List.{List, [], ◌∷◌, ◌++◌, map, map-append, append_assoc, append-nil}
 use mathlib.Core.Path.{◌≡◌, refl, sym, ap, ap₂, ◌∙◌}
-use Prim.Native.Nat.{ℕ, suc, ◌+◌, ◌*◌, ◌≤◌, ◌<◌}
+use Prim.Native.Nat.{ℕ, suc, ◌+◌, ◌-◌, ◌*◌, ◌≤◌, ◌<◌}
 use native.Mathlib.Omega.{arith}
-use lib.ListN.{length, set, take, drop, get_or, length-append, length-drop}
-use lib.Seq.{sets-eq, take_at, drop_at, take-suc, drop-drop, length-take-le}
+use lib.ListN.{length, take, drop, get_or, length-append, length-drop}
+use borrow.Rule.Slice.PartMut.{put_mid}
+use lib.Seq.{take_at, drop_at, take-suc, drop-drop, length-take-le}
 use Rattle.refusal.specs.declared.Refusal.{Refusal}
 use Rattle.burst_spec.specs.declared.Burst.{Burst}
 use Rattle.burst_spec.proofs.Answers.{accepted_exactly}
 use Rattle.axi3_spec.specs.declared.CutRow.{CutRow}
 use Rattle.axi3_spec.specs.Cut.{piece_count, piece, pieces, joined}
-use Rattle.axi3_spec.specs.Answers.{cut_refusal, row_for, row_length, blank_row, kind_number, numbers_each, numbers_of, numbers_room, numbers_after, CutAlone}
+use Rattle.axi3_spec.specs.Answers.{cut_refusal, row_for, row_length, blank_row, numbers_each, numbers_of, numbers_room, numbers_after, Answered, CutAlone}
 use Rattle.axi3_spec.proofs.Runs.{run_length}
 use Rattle.axi3_spec.proofs.Pieces.{count_most}
-use Rattle.axi3_spec.proofs.Answers.{none-refused}
+use Rattle.axi3_spec.proofs.Answers.{none-refused, refused-is}
 use Rattle.axi3_spec.proofs.Numbers.{numbers-length}
 use Rattle.axi3.specs.Rows.{used_of, with_burst, laid}
 use Rattle.axi3.proofs.Rows.{used_is}
 
--- five stores, one after another
-pub stored : (row : List ℕ) (at : ℕ) (x : Burst) → at + numbers_each ≤ length row
-    → set (set (set (set (set row at x.start) (at + 1) x.len) (at + 2) x.size) (at + 3) (kind_number x.kind)) (at + 4) x.bus ≡ with_burst at x row
+-- five numbers written over those from `at` on
+pub placed : (row : List ℕ) (at : ℕ) (x : Burst) (ys : List ℕ) → ys ≡ numbers_of x → put_mid at (at + numbers_each - at) row ys ≡ with_burst at x row
 unfolding with_burst
-stored row at x h =
-    let one : at + 1 ≡ suc at = omega arith in
-    let two : at + 2 ≡ suc (suc at) = omega arith in
-    let three : at + 3 ≡ suc (suc (suc at)) = omega arith in
-    let four : at + 4 ≡ suc (suc (suc (suc at))) = omega arith in
-    rw (one, two, three, four) (sets-eq (numbers_of x) row at h ∙ append_assoc (take at row) (numbers_of x) (drop (at + numbers_each) row))
+placed row at x ys e =
+    let five : at + numbers_each - at ≡ numbers_each = omega arith in
+    ap₂ (λ k zs. put_mid at k row zs) five e ∙ ap (λ l. take at row ++ (numbers_of x ++ l)) (drop-drop numbers_each at row)
 
 joined-append : (xss yss : List (List ℕ)) → joined (xss ++ yss) ≡ joined xss ++ joined yss
 unfolding joined
@@ -44,11 +42,13 @@ laid_none ys row = refl
 front_length : (ys : List Burst) (j : ℕ) → j ≤ length ys → length (joined (map numbers_of (take j ys))) ≡ numbers_each * j
 front_length ys j h = numbers-length (take j ys) ∙ ap (λ n. numbers_each * n) (length-take-le j ys h)
 
-pub laid-length : (ys : List Burst) (row : List ℕ) (j : ℕ) → j ≤ length ys → numbers_each * j ≤ length row → length (laid ys j row) ≡ length row
+-- so many of a longer list
+pub laid-front : (ys : List Burst) (row : List ℕ) (n : ℕ) → n ≤ length ys → laid (take n ys) (length (take n ys)) row ≡ laid ys n row
 unfolding laid
-laid-length ys row j h k =
-    length-append (joined (map numbers_of (take j ys))) (drop (numbers_each * j) row)
-    ∙ omega (arith, front_length ys j h, length-drop (numbers_each * j) row)
+laid-front ys row n h =
+    let long : length (take n ys) ≡ n = length-take-le n ys h in
+    ap (λ k. joined (map numbers_of (take k (take n ys))) ++ drop (numbers_each * k) row) long
+    ∙ ap (λ zs. joined (map numbers_of zs) ++ drop (numbers_each * n) row) (take_all n (take n ys) (omega arith))
 
 -- one more
 pub laid_next : (ys : List Burst) (row : List ℕ) (j : ℕ) (d : Burst) → j < length ys → with_burst (numbers_each * j) (get_or ys j d) (laid ys j row) ≡ laid ys (j + 1) row
@@ -123,3 +123,8 @@ module _ (x : Burst) (room : ℕ) (r : CutRow) (c : CutAlone x room r) where
 
   pub laid-all : (row : List ℕ) → numbers_room row ≡ room → laid r.bursts (used_of r.answer) row ≡ numbers_after x row
   laid-all row e = laid_by row (cut_refusal x room) refl ∙ ap (λ n. row_for (cut_refusal x n) (joined (map numbers_of (pieces x))) row) (sym e)
+
+-- refused, the row keeps its content
+pub numbers_kept : (x : Burst) (row : List ℕ) (r : Refusal) → Answered x (numbers_room row) (Err r) → row ≡ numbers_after x row
+numbers_kept x row r a =
+    sym (ap (λ o. row_for o (joined (map numbers_of (pieces x))) row) (refused-is x (numbers_room row) r a.is))

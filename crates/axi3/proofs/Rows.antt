@@ -1,25 +1,23 @@
 -- A row of bursts while a cut is written to it, and when it is written. Assumes nothing.
-use Rattle.std.specs.Prelude.{Option, None, Some}
-use mathlib.Core.List.{List, ◌∷◌, ◌++◌}
+use Rattle.std.specs.Prelude.{Option, None, Some, Result, Err}
+use Rattle.std.proofs.lemmas.List.{drop_all}
+use mathlib.Core.List.{List, [], ◌∷◌, ◌++◌, append-nil}
 use mathlib.Core.Path.{◌≡◌, refl, sym, ap, ◌∙◌}
 use Prim.Native.Nat.{ℕ, suc, ◌+◌, ◌≤◌, ◌<◌}
 use native.Mathlib.Numerals.{add-one}
 use native.Mathlib.Omega.{arith}
-use lib.ListN.{length, set, drop, get_or, length-append, length-drop}
-use lib.Seq.{drop-cons, set-append_seam, append_snoc}
+use lib.ListN.{length, set, take, drop, get_or}
+use lib.Seq.{drop-cons, set-append_seam, append_snoc, length-take-le}
 use Rattle.refusal.specs.declared.Refusal.{Refusal}
 use Rattle.burst_spec.specs.declared.Burst.{Burst}
-use Rattle.burst_spec.specs.Legal.{Accepted}
-use Rattle.burst_spec.proofs.Answers.{accepted_exactly}
-use Rattle.axi3_spec.specs.declared.CutAnswer.{CutAnswer}
 use Rattle.axi3_spec.specs.Cut.{piece_count, piece, run, pieces}
-use Rattle.axi3_spec.specs.Answers.{cut_refusal, cut_for, cut_after, row_for, Answered}
+use Rattle.axi3_spec.specs.Answers.{cut_refusal, cut_for, cut_after, row_for, Answered, Cut}
 use Rattle.axi3.specs.Rows.{used_of, filled}
 use Rattle.axi3_spec.proofs.Runs.{run_length, run-last}
-use Rattle.axi3_spec.proofs.Answers.{none-refused}
+use Rattle.axi3_spec.proofs.Answers.{refused-is}
 
 -- what an answer counts, by the first refusal
-pub used_is : (x : Burst) (room : ℕ) (r : CutAnswer) → Answered x room r → (o : Option Refusal) → cut_refusal x room ≡ o
+pub used_is : (x : Burst) (room : ℕ) (r : Result ℕ Refusal) → Answered x room r → (o : Option Refusal) → cut_refusal x room ≡ o
     → used_of r ≡ used_of (cut_for o (piece_count x))
 used_is x room r a o e = ap used_of a.is ∙ ap (λ q. used_of (cut_for q (piece_count x))) e
 
@@ -27,12 +25,6 @@ module _ (x : Burst) (row : List Burst) where
   pub filled_none : filled x 0 row ≡ row
   unfolding filled run
   filled_none = refl
-
-  pub filled-length : (n : ℕ) → n ≤ length row → length (filled x n row) ≡ length row
-  unfolding filled
-  filled-length n h =
-      length-append (run (piece x) 0 n) (drop n row)
-      ∙ omega (arith, run_length (piece x) 0 n, length-drop n row)
 
   -- one more is written
   pub filled_next : (n : ℕ) → n < length row → set (filled x n row) n (piece x n) ≡ filled x (n + 1) row
@@ -46,29 +38,17 @@ module _ (x : Burst) (row : List Burst) where
       ∙ ap (λ l. l ++ drop (suc n) row) (sym (run-last (piece x) n))
       ∙ ap (λ k. run (piece x) 0 k ++ drop k row) (sym (add-one n))
 
-  -- what is known of burst j of those that an answer says are written
-  pub record Written (j : ℕ) : Type 0 where
-    pub accepted : Accepted x
-    pub counted : j < piece_count x
-    pub below : j < length row
+  -- the front of the row, when it is written
+  pub filled-front : (n : ℕ) → n ≤ length row → (front : List Burst) → front ≡ filled x n (take n row) → front ++ drop n row ≡ filled x n row
+  unfolding filled
+  filled-front n h front e =
+      let none : drop n (take n row) ≡ [] = drop_all n (take n row) (omega (arith, length-take-le n row h)) in
+      ap (λ l. l ++ drop n row) (e ∙ ap (λ l. run (piece x) 0 n ++ l) none ∙ append-nil (run (piece x) 0 n))
 
-  pub written : (r : CutAnswer) → Answered x (length row) r → (j : ℕ) → j < used_of r → Written j
-  written r a j h = go (cut_refusal x (length row)) refl
-    where
-      go : (o : Option Refusal) → cut_refusal x (length row) ≡ o → Written j
-      go (Some q) e = absurd (omega (arith, used_is x (length row) r a (Some q) e))
-      go None e =
-          let f = none-refused x (length row) e in
-          let counted : j < piece_count x = omega (arith, used_is x (length row) r a None e) in
-          record { accepted = (accepted_exactly x).0 f.0; counted = counted; below = omega (arith, f.1) }
-
-  -- and there is room for all of them
-  pub written-most : (r : CutAnswer) → Answered x (length row) r → used_of r ≤ length row
-  written-most r a = go (cut_refusal x (length row)) refl
-    where
-      go : (o : Option Refusal) → cut_refusal x (length row) ≡ o → used_of r ≤ length row
-      go (Some q) e = omega (arith, used_is x (length row) r a (Some q) e)
-      go None e = omega (arith, used_is x (length row) r a None e, (none-refused x (length row) e).1)
+  -- refused, the row keeps its content
+  pub row_kept : (r : Refusal) → Answered x (length row) (Err r) → Cut x row (Err r) row
+  row_kept r a =
+      record { answers = a; leaves = sym (ap (λ o. row_for o (pieces x) row) (refused-is x (length row) r a.is)) }
 
   filled_by : (o : Option Refusal) → filled x (used_of (cut_for o (piece_count x))) row ≡ row_for o (pieces x) row
   unfolding filled
@@ -76,5 +56,5 @@ module _ (x : Burst) (row : List Burst) where
   filled_by None = ap (λ n. pieces x ++ drop n row) (sym (run_length (piece x) 0 (piece_count x)))
 
   -- when all that the answer counts is written, the row is as defined
-  pub filled-all : (r : CutAnswer) → Answered x (length row) r → filled x (used_of r) row ≡ cut_after x row
+  pub filled-all : (r : Result ℕ Refusal) → Answered x (length row) r → filled x (used_of r) row ≡ cut_after x row
   filled-all r a = ap (λ q. filled x (used_of q) row) a.is ∙ filled_by (cut_refusal x (length row))

@@ -1,15 +1,14 @@
 -- A row while a cut is written to it.
-use Rattle.std.specs.Prelude.{List, ◌++◌, map, ℕ, ◌+◌, ◌*◌, take, drop}
+use Rattle.std.specs.Prelude.{List, ◌++◌, map, ℕ, ◌+◌, ◌*◌, take, drop, Result, Ok, Err}
 use Rattle.burst_spec.specs.declared.Burst.{Burst}
-use Rattle.axi3_spec.specs.declared.CutAnswer.{CutAnswer}
-use Rattle.axi3_spec.specs.declared.CutAnswer.TheVariants.{Bursts, Refused}
+use Rattle.refusal.specs.declared.Refusal.{Refusal}
 use Rattle.axi3_spec.specs.Cut.{piece, run, joined}
 use Rattle.axi3_spec.specs.Answers.{numbers_each, numbers_of}
 
 -- how many descriptions an answer says are written
-abbrev pub used_of : CutAnswer → ℕ
-used_of (Bursts n) = n
-used_of (Refused r) = 0
+abbrev pub used_of : Result ℕ Refusal → ℕ
+used_of (Ok n) = n
+used_of (Err r) = 0
 
 -- a row with the first n bursts of the cut in front
 unfoldable pub filled : Burst → ℕ → List Burst → List Burst

@@ -7,9 +7,9 @@ use lib.ListN.{length, length-append}
 use Rattle.burst_spec.specs.declared.Burst.{Burst}
 use Rattle.burst_spec.specs.declared.Kind.{Kind}
 use Rattle.burst_spec.specs.declared.Kind.TheVariants.{Fixed, Incr, Wrap, Reserved}
-use Rattle.burst_spec.specs.Answers.{burst_of, kind_of}
+use Rattle.burst_spec.specs.Answers.{burst_of, kind_of, kind_number}
 use Rattle.axi3_spec.specs.Cut.{joined}
-use Rattle.axi3_spec.specs.Answers.{kind_number, numbers_each, numbers_of}
+use Rattle.axi3_spec.specs.Answers.{numbers_each, numbers_of}
 use Rattle.axi3_spec.specs.Promises.{read_back}
 
 pub numbers-length : (ys : List Burst) → length (joined (map numbers_of ys)) ≡ numbers_each * length ys

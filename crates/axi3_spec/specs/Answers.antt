@@ -6,8 +6,8 @@ use Rattle.refusal.specs.Code.{code_of}
 use Rattle.refusal.specs.declared.Refusal.{Refusal}
 use Rattle.refusal.specs.declared.Refusal.TheVariants.{Room}
 use Rattle.burst_spec.specs.declared.Burst.{Burst}
-use Rattle.burst_spec.specs.declared.Kind.{Kind}
-use Rattle.burst_spec.specs.declared.Kind.TheVariants.{Fixed, Incr, Wrap, Reserved}
+use Rattle.burst_spec.specs.declared.Kind.TheVariants.{Fixed}
+use Rattle.burst_spec.specs.Answers.{kind_number}
 use Rattle.burst_spec.specs.Checks.{checks}
 use Rattle.axi3_spec.specs.declared.CutRow.{CutRow}
 use Rattle.axi3_spec.specs.Cut.{piece_count, pieces, joined}
@@ -56,13 +56,6 @@ abbrev pub row_after : Burst → ℕ → List Burst
 row_after x room = row_for (cut_refusal x room) (pieces x) blank_row
 
 -- ---- the same into a lent row of plain numbers, five to a description. A rest of fewer than five is no room.
-
--- AxBURST of a kind: FIXED 0, INCR 1, WRAP 2. No accepted burst has another.
-abbrev pub kind_number : Kind → ℕ
-kind_number Fixed = 0
-kind_number Incr = 1
-kind_number Wrap = 2
-kind_number Reserved = 3
 
 abbrev pub numbers_each : ℕ
 numbers_each = 5

@@ -10,6 +10,7 @@ pub const ROW_LENGTH: usize = 16;
 
 // A cut with a row of its own: how many bursts it was cut into, which stand at the front of the row, or the refusal; and the row, in which
 // descriptions that are not used are blank.
+// stays: all 16 descriptions are answered, and no shorter list of them: `CutAlone` says by `row_after` that those not used are blank.
 #[derive(Clone, Copy)]
 pub struct CutRow {
     pub answer: Result<usize, Refusal>,

@@ -1,14 +1,10 @@
 -- The formulas that the code works out are the definitions, and no number on the way is too large. Assumes nothing.
 use mathlib.Core.Bool.{false}
 use mathlib.Core.Path.{◌≡◌, refl, sym, ap, ◌∙◌}
-use Prim.Native.Nat.{ℕ, zero, suc, ◌+◌, ◌-◌, ◌*◌, ◌%◌, ◌^◌, ◌≤◌, ◌<◌}
+use Prim.Native.Nat.{ℕ, zero, suc, ◌+◌, ◌*◌, ◌%◌, ◌^◌, ◌≤◌, ◌<◌}
 use native.Mathlib.Nat.{mod-add-mod, mod-lt}
 use native.Mathlib.Omega.{arith}
 use lib.Dec.{ltb}
-use lib.IntN.{pos, negsuc, sub_ℕ, ◌-ℤ◌}
-use mir.Facts.{to_z_pos}
-use mir.Syntax.{w32}
-use mir.Val.{to_z}
 use lib.Pow.{pow_pos, pow-add, pow_mono}
 use Rattle.burst_spec.specs.declared.Burst.{Burst}
 use Rattle.burst_spec.specs.declared.Kind.{Kind}
@@ -19,7 +15,6 @@ use Rattle.burst_spec.specs.Legal.{Power, Legal, Accepted}
 use Rattle.burst_spec.proofs.Known.{known, UpTo, wrap_power, size_small, span_small}
 use Rattle.burst_spec.proofs.Rounding.{power_positive, highest_quotient, same_memory}
 use Rattle.burst_spec.proofs.Block.{block_bits, incr_crosses, only_incr, address-block}
-use Rattle.burst_spec.proofs.Step.{sub-shift, sub_down}
 use Rattle.burst_spec.proofs.Wrap.{wrap_aligned, wrap_closed}
 
 -- how many bits an `Address` has: the proofs say it here and nowhere else (T-10: 64)
@@ -104,11 +99,3 @@ module _ (x : Burst) (k : ℕ) where
 
 pub highest_fits : (w i a : ℕ) → i ≤ w → a < 2 ^ w → highest_byte a (2 ^ i) < 2 ^ w
 highest_fits w i a h l = same_memory w (highest_byte a (2 ^ i)) a h l (highest_quotient a (2 ^ i) (pow_pos i))
-
--- the signed value of what the code works out where the way goes down
-pub down_is : (from to : ℕ) → to < from → from - to < 2 ^ 31 → pos 0 -ℤ to_z w32 (from - to) ≡ negsuc (from - suc to)
-down_is from to l h = rw (to_z_pos w32 h) (negated (from - to) ∙ sub-shift 0 (from - to) to from (omega arith) ∙ sub_down to from l)
-  where
-    negated : (d : ℕ) → pos 0 -ℤ pos d ≡ sub_ℕ 0 d
-    negated zero = refl
-    negated (suc n) = refl

@@ -2,7 +2,7 @@
 use mathlib.Core.Bool.{Bool, true, false, ◌||◌}
 use mathlib.Core.List.{List, [], ◌∷◌}
 use mathlib.Core.Logic.{◌⊎◌, inl, inr}
-use mathlib.Core.Path.{◌≡◌, refl, sym}
+use mathlib.Core.Path.{◌≡◌, refl}
 use Prim.Native.Nat.{ℕ, ◌≤◌, ◌<◌}
 use native.Mathlib.Omega.{arith}
 use lib.Dec.{T, eqb}
@@ -10,9 +10,6 @@ use borrow.Author.Tests.{le-leb, lt-leb, eqb-true, eqb-false}
 use mir.Facts.{or_yes}
 use mir.Val.{has_key}
 use types.Run.{OneOf, hit}
-use Rattle.burst_spec.specs.declared.Kind.TheVariants.{Reserved}
-use Rattle.burst_spec.specs.Answers.{kind_of}
-use Rattle.burst_spec.proofs.Answers.{reserved_exactly}
 use Rattle.burst_spec.specs.Checks.{among, between}
 use Rattle.burst_spec.proofs.Known.{Each, among-each}
 
@@ -49,9 +46,6 @@ one_or_two ys x ps l h = go (eqb x 1) refl
         let ne : x ≡ 1 → ⊥ = eqb-false x 1 e in
         let two : x ≡ 2 = omega (arith, ne) in
         rw two ps.1.0
-
-pub reserved : (n : ℕ) → (n ≡ 0 → ⊥) → (n ≡ 1 → ⊥) → (n ≡ 2 → ⊥) → Reserved ≡ kind_of n
-reserved n a b c = sym ((reserved_exactly n).1 (omega (arith, a, b, c)))
 
 module _ (low high x : ℕ) where
   pub between-yes : low ≤ x → x ≤ high → between low high x ≡ true

@@ -3,16 +3,15 @@
 // this file, the tests of the refusals, the beats of an accepted burst, and the arithmetic on addresses.
 #![tactic(auto)]
 
-ghost use Rattle.std.specs.Prelude.{not, ◌≡◌, ◌/◌, ◌%◌, ◌^◌, ◌≤◌, ◌<◌};
+ghost use Rattle.std.specs.Prelude.{Err, IfOk, IfErr, not, ◌≡◌, ◌/◌, ◌%◌, ◌^◌, ◌≤◌, ◌<◌};
 ghost use Rattle.std.proofs.Math.IntN.{sub_ℕ};
-ghost use Rattle.burst_spec.specs.Address.{bytes, beats, round_down, beat_address, beat_at};
-ghost use Rattle.burst_spec.specs.Answers.{kind_of, burst_of, judgement_for, Judged, BeatGiven, StepGiven};
-ghost use Rattle.burst_spec.specs.Checks.{block, axsize_most, bus_most, bus_allowed, too_wide, is_reserved, count_allowed, count_refused, misaligned, crosses, indexed_checks};
+ghost use Rattle.burst_spec.specs.Address.{bytes, beats, round_down, beat_address, beat_at, beat_of};
+ghost use Rattle.burst_spec.specs.Answers.{kind_of, burst_of, judgement, Judged, BeatGiven, StepGiven};
+ghost use Rattle.burst_spec.specs.Checks.{block, axsize_most, bus_most, bus_allowed, too_wide, is_reserved, count_allowed, count_refused, misaligned, crosses};
 ghost use Rattle.burst_spec.specs.Legal.{Power, Legal, Accepted};
 ghost use Rattle.burst_spec.specs.declared.Kind.TheVariants.{Incr, Wrap};
-ghost use Rattle.refusal.specs.Checks.{first};
 
-use burst_spec::{Address, Beat, BeatAnswer, Burst, Judgement, Kind, StepAnswer};
+use burst_spec::{Address, Beat, Burst, Kind};
 use refusal::Refusal;
 
 // The bounds of paper 01's table: "AxSIZE above 7", "AxLEN above 255", and the 4KB block.
@@ -26,12 +25,7 @@ const BLOCK: Address = 0x1000;
 pub fn kind_of(number: u32) -> Kind
     ensures { result ≡ kind_of number }
 {
-    match number {
-        0 => Kind::Fixed,
-        1 => Kind::Incr,
-        2 => Kind::Wrap,
-        _ => Kind::Reserved,
-    }
+    Kind::from(number)
 }
 
 // The burst of five plain numbers: start address, AxLEN, AxSIZE, AxBURST, bus.
@@ -42,81 +36,71 @@ pub fn burst_of(start: Address, len: u32, size: u32, kind: u32, bus: u32) -> Bur
         start,
         len,
         size,
-        kind: kind_of(kind),
+        kind: Kind::from(kind),
         bus,
     }
 }
 
 // Whether a burst is allowed, and if not, the first of refusals 7 to 12 that holds.
-pub fn judge(b: Burst) -> Judgement
+pub fn judge(b: Burst) -> Result<(), Refusal>
     ensures { Judged b result }
 {
     if bus_refused(b.bus) {
-        return Judgement::Refused(Refusal::Bus);
+        return Err(Refusal::Bus);
     }
     if too_wide(b) {
-        return Judgement::Refused(Refusal::Size);
+        return Err(Refusal::Size);
     }
-    let kind = b.kind;
-    if is_reserved(kind) {
-        return Judgement::Refused(Refusal::Kind);
+    if is_reserved(b.kind) {
+        return Err(Refusal::Kind);
     }
     if count_refused(b) {
-        return Judgement::Refused(Refusal::Count);
+        return Err(Refusal::Count);
     }
     if start_refused(b) {
-        return Judgement::Refused(Refusal::Align);
+        return Err(Refusal::Align);
     }
     if leaves_block(b) {
-        return Judgement::Refused(Refusal::Boundary);
+        return Err(Refusal::Boundary);
     }
-    Judgement::Accepted
+    Ok(())
 }
 
 // The same of five plain numbers.
-pub fn judge_numbers(start: Address, len: u32, size: u32, kind: u32, bus: u32) -> Judgement
+pub fn judge_numbers(
+    start: Address,
+    len: u32,
+    size: u32,
+    kind: u32,
+    bus: u32,
+) -> Result<(), Refusal>
     ensures { Judged (burst_of start len size kind bus) result }
 {
     judge(burst_of(start, len, size, kind, bus))
 }
 
 // Beat k of a burst, counted from 0: its address and byte lanes; or a refusal, 7 to 12 in order, then 13.
-pub fn beat(b: Burst, k: u32) -> BeatAnswer
+pub fn beat(b: Burst, k: u32) -> Result<Beat, Refusal>
     ensures { BeatGiven b k result }
 {
-    match judge_indexed(b, b.len < k) {
-        Judgement::Refused(r) => BeatAnswer::Refused(r),
-        Judgement::Accepted => BeatAnswer::At(beat_at(b, address_of(b, k))),
+    let accepted = AcceptedBurst::new(b)?;
+    if b.len < k {
+        return Err(Refusal::Index);
     }
+    Ok(accepted.beat(k))
 }
 
 // The step from beat k to beat k + 1; or a refusal, 7 to 12 in order, then 13 where there is no next beat.
-pub fn step(b: Burst, k: u32) -> StepAnswer
+pub fn step(b: Burst, k: u32) -> Result<i32, Refusal>
     ensures { StepGiven b k result }
 {
-    match judge_indexed(b, b.len <= k) {
-        Judgement::Refused(r) => StepAnswer::Refused(r),
-        Judgement::Accepted => {
-            let from = address_of(b, k);
-            let to = address_of(b, k + 1);
-            StepAnswer::By(distance(from, to))
-        }
+    let accepted = AcceptedBurst::new(b)?;
+    if b.len <= k {
+        return Err(Refusal::Index);
     }
-}
-
-// 7 to 12, and then 13 INDEX where the beat that is asked for is missing.
-fn judge_indexed(b: Burst, missing: bool) -> Judgement
-    ensures { result ≡ judgement_for (first (indexed_checks b missing)) }
-{
-    match judge(b) {
-        Judgement::Refused(r) => Judgement::Refused(r),
-        Judgement::Accepted => {
-            if missing {
-                return Judgement::Refused(Refusal::Index);
-            }
-            Judgement::Accepted
-        }
-    }
+    let from = accepted.address_of(k);
+    let to = accepted.address_of(k + 1);
+    Ok(distance(from, to))
 }
 
 // The tests of refusals 7 to 12: true where the burst is refused for it. A test counts only on those before it.
@@ -125,34 +109,21 @@ fn judge_indexed(b: Burst, missing: bool) -> Judgement
 fn bus_refused(bus: u32) -> bool
     ensures { result ≡ not (bus_allowed bus) }
 {
-    match bus {
-        1 | 2 | 4 | 8 | 16 | 32 | 64 | 128 => false,
-        _ => true,
-    }
+    !matches!(bus, 1 | 2 | 4 | 8 | 16 | 32 | 64 | 128)
 }
 
 // 8 SIZE: AxSIZE is above 7, which is tested before any shift by it, or a beat is wider than the bus.
 fn too_wide(b: Burst) -> bool
     ensures { result ≡ too_wide b }
 {
-    let size = b.size;
-    if AXSIZE_MOST < size {
-        return true;
-    }
-    let bus = b.bus;
-    wide(bus) < bytes_of(size)
+    AXSIZE_MOST < b.size || wide(b.bus) < bytes_of(b.size)
 }
 
 // 9 TYPE: the kind is reserved.
 fn is_reserved(kind: Kind) -> bool
     ensures { result ≡ is_reserved kind }
 {
-    match kind {
-        Kind::Fixed => false,
-        Kind::Incr => false,
-        Kind::Wrap => false,
-        Kind::Reserved => true,
-    }
+    kind == Kind::Reserved
 }
 
 // How many beats each kind allows: the numbers of paper 01, in the form that it names.
@@ -160,18 +131,9 @@ fn count_allowed(kind: Kind, beats: u32) -> bool
     ensures { result ≡ count_allowed kind beats }
 {
     match kind {
-        Kind::Fixed => match beats {
-            1..=16 => true,
-            _ => false,
-        },
-        Kind::Incr => match beats {
-            1..=256 => true,
-            _ => false,
-        },
-        Kind::Wrap => match beats {
-            2 | 4 | 8 | 16 => true,
-            _ => false,
-        },
+        Kind::Fixed => matches!(beats, 1..=16),
+        Kind::Incr => matches!(beats, 1..=256),
+        Kind::Wrap => matches!(beats, 2 | 4 | 8 | 16),
         Kind::Reserved => false,
     }
 }
@@ -180,12 +142,7 @@ fn count_allowed(kind: Kind, beats: u32) -> bool
 fn count_refused(b: Burst) -> bool
     ensures { result ≡ count_refused b }
 {
-    let len = b.len;
-    if AXLEN_MOST < len {
-        return true;
-    }
-    let kind = b.kind;
-    !count_allowed(kind, len + 1)
+    AXLEN_MOST < b.len || !count_allowed(b.kind, b.len + 1)
 }
 
 // 11 ALIGN: a WRAP start that is no multiple of the beat's bytes.
@@ -193,13 +150,7 @@ fn start_refused(b: Burst) -> bool
     requires { b.size ≤ axsize_most }
     ensures { result ≡ misaligned b.kind b.start (bytes b) }
 {
-    let kind = b.kind;
-    match kind {
-        Kind::Fixed => false,
-        Kind::Incr => false,
-        Kind::Wrap => low_part(b.start, bytes_of(b.size)) != 0,
-        Kind::Reserved => false,
-    }
+    b.kind == Kind::Wrap && low_part(b.start, bytes_of(b.size)) != 0
 }
 
 // 12 FENCE, the 4KB rule: only INCR can run out of the start's block, and does if the beats from the aligned address on do
@@ -208,63 +159,84 @@ fn leaves_block(b: Burst) -> bool
     requires { Legal b }
     ensures { result ≡ crosses b }
 {
-    let kind = b.kind;
-    match kind {
-        Kind::Fixed => false,
-        Kind::Incr => {
-            let bytes = bytes_of(b.size);
-            let aligned = round_down(b.start, bytes);
-            let offset = low_part(aligned, BLOCK);
-            let beats = wide(b.len + 1);
-            BLOCK < offset + beats * bytes
+    if b.kind != Kind::Incr {
+        return false;
+    }
+    let bytes = bytes_of(b.size);
+    let aligned = round_down(b.start, bytes);
+    let offset = low_part(aligned, BLOCK);
+    let beats = wide(b.len + 1);
+    BLOCK < offset + beats * bytes
+}
+
+// A burst that is allowed, so its beats can be asked for without another test.
+#[derive(Clone, Copy)]
+pub struct AcceptedBurst {
+    pub burst: Burst,
+    ghost accepted: { Accepted burst },
+}
+
+impl AcceptedBurst {
+    // The burst, where it is allowed; or the first of refusals 7 to 12 that holds.
+    pub fn new(burst: Burst) -> Result<AcceptedBurst, Refusal>
+        ensures accepted { IfOk result (λ a. a.burst ≡ burst) }
+        ensures refused { IfErr result (λ r. judgement burst ≡ Err r) }
+    {
+        judge(burst)?;
+        Ok(AcceptedBurst { burst })
+    }
+
+    // Beat k, counted from 0.
+    pub fn beat(self, k: u32) -> Beat
+        requires { k < beats self.burst }
+        ensures { result ≡ beat_of self.burst k }
+    {
+        beat_at(self.burst, self.address_of(k))
+    }
+
+    // The address of beat k.
+    pub fn address_of(self, k: u32) -> Address
+        requires { k < beats self.burst }
+        ensures { result ≡ beat_address self.burst k }
+    {
+        let b = self.burst;
+        match b.kind {
+            Kind::Fixed => b.start,
+            Kind::Incr => self.incr_address(k),
+            Kind::Wrap => self.wrap_address(k),
+            Kind::Reserved => b.start,
         }
-        Kind::Wrap => false,
-        Kind::Reserved => false,
     }
-}
 
-// The beats of an accepted burst.
-
-// INCR: beat 0 is at the start, beat k at the aligned address and k beats further.
-fn incr_address(b: Burst, k: u32) -> Address
-    requires { Accepted b × (b.kind ≡ Incr) × (k < beats b) }
-    ensures { result ≡ beat_address b k }
-{
-    let start = b.start;
-    if k == 0 {
-        return start;
+    // INCR: beat 0 is at the start, beat k at the aligned address and k beats further.
+    fn incr_address(self, k: u32) -> Address
+        requires { (self.burst.kind ≡ Incr) × (k < beats self.burst) }
+        ensures { result ≡ beat_address self.burst k }
+    {
+        let b = self.burst;
+        let start = b.start;
+        if k == 0 {
+            return start;
+        }
+        let bytes = bytes_of(b.size);
+        let aligned = round_down(start, bytes);
+        aligned + wide(k) * bytes
     }
-    let bytes = bytes_of(b.size);
-    let aligned = round_down(start, bytes);
-    aligned + wide(k) * bytes
-}
 
-// WRAP: the offset from the wrap boundary goes round in the burst's container. The container's end is never worked out: at
-// the top of memory it is no address.
-fn wrap_address(b: Burst, k: u32) -> Address
-    requires { Accepted b × (b.kind ≡ Wrap) × (k < beats b) }
-    ensures { result ≡ beat_address b k }
-{
-    let start = b.start;
-    let bytes = bytes_of(b.size);
-    let container = bytes * wide(b.len + 1);
-    let offset = low_part(start, container) + wide(k) * bytes;
-    let boundary = round_down(start, container);
-    let turned = low_part(offset, container);
-    boundary + turned
-}
-
-// The address of beat k.
-fn address_of(b: Burst, k: u32) -> Address
-    requires { Accepted b × (k < beats b) }
-    ensures { result ≡ beat_address b k }
-{
-    let kind = b.kind;
-    match kind {
-        Kind::Fixed => b.start,
-        Kind::Incr => incr_address(b, k),
-        Kind::Wrap => wrap_address(b, k),
-        Kind::Reserved => b.start,
+    // WRAP: the offset from the wrap boundary goes round in the burst's container. The container's end is never worked out: at
+    // the top of memory it is no address.
+    fn wrap_address(self, k: u32) -> Address
+        requires { (self.burst.kind ≡ Wrap) × (k < beats self.burst) }
+        ensures { result ≡ beat_address self.burst k }
+    {
+        let b = self.burst;
+        let start = b.start;
+        let bytes = bytes_of(b.size);
+        let container = bytes * wide(b.len + 1);
+        let offset = low_part(start, container) + wide(k) * bytes;
+        let boundary = round_down(start, container);
+        let turned = low_part(offset, container);
+        boundary + turned
     }
 }
 
@@ -290,9 +262,10 @@ fn distance(from: Address, to: Address) -> i32
     ensures { result ≡ sub_ℕ to from }
 {
     if from <= to {
-        return (to - from) as i32;
+        (to - from) as i32
+    } else {
+        -((from - to) as i32)
     }
-    0 - ((from - to) as i32)
 }
 
 // Powers of two, and rounding to them by masks. Nothing in this file divides (T-04); docs/BEAT-ADDRESSES.md has
@@ -330,7 +303,7 @@ fn round_down(address: Address, bytes: Address) -> Address
 fn wide(x: u32) -> Address
     ensures { result ≡ x }
 {
-    x as Address
+    Address::from(x)
 }
 
 // A byte lane out of an address's number.
@@ -338,5 +311,6 @@ fn lane(x: Address) -> u32
     requires { x < bus_most }
     ensures { result ≡ x }
 {
+    // stays: the `requires` lets the cast, and `u32::try_from` is an `unwrap` more on a path that tests/masks refuses.
     x as u32
 }

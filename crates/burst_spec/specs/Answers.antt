@@ -17,6 +17,13 @@ kind_of (suc zero) = Incr
 kind_of (suc (suc zero)) = Wrap
 kind_of (suc (suc (suc n))) = Reserved
 
+-- AxBURST of a kind: FIXED 0, INCR 1, WRAP 2. No accepted burst has another.
+abbrev pub kind_number : Kind → ℕ
+kind_number Fixed = 0
+kind_number Incr = 1
+kind_number Wrap = 2
+kind_number Reserved = 3
+
 -- the burst of five plain numbers
 abbrev pub burst_of : ℕ → ℕ → ℕ → ℕ → ℕ → Burst
 burst_of start len size kind bus =

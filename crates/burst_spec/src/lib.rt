@@ -1,6 +1,8 @@
 // The types that the burst calls take and answer with. The calls are in the crate burst above; what each must answer is
-// in specs/, and the laws about that are in proofs/. Nothing is computed here.
+// in specs/, and the laws about that are in proofs/. All that is computed here is a kind of its number, and back.
 #![tactic(auto)]
+
+ghost use Rattle.std.specs.Prelude.{◌≡◌};
 
 // How wide an address is. The code says it here and nowhere else, the proofs in `address_bits` of burst (T-10: 64 bits).
 pub type Address = u32;
@@ -13,6 +15,38 @@ pub enum Kind {
     Incr,
     Wrap,
     Reserved,
+}
+
+// Every number from 3 on is the reserved kind, which is refused after BUS and SIZE.
+impl From<u32> for Kind {
+    ghost use Rattle.burst_spec.specs.Answers.{kind_of};
+
+    ghost from_gives = { λ number kind. kind ≡ kind_of number };
+
+    fn from(number: u32) -> Kind {
+        match number {
+            0 => Kind::Fixed,
+            1 => Kind::Incr,
+            2 => Kind::Wrap,
+            _ => Kind::Reserved,
+        }
+    }
+}
+
+// AxBURST of a kind; no accepted burst has the reserved one.
+impl From<Kind> for u64 {
+    ghost use Rattle.burst_spec.specs.Answers.{kind_number};
+
+    ghost from_gives = { λ kind number. number ≡ kind_number kind };
+
+    fn from(kind: Kind) -> u64 {
+        match kind {
+            Kind::Fixed => 0,
+            Kind::Incr => 1,
+            Kind::Wrap => 2,
+            Kind::Reserved => 3,
+        }
+    }
 }
 
 // A burst as its control signals say it: AxADDR, AxLEN (beats less one), AxSIZE (a beat has 2 to this power bytes),

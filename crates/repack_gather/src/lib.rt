@@ -6,12 +6,11 @@
 ghost use Rattle.std.specs.Prelude.{◌≡◌, [], ◌∷◌, ◌+◌, ◌-◌, ◌*◌, ◌/◌, ◌%◌, ◌^◌, ◌≤◌, ◌<◌, length, get_or, drop, set};
 ghost use Rattle.stream_spec.specs.Layout.{head_octets};
 ghost use Rattle.repack_scratch.specs.Codes.{mark_bits};
-ghost use Rattle.repack_scratch.specs.Lanes.{Wide};
 ghost use Rattle.repack_sieve.specs.Kept.{Collected};
-ghost use Rattle.repack_sieve.specs.Sieve.{sieve_rows};
 ghost use Rattle.repack_gather.specs.Gather.{Clear, Marks};
 
 use repack_scratch::Lanes;
+use repack_sieve::Sieve;
 
 // One lane, at place n. Where TKEEP's lowest bit is 0 the place stays, and the next lane is stored over this one.
 fn keep_lane(octets: &mut [u8], n: usize, lane: u8, keep: u32) -> usize
@@ -23,30 +22,29 @@ fn keep_lane(octets: &mut [u8], n: usize, lane: u8, keep: u32) -> usize
 }
 
 // The octets of the lanes that TKEEP keeps, from place `at` on; answers the place after them. No branch on the mask.
+// stays: one loop for this, sift_marked and repack_tags::sift_tagged is no plainer: each step writes arrays of its own, and a
+// closure over them needs in its clauses what stands here once.
 fn sift_lanes(octets: &mut [u8], at: usize, lanes: &[u8], keep: u32) -> usize
     requires { at + length lanes.now ≤ length octets.old }
     ensures { Collected (length lanes.now) keep lanes.now octets.old at octets.new result }
 {
     let mut n = at;
     let mut k = keep;
-    let mut j = 0;
-    while j < lanes.len() {
-        n = keep_lane(octets, n, lanes[j], k);
-        k = k / 2;
-        j += 1;
+    for lane in lanes {
+        n = keep_lane(octets, n, *lane, k);
+        k /= 2;
     }
     n
 }
 
-// The kept lanes of a record, of which each is data: in bulk where all are kept, else lane by lane. At most 16 lanes;
-// `full` is the mask of them all.
-pub fn gather_lanes(octets: &mut [u8], at: usize, lanes: &[u8], keep: u32, full: u32) -> usize
-    requires { (1 ≤ length lanes.now) × (length lanes.now ≤ 16) × (at + length lanes.now ≤ length octets.old) × (full ≡ 2 ^ length lanes.now - 1) }
-    ensures { Collected (length lanes.now) keep lanes.now octets.old at octets.new result }
+// The kept lanes of a held, of which each is data: in bulk where all are kept, else lane by lane.
+pub fn gather_lanes(octets: &mut [u8], at: usize, shape: Lanes, lanes: &[u8], keep: u32) -> usize
+    requires { (length lanes.now ≡ shape.width) × (at + shape.width ≤ length octets.old) }
+    ensures { Collected shape.width keep lanes.now octets.old at octets.new result }
 {
-    if keep == full {
-        words::place(octets, at, lanes, lanes.len(), lanes.len());
-        return at + lanes.len();
+    if keep == shape.full {
+        words::place(octets, at, lanes, shape.width, shape.width);
+        return at + shape.width;
     }
     sift_lanes(octets, at, lanes, keep)
 }
@@ -73,10 +71,10 @@ pub fn gather(
     from: usize,
     lanes: Lanes,
     keep: u32,
-    sieve: &[u64],
+    sieve: &Sieve,
 ) -> usize
-    requires wide { Wide lanes × (keep ≤ lanes.full) × (head_octets ≤ from) × (from + lanes.width ≤ length transfers.now) }
-    requires at_in_bounds { (at + 16 ≤ length octets.old) × (sieve.now ≡ sieve_rows) }
+    requires lanes { (keep ≤ lanes.full) × (head_octets ≤ from) × (from + lanes.width ≤ length transfers.now) }
+    requires room { at + 16 ≤ length octets.old }
     ensures { Collected lanes.width keep (drop from transfers.now) octets.old at octets.new result }
 {
     if lanes.width == 1 {
@@ -85,7 +83,7 @@ pub fn gather(
     if keep == lanes.full {
         return gather_all(octets, at, transfers, from, lanes.width);
     }
-    repack_sieve::sift(octets, at, transfers, from, lanes.width, keep, sieve)
+    sieve.sift(octets, at, transfers, from, lanes.width, keep)
 }
 
 // An octet of marks with mark m at place i, where none stands.
@@ -131,12 +129,10 @@ pub fn sift_marked(
     let mut n = at;
     let mut k = keep;
     let mut t = strb;
-    let mut j = 0;
-    while j < lanes.len() {
-        n = keep_marked(octets, marks, n, lanes[j], k, t);
-        k = k / 2;
-        t = t / 2;
-        j += 1;
+    for lane in lanes {
+        n = keep_marked(octets, marks, n, *lane, k, t);
+        k /= 2;
+        t /= 2;
     }
     n
 }

@@ -1,13 +1,18 @@
 -- Marks that are read as bits: one item's, and whether none stands near, so that the items there are data. Assumes nothing.
 use mathlib.Core.Path.{◌≡◌, refl, sym, ap, ◌∙◌}
+use mathlib.Core.Bool.{Bool, true, false, not}
 use mathlib.Core.List.{List, [], ◌∷◌, map}
 use Prim.Native.Nat.{ℕ, zero, suc, ◌+◌, ◌-◌, ◌*◌, ◌/◌, ◌%◌, ◌≤◌, ◌<◌}
 use native.Mathlib.Nat.{add-zero, div-eq_of_lt}
 use native.Mathlib.Omega.{arith}
+use borrow.Author.Tests.{eqb-true, eqb-false}
+use mir.Val.{bool_byte}
+use lib.Dec.{eqb}
 use lib.Pow.{pow_pos}
 use lib.ListN.{length, get_or, take, drop, length-drop}
 use lib.Seq.{get_or-drop}
 use Rattle.words.specs.Words.{word_at}
+use Rattle.stream_spec.specs.Layout.{bit_of}
 use Rattle.repack_scratch.specs.Codes.{data_code, held_codes, mark_bits}
 use Rattle.repack_scratch.proofs.Held.{length-held, drop-held}
 use Rattle.repack_scratch.proofs.Marks.{length-marks, mark_at}
@@ -23,6 +28,19 @@ length_from ds ms from e =
     length-drop from (held_codes ds (mark_bits ms)) ∙ ap (λ (n : ℕ). n - from) (length-held ds (mark_bits ms) (marks-same ds ms e))
 
 -- ---- marks
+
+-- a bit that is tested is the bit
+pub bit-back : (x : ℕ) → bit_of (not (eqb (x % 2) 0)) ≡ x % 2
+bit-back x = go (eqb (x % 2) 0) refl
+  where
+    go : (b : Bool) → eqb (x % 2) 0 ≡ b → bit_of (not b) ≡ x % 2
+    go true e = sym (eqb-true (x % 2) 0 e)
+    go false e = let odd : x % 2 ≡ 0 → ⊥ = eqb-false (x % 2) 0 e in omega arith
+
+-- the strobe of an item with a mark
+pub strobe_back : (b : Bool) (d m : ℕ) → d ≡ bool_byte (not b) → bit_of b ≡ m → d ≡ 1 - m
+strobe_back true d m e f = omega arith
+strobe_back false d m e f = omega arith
 
 -- a word of zero has octets of zero
 octets-zero : (k : ℕ) (s : List ℕ) (i j : ℕ) → word_at k s i ≡ 0 → j < k → get_or s (i + j) 0 ≡ 0

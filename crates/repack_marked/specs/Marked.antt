@@ -1,9 +1,7 @@
 -- What is written of one record without user bits whose items may be marked.
-use Rattle.std.specs.Prelude.{◌≡◌, List, ◌++◌, ℕ, ◌+◌, ◌*◌, ◌≤◌, length, take, drop}
+use Rattle.std.specs.Prelude.{List, ◌++◌, ℕ, ◌+◌, take, drop}
 use Rattle.stream_spec.specs.Layout.{head_octets}
 use Rattle.repack_scratch.specs.Codes.{codes_in}
-use Rattle.repack_plain.specs.declared.Head.{Head}
-use Rattle.repack_plain.specs.Write.{HeadFits}
 
 -- the codes of n items, from item `from` on
 abbrev pub items_from : List ℕ → List ℕ → ℕ → ℕ → List ℕ
@@ -12,12 +10,3 @@ items_from octets marks from n = take n (drop from (codes_in octets marks))
 -- the octets of n lanes behind the head of the record at the front of memory
 abbrev pub lanes_put : ℕ → List ℕ → List ℕ → List ℕ
 lanes_put n lanes out = take head_octets out ++ (lanes ++ drop (head_octets + n) out)
-
--- A record of n items, from item `from` on, can be made: they are held, and 32 marks may be read.
-pub record RecordFits (v : ℕ) (head : Head) (octets marks : List ℕ) (from n : ℕ) : Type 0 where
-  pub few : n ≤ v
-  pub low : 1 ≤ v
-  pub high : v ≤ 16
-  pub held : from + 32 ≤ length octets
-  pub marked : length octets ≡ 8 * length marks
-  pub headed : HeadFits head

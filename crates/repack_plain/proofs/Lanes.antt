@@ -1,7 +1,8 @@
 -- One record's octets: what the items' codes say of its lanes and masks. Assumes nothing.
 use Rattle.std.specs.Prelude.{Some}
 use mathlib.Core.Path.{◌≡◌, refl, sym, ap, ◌∙◌}
-use mathlib.Core.Bool.{Bool}
+use mir.Val.{bool_byte}
+use mathlib.Core.Bool.{Bool, true, false}
 use mathlib.Core.List.{List, [], ◌∷◌, ◌++◌, map}
 use Prim.Native.Nat.{ℕ, zero, suc, ◌+◌, ◌-◌, ◌*◌, ◌/◌, ◌%◌, ◌^◌, ◌≤◌, ◌<◌}
 use native.Mathlib.Nat.{pow-suc, mul-one}
@@ -87,11 +88,15 @@ slice_small items j n h k =
     let few : length (slice j n items) ≤ 16 = rw (length-slice j n items h) (omega arith) in
     omega (arith, strb-fits (slice j n items), pow_mono few)
 
--- an octet or nothing is an octet
-pub octet-small : (d strobe : ℕ) → d < 256 → strobe ≤ 1 → d * strobe < 256
-octet-small d zero h s = omega arith
-octet-small d (suc zero) h s = omega arith
-octet-small d (suc (suc n)) h s = absurd (omega arith)
+-- ---- a bit as a number
+
+pub bool-bit : (b : Bool) → bool_byte b ≡ bit_of b
+bool-bit true = refl
+bool-bit false = refl
+
+pub bit-small : (b : Bool) → bit_of b ≤ 1
+bit-small true = omega arith
+bit-small false = omega arith
 
 -- ---- items that are all data
 

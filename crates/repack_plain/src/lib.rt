@@ -1,108 +1,151 @@
-// Writes a stretch of a take without user bits in which every item is data: all records but the last are full and go in a tight
-// loop, that of one lane in a loop of its own; then comes the last one. Stretches with position items are repack_marked's,
-// and which stretches there are repack_emit's.
+// How the items of a take are held between reading and writing, how records of them are written, stretch by stretch, and the items
+// of a take in which each is data and has no user bits: all records of a stretch but the last are full and go in a tight loop, that
+// of one lane in a loop of its own; then comes the last one. Takes with position items are repack_marked's, those with user bits
+// repack_tags's, and which stretches there are repack_emit's.
 #![tactic(auto)]
 
-ghost use Rattle.std.specs.Prelude.{◌≡◌, ◌++◌, map, ◌≤◌, ◌<◌, length, drop};
-ghost use Rattle.stream_spec.specs.Layout.{size, of_width};
+mod stretch;
+
+ghost use Rattle.std.specs.Prelude.{◌≡◌, List, ◌++◌, map, ℕ, ◌+◌, ◌≤◌, length, drop};
+ghost use Rattle.std.proofs.Common.{rules};
+ghost use Rattle.std.proofs.lemmas.Grind.{common_steps};
+ghost use Rattle.stream_spec.specs.Layout.{width_most, size, size_most, shaped, of_width};
 ghost use Rattle.repack_scratch.specs.Codes.{data_code};
-ghost use Rattle.repack_plain.specs.Write.{record_at, HeadFits, StretchFits, StretchPut, Fitting, Advanced};
+ghost use Rattle.repack_plain.specs.Write.{record_at, RecordFits, StretchFits, StretchPut, Advanced};
 
 use stream_record::layout::HEAD_OCTETS;
+pub use stretch::{Cursor, Head};
 
-// How far a stretch is written: up to octet `to` of the output; `left` items, from item `from` on, are not written yet.
-#[derive(Clone, Copy)]
-pub struct Cursor {
-    pub to: usize,
-    pub from: usize,
-    pub left: usize,
+// The items of a take, held between reading and writing.
+pub trait Items {
+    // How many user bits a byte has.
+    ghost user: { Self → ℕ };
+
+    // The items' codes.
+    ghost codes: { Self → List ℕ };
+
+    // The first n items can be written.
+    ghost holds: { Self → ℕ → Type 0 };
+
+    // The octets of a record of v lanes.
+    fn record_size(&self, v: usize) -> usize
+        requires { v ≤ width_most }
+        ensures { (result ≡ size (shaped v (user self.now))) × (result ≤ size_most) };
+
+    // A record of v lanes with the n items from item `from` on, at the front of `out`.
+    fn put_record(&self, out: &mut [u8], from: usize, n: usize, v: usize, head: Head)
+        requires { holds self.now (from + n) × RecordFits (user self.now) v n out.old }
+        ensures { out.new ≡ record_at (user self.now) v head (codes self.now) from n ++ drop (size (shaped v (user self.now))) out.old };
+
+    // The records of what is left of a stretch at a cursor. Answers the place after them.
+    fn put_stretch(&self, out: &mut [u8], c: Cursor, v: usize, head: Head) -> usize
+        requires { holds self.now (c.from + c.left) × StretchFits (user self.now) v head (codes self.now) out.old c }
+        ensures { StretchPut (user self.now) v head (codes self.now) out.old c out.new result }
+    {
+        let size = self.record_size(v);
+        let inside = Head {
+            pair: head.pair,
+            last: false,
+        };
+        let mut d = c;
+        while v < d.left {
+            self.put_record(&mut out[d.to..], d.from, v, v, inside);
+            d.to += size;
+            d.from += v;
+            d.left -= v;
+        }
+        self.put_record(&mut out[d.to..], d.from, d.left, v, head);
+        d.to + size
+    }
+
+    // They are held, and so are fewer of them.
+    ghost held: { (x : Self) (n : ℕ) → holds x n → n ≤ length (codes x) };
+
+    ghost fewer: { (x : Self) (n k : ℕ) → k ≤ n → holds x n → holds x k };
 }
 
-// The pair of a record, and its TLAST; of a stretch, that of its last record.
+// Items without user bits, each of which is data. Up to 32 octets behind them may be read.
 #[derive(Clone, Copy)]
-pub struct Head {
-    pub pair: u32,
-    pub last: u32,
+pub struct Plain<'a> {
+    pub octets: &'a [u8],
 }
 
 // A record with n items from lane 0 up, each of which is data, at the front of `out`: the header as one word, then the lanes
 // in groups. Up to sixteen octets are read.
-fn put_plain(out: &mut [u8], octets: &[u8], n: usize, v: usize, pair: u32, last: u32)
-    requires { (n ≤ v) × (1 ≤ v) × (v ≤ 16) × (v ≤ length octets.now) × (size (of_width v) ≤ length out.old) × (pair < 0x10000) × (last ≤ 1) }
-    ensures { out.new ≡ record_at 0 v pair last (map data_code octets.now) 0 n ++ drop (size (of_width v)) out.old }
+pub fn put_plain(out: &mut [u8], octets: &[u8], n: usize, v: usize, head: Head)
+    requires { (v ≤ length octets.now) × RecordFits 0 v n out.old }
+    ensures { out.new ≡ record_at 0 v head (map data_code octets.now) 0 n ++ drop (size (of_width v)) out.old }
 {
-    stream_write::write_data_header(out, last, pair, n);
+    stream_write::write_data_header(out, u32::from(head.last), head.pair, n);
     words::place(out, HEAD_OCTETS, octets, n, v);
 }
 
 // The full records of a stretch where records have one lane: each is one word.
-fn put_ones(out: &mut [u8], octets: &[u8], c: Cursor, pair: u32) -> Cursor
-    requires { (pair < 0x10000) × Fitting 1 pair octets.now out.old c }
-    ensures { (result.left ≤ 1) × Advanced 1 pair octets.now out.old c out.new result }
+fn put_ones(out: &mut [u8], octets: &[u8], mut c: Cursor, head: Head) -> Cursor
+    requires { (c.from + c.left + 32 ≤ length octets.now) × StretchFits 0 1 head (map data_code octets.now) out.old c }
+    ensures { (result.left ≤ 1) × Advanced 0 1 head (map data_code octets.now) out.old c out.new result }
 {
-    let mut to = c.to;
-    let mut from = c.from;
-    let mut left = c.left;
-    while 1 < left {
-        stream_write::write_one(&mut out[to..], pair, octets[from]);
-        to += 8;
-        from += 1;
-        left -= 1;
+    while 1 < c.left {
+        stream_write::write_one(&mut out[c.to..], head.pair, octets[c.from]);
+        c.to += 8;
+        c.from += 1;
+        c.left -= 1;
     }
-    Cursor {
-        to: to,
-        from: from,
-        left: left,
-    }
+    c
 }
 
 // The full records of a stretch, all but its last.
-fn put_fulls(out: &mut [u8], octets: &[u8], c: Cursor, v: usize, pair: u32) -> Cursor
-    requires { (1 ≤ v) × (v ≤ 16) × (pair < 0x10000) × Fitting v pair octets.now out.old c }
-    ensures { (result.left ≤ v) × Advanced v pair octets.now out.old c out.new result }
+fn put_fulls(out: &mut [u8], octets: &[u8], mut c: Cursor, v: usize, head: Head) -> Cursor
+    requires { (c.from + c.left + 32 ≤ length octets.now) × StretchFits 0 v head (map data_code octets.now) out.old c }
+    ensures { (result.left ≤ v) × Advanced 0 v head (map data_code octets.now) out.old c out.new result }
 {
-    let mut to = c.to;
-    let mut from = c.from;
-    let mut left = c.left;
-    while v < left {
-        put_plain(&mut out[to..], &octets[from..], v, v, pair, 0);
-        to += repack_scratch::record_size(v);
-        from += v;
-        left -= v;
+    let inside = Head {
+        pair: head.pair,
+        last: false,
+    };
+    while v < c.left {
+        put_plain(&mut out[c.to..], &octets[c.from..], v, v, inside);
+        c.to += repack_scratch::record_size(v);
+        c.from += v;
+        c.left -= v;
     }
-    Cursor {
-        to: to,
-        from: from,
-        left: left,
-    }
+    c
 }
 
 // The same, for any width.
-fn put_all_but_last(out: &mut [u8], octets: &[u8], c: Cursor, v: usize, pair: u32) -> Cursor
-    requires { (1 ≤ v) × (v ≤ 16) × (pair < 0x10000) × Fitting v pair octets.now out.old c }
-    ensures { (result.left ≤ v) × Advanced v pair octets.now out.old c out.new result }
+fn put_all_but_last(out: &mut [u8], octets: &[u8], c: Cursor, v: usize, head: Head) -> Cursor
+    requires { (c.from + c.left + 32 ≤ length octets.now) × StretchFits 0 v head (map data_code octets.now) out.old c }
+    ensures { (result.left ≤ v) × Advanced 0 v head (map data_code octets.now) out.old c out.new result }
 {
     if v == 1 {
-        return put_ones(out, octets, c, pair);
+        return put_ones(out, octets, c, head);
     }
-    put_fulls(out, octets, c, v, pair)
+    put_fulls(out, octets, c, v, head)
 }
 
-// The records of what is left of a stretch at a cursor. Answers the place after them.
-pub fn put_stretch(out: &mut [u8], octets: &[u8], c: Cursor, v: usize, head: Head) -> usize
-    requires { HeadFits head × StretchFits 0 v head octets.now (map data_code octets.now) out.old c }
-    ensures { StretchPut 0 v head (map data_code octets.now) out.old c out.new result }
-{
-    let d = put_all_but_last(out, octets, c, v, head.pair);
-    let to = d.to;
-    let from = d.from;
-    put_plain(
-        &mut out[to..],
-        &octets[from..],
-        d.left,
-        v,
-        head.pair,
-        head.last,
-    );
-    to + repack_scratch::record_size(v)
+impl<'a> Items for Plain<'a> {
+    ghost user = { λ _. 0 };
+
+    ghost codes = { λ items. map data_code items.octets.now };
+
+    ghost holds = { λ items n. n + 32 ≤ length items.octets.now };
+
+    fn record_size(&self, v: usize) -> usize {
+        repack_scratch::record_size(v)
+    }
+
+    fn put_record(&self, out: &mut [u8], from: usize, n: usize, v: usize, head: Head) {
+        put_plain(out, &self.octets[from..], n, v, head);
+    }
+
+    // The full records go in loops of their own.
+    fn put_stretch(&self, out: &mut [u8], c: Cursor, v: usize, head: Head) -> usize {
+        let d = put_all_but_last(out, self.octets, c, v, head);
+        put_plain(&mut out[d.to..], &self.octets[d.from..], d.left, v, head);
+        d.to + repack_scratch::record_size(v)
+    }
+
+    ghost held = { Prim.search (rules, common_steps) };
+
+    ghost fewer = { Prim.search rules };
 }

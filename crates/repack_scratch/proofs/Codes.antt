@@ -12,6 +12,7 @@ use Rattle.stream_spec.specs.Items.{kept}
 use Rattle.stream_spec.specs.Packed.{Stretch}
 use Rattle.stream_spec.specs.Layout.{odd, lane_type, lane_of, lanes_of, types_of, Kept, octet, position}
 use Rattle.stream_spec.specs.Legal.{Octets}
+use Rattle.repack_scratch.specs.declared.Entry.{Entry}
 use Rattle.repack_scratch.specs.Codes.{item_code, tagged_code, kept_of, sifted, tagged, pair_from, entry_of, entry_count, entry_last, entry_pair, stretch_of, stretches_of, total}
 
 -- ---- items
@@ -90,12 +91,12 @@ entry_stretch n last pair codes h l =
 
 -- ---- tables
 
-pub total_more : (es : List ℕ) (e : ℕ) → total (es ++ e ∷ []) ≡ total es + entry_count e
+pub total_more : (es : List Entry) (e : Entry) → total (es ++ e ∷ []) ≡ total es + entry_count e
 total_more [] e = omega arith
 total_more (f ∷ es) e = omega (arith, total_more es e)
 
 -- codes behind those of a table do not matter
-pub stretches_more : (es xs ys : List ℕ) → total es ≤ length xs → stretches_of es (xs ++ ys) ≡ stretches_of es xs
+pub stretches_more : (es : List Entry) (xs ys : List ℕ) → total es ≤ length xs → stretches_of es (xs ++ ys) ≡ stretches_of es xs
 stretches_more [] xs ys h = refl
 stretches_more (e ∷ es) xs ys h =
     let fits : entry_count e ≤ length xs = omega arith in
@@ -104,7 +105,7 @@ stretches_more (e ∷ es) xs ys h =
     (stretches_more es (drop (entry_count e) xs) ys (rw length-drop (omega arith))))
 
 -- an entry more, with all the codes that are left, is a stretch more
-pub stretches_one : (es : List ℕ) (e : ℕ) (xs : List ℕ) → total es + entry_count e ≡ length xs
+pub stretches_one : (es : List Entry) (e : Entry) (xs : List ℕ) → total es + entry_count e ≡ length xs
     → stretches_of (es ++ e ∷ []) xs ≡ stretches_of es xs ++ stretch_of e (drop (total es) xs) ∷ []
 stretches_one [] e xs h = rw (take_all (entry_count e) xs (omega arith)) refl
 stretches_one (f ∷ es) e xs h =

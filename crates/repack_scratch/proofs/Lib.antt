@@ -2,4 +2,3 @@ pub mod Codes
 pub mod Held
 pub mod Fitted
 pub mod Marks
-pub mod Stands

@@ -4,6 +4,7 @@ use Rattle.std.specs.Prelude.{◌≡◌, cond, List, [], ◌∷◌, ◌++◌, ma
 use Rattle.stream_spec.specs.Items.{Pair}
 use Rattle.stream_spec.specs.Packed.{Stretch}
 use Rattle.stream_spec.specs.Layout.{odd, Kept, octet, position}
+use Rattle.repack_scratch.specs.declared.Entry.{Entry}
 
 -- ---- how much the arrays hold
 
@@ -90,28 +91,28 @@ pair_from x = record { tid = x % 0x100; tdest = x / 0x100 }
 abbrev pub pair_limit : ℕ
 pair_limit = 0x1000
 
-abbrev pub entry_of : ℕ → ℕ → ℕ → ℕ
-entry_of count last pair = count + 0x10000 * (last + 2 * pair)
+abbrev pub entry_of : ℕ → ℕ → ℕ → Entry
+entry_of count last pair = record { 0 = count + 0x10000 * (last + 2 * pair) }
 
-abbrev pub entry_count : ℕ → ℕ
-entry_count e = e % 0x10000
+abbrev pub entry_count : Entry → ℕ
+entry_count e = e.0 % 0x10000
 
-abbrev pub entry_last : ℕ → ℕ
-entry_last e = e / 0x10000 % 2
+abbrev pub entry_last : Entry → ℕ
+entry_last e = e.0 / 0x10000 % 2
 
-abbrev pub entry_pair : ℕ → ℕ
-entry_pair e = e / 0x20000
+abbrev pub entry_pair : Entry → ℕ
+entry_pair e = e.0 / 0x20000
 
 -- the stretch of an entry whose items have these codes
-abbrev pub stretch_of : ℕ → List ℕ → Stretch Kept
+abbrev pub stretch_of : Entry → List ℕ → Stretch Kept
 stretch_of e codes = record { pair = pair_from (entry_pair e); bytes = map kept_of codes; ended = odd (entry_last e) }
 
 -- the stretches of a table, each with as many of the codes as its entry says
-abbrev pub stretches_of : List ℕ → List ℕ → List (Stretch Kept)
+abbrev pub stretches_of : List Entry → List ℕ → List (Stretch Kept)
 stretches_of [] codes = []
 stretches_of (e ∷ es) codes = stretch_of e (take (entry_count e) codes) ∷ stretches_of es (drop (entry_count e) codes)
 
 -- how many codes a table has in all
-abbrev pub total : List ℕ → ℕ
+abbrev pub total : List Entry → ℕ
 total [] = 0
 total (e ∷ es) = entry_count e + total es

@@ -5,7 +5,6 @@
 
 ghost use Rattle.std.specs.Prelude.{◌≡◌, ◌≤◌, ◌<◌};
 ghost use Rattle.stream_spec.specs.Layout.{size, of_width};
-ghost use Rattle.repack_scratch.specs.Codes.{entry_of, entry_count, entry_last, entry_pair};
 ghost use Rattle.repack_scratch.specs.Lanes.{Wide};
 
 use stream_record::HEAD_OCTETS;
@@ -18,23 +17,6 @@ pub const MARK_ROOM: usize = 0x164C;
 
 pub const STRETCH_ROOM: usize = 0x2001;
 
-// How far a take has been read: so many items are kept, those from `start` on belong to the open stretch, which has this
-// pair; so many stretches are closed.
-#[derive(Clone, Copy)]
-pub struct Open {
-    pub items: usize,
-    pub start: usize,
-    pub closed: usize,
-    pub pair: u32,
-}
-
-// How many lanes each record has, and the mask of them all.
-#[derive(Clone, Copy)]
-pub struct Lanes {
-    pub width: usize,
-    pub full: u32,
-}
-
 // The octets of a record of w lanes, without user bits. The width has passed its test.
 pub fn record_size(w: usize) -> usize
     requires { w ≤ 16 }
@@ -43,42 +25,68 @@ pub fn record_size(w: usize) -> usize
     HEAD_OCTETS + w
 }
 
-// So many lanes with the mask of them all. The width has passed its test.
-pub fn lanes_of(w: usize) -> Lanes
-    requires { (1 ≤ w) × (w ≤ 16) }
-    ensures { (result.width ≡ w) × Wide result }
-{
-    Lanes {
-        width: w,
-        full: (1u32 << w) - 1,
+// How many lanes each record has, and the mask of them all.
+#[derive(Clone, Copy, Debug, PartialEq, Eq)]
+pub struct Lanes {
+    pub width: usize,
+    pub full: u32,
+    ghost wide: { Wide width full },
+}
+
+impl Lanes {
+    // So many lanes with the mask of them all. The width has passed its test.
+    pub fn new(width: usize) -> Lanes
+        requires { (1 ≤ width) × (width ≤ 16) }
+        ensures { result.width ≡ width }
+    {
+        Lanes {
+            width,
+            full: (1u32 << width) - 1,
+        }
+    }
+
+    // The octets of their records.
+    pub fn record_size(self) -> usize
+        ensures { result ≡ size (of_width self.width) }
+    {
+        record_size(self.width)
     }
 }
 
-// The entry of a stretch of so many items and this pair; an end is behind them where `last` is 1.
-pub fn entry_of(count: u32, last: u32, pair: u32) -> u32
-    requires { (count < 0x10000) × (last ≤ 1) × (pair < 0x8000) }
-    ensures { result ≡ entry_of count last pair }
-{
-    count + 0x10000 * (last + 2 * pair)
-}
+// A stretch as an entry of the table: how many items it has, whether an end is behind them, and its pair, in one number, since
+// the table is cleared at each call.
+#[derive(Clone, Copy, Debug, PartialEq, Eq)]
+pub struct Entry(pub u32);
 
-// How many items the stretch of an entry has.
-pub fn entry_count(e: u32) -> u32
-    ensures { result ≡ entry_count e }
-{
-    e % 0x10000
-}
+impl Entry {
+    ghost use Rattle.repack_scratch.specs.Codes.{entry_of, entry_count, entry_last, entry_pair};
 
-// 1 where an end is behind them, else 0.
-pub fn entry_last(e: u32) -> u32
-    ensures { result ≡ entry_last e }
-{
-    e / 0x10000 % 2
-}
+    // The entry of a stretch of so many items and this pair; an end is behind them where `last` is 1.
+    pub fn new(count: u32, last: u32, pair: u32) -> Entry
+        requires { (count < 0x10000) × (last ≤ 1) × (pair < 0x8000) }
+        ensures { result ≡ entry_of count last pair }
+    {
+        Entry(count + 0x10000 * (last + 2 * pair))
+    }
 
-// Their pair.
-pub fn entry_pair(e: u32) -> u32
-    ensures { result ≡ entry_pair e }
-{
-    e / 0x20000
+    // How many items the stretch has.
+    pub fn count(self) -> u32
+        ensures { result ≡ entry_count self }
+    {
+        self.0 % 0x10000
+    }
+
+    // 1 where an end is behind them, else 0.
+    pub fn last(self) -> u32
+        ensures { result ≡ entry_last self }
+    {
+        self.0 / 0x10000 % 2
+    }
+
+    // Their pair.
+    pub fn pair(self) -> u32
+        ensures { result ≡ entry_pair self }
+    {
+        self.0 / 0x20000
+    }
 }

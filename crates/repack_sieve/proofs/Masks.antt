@@ -13,7 +13,8 @@ use lib.Bits.{bit_and, and_block, and_mask, and_zero_r, and_le_l, and_mod}
 use lib.ListN.{get_or, take}
 use Rattle.words.specs.Words.{octets_of_word}
 use Rattle.repack_sieve.specs.Kept.{kept_octets}
-use Rattle.repack_sieve.specs.Sieve.{moved, closing, sieve_rows}
+use Rattle.repack_sieve.specs.declared.Row.{Row}
+use Rattle.repack_sieve.specs.Sieve.{moved, closing, row_of, sieve_rows}
 
 -- the low bits and the others apart
 and_low : (e x y m n : ℕ) → x < 2 ^ e → m < 2 ^ e → bit_and (x + 2 ^ e * y) (m + 2 ^ e * n) ≡ bit_and x m + 2 ^ e * bit_and y n
@@ -110,7 +111,7 @@ word_four x h = omega arith
 -- ---- the rows
 
 -- a row of the sieve is right for the four TKEEP bits of k
-pub record Row (k kept odd far n : ℕ) : Type 0 where
+pub record Closes (k kept odd far n : ℕ) : Type 0 where
   pub kept_small : kept < 0x1_0000_0000
   pub odd_small : odd < 0x1_0000_0000
   pub far_small : far < 0x1_0000_0000
@@ -135,7 +136,7 @@ module _ (i j k l p q r s t : ℕ) where
       is : twice (λ w x y z. take (i + j + k + l) (w ∷ x ∷ y ∷ z ∷ []) ≡ kept_octets 4 (i + 2 * j + 4 * k + 8 * l) (a ∷ b ∷ c ∷ d ∷ []))
 
   row : i + j + k + l ≤ 4 → ((a b c d : ℕ) → Octets a b c d → Apart a b c d)
-      → Row (i + 2 * j + 4 * k + 8 * l) (four (full i) (full j) (full k) (full l)) (four 0 (full p) (full q) (full r)) (four 0 0 (full s) (full t)) (i + j + k + l)
+      → Closes (i + 2 * j + 4 * k + 8 * l) (four (full i) (full j) (full k) (full l)) (four 0 (full p) (full q) (full r)) (four 0 0 (full s) (full t)) (i + j + k + l)
   row n f =
       record {
         kept_small = omega (arith, full-small i, full-small j, full-small k, full-small l);
@@ -156,8 +157,12 @@ module _ (i j k l p q r s t : ℕ) where
             (ap (take (i + j + k + l)) (octets_four _ _ _ _ v.end) ∙ v.is);
       }
 
+-- a row closes up by its masks
+abbrev pub Right : ℕ → Row → Type 0
+Right k r = Closes k r.kept r.odd r.far r.count
+
 abbrev RowAt : ℕ → Type 0
-RowAt k = Row k (get_or sieve_rows (4 * k) 0) (get_or sieve_rows (4 * k + 1) 0) (get_or sieve_rows (4 * k + 2) 0) (get_or sieve_rows (4 * k + 3) 0)
+RowAt k = Right k (get_or sieve_rows k (row_of 0 0 0 0))
 
 ruleset zeros = (zero-add, add-zero)
 
@@ -246,7 +251,7 @@ closing_less x kept odd far =
     omega (arith, once_less x kept odd, moved_less (moved (bit_and x kept) odd 256) far 0x10000)
 
 -- the masks of two rows
-pub closing_halves : (x y k kept odd far n k' kept' odd' far' n' : ℕ) → x < 0x1_0000_0000 → Row k kept odd far n → Row k' kept' odd' far' n'
+pub closing_halves : (x y k kept odd far n k' kept' odd' far' n' : ℕ) → x < 0x1_0000_0000 → Closes k kept odd far n → Closes k' kept' odd' far' n'
     → closing (x + 0x1_0000_0000 * y) (kept + 0x1_0000_0000 * kept') (odd + 0x1_0000_0000 * odd') (far + 0x1_0000_0000 * far')
     ≡ closing x kept odd far + 0x1_0000_0000 * closing y kept' odd' far'
 closing_halves x y k kept odd far n k' kept' odd' far' n' h r s =
@@ -258,7 +263,7 @@ closing_halves x y k kept odd far n k' kept' odd' far' n' h r s =
     (omega (arith, once_less x kept odd)) r.far_small s.far_high)
 
 -- the octets of a word, by a row
-pub four_closed : (x k kept odd far n : ℕ) → x < 0x1_0000_0000 → Row k kept odd far n
+pub four_closed : (x k kept odd far n : ℕ) → x < 0x1_0000_0000 → Closes k kept odd far n
     → take n (octets_of_word 4 (closing x kept odd far)) ≡ kept_octets 4 k (octets_of_word 4 x)
 four_closed x k kept odd far n h r =
     ap (λ (w : ℕ). take n (octets_of_word 4 (closing w kept odd far))) (word_four x h)

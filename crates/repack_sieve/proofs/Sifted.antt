@@ -9,28 +9,25 @@ use lib.Seq.{drop-drop}
 use Rattle.words.specs.Splice.{splice}
 use Rattle.words.specs.Words.{word_at, octets_of_word, padded}
 use Rattle.words.proofs.Words.{low-octets, word-octets}
+use Rattle.repack_sieve.specs.declared.Row.{Row}
 use Rattle.repack_sieve.specs.Kept.{kept_octets, Collected}
-use Rattle.repack_sieve.specs.Sieve.{closing, sieve_rows}
+use Rattle.repack_sieve.specs.Sieve.{closing, row_of, sieve_rows}
 use Rattle.repack_sieve.proofs.Kept.{kept_split, kept-bits, kept-padded, collected_as, collected_on, stored_kept}
-use Rattle.repack_sieve.proofs.Masks.{Row, rows, closing_less, closing_halves, four_closed}
+use Rattle.repack_sieve.proofs.Masks.{Closes, Right, rows, closing_less, closing_halves, four_closed}
 
 -- ---- by a row of the sieve
 
-pub row_read : (s : List ℕ) (keep : ℕ) → s ≡ sieve_rows
-    → Row (keep % 16) (get_or s (4 * (keep % 16)) 0) (get_or s (4 * (keep % 16) + 1) 0) (get_or s (4 * (keep % 16) + 2) 0) (get_or s (4 * (keep % 16) + 3) 0)
+pub row_read : (s : List Row) (keep : ℕ) → s ≡ sieve_rows → Right (keep % 16) (get_or s (keep % 16) (row_of 0 0 0 0))
 row_read s keep e = rw e (rows (keep % 16) (omega arith))
 
-pub rows_long : (s : List ℕ) → s ≡ sieve_rows → length s ≡ 64
-rows_long s e = ap length e
-
 -- four lanes
-half : (at x y keep kept odd far n : ℕ) (o after : List ℕ) → Row (keep % 16) kept odd far n → at + 4 ≤ length o → x < 0x1_0000_0000
+half : (at x y keep kept odd far n : ℕ) (o after : List ℕ) → Closes (keep % 16) kept odd far n → at + 4 ≤ length o → x < 0x1_0000_0000
     → y ≡ closing x kept odd far → after ≡ splice at (octets_of_word 4 y) o → Collected 4 keep (octets_of_word 4 x) o at after (at + n)
 half at x y keep kept odd far n o after r h l e f =
     stored_kept 4 keep at n (octets_of_word 4 x) (octets_of_word 4 y) o after h r.count
     (rw e (four_closed x (keep % 16) kept odd far n l r) ∙ kept-bits 4 keep (octets_of_word 4 x)) f
 
-pub sifted4 : (at x y keep kept odd far n : ℕ) (o after : List ℕ) → Row (keep % 16) kept odd far n → at + 4 ≤ length o → x < 0x1_0000_0000
+pub sifted4 : (at x y keep kept odd far n : ℕ) (o after : List ℕ) → Closes (keep % 16) kept odd far n → at + 4 ≤ length o → x < 0x1_0000_0000
     → y ≡ closing x kept odd far → after ≡ splice at (octets_of_word 4 (y % 0x1_0000_0000)) o
     → Collected 4 keep (octets_of_word 4 x) o at after (at + n)
 sifted4 at x y keep kept odd far n o after r h l e f =
@@ -46,22 +43,23 @@ kept_halves x keep =
     ∙ ap (λ (h : ℕ). kept_octets 4 keep (octets_of_word 4 (x % 0x1_0000_0000)) ++ kept_octets 4 (keep / 16) (octets_of_word 4 h)) (sym high)
 
 -- eight lanes
-pub sifted8 : (at x y keep kept odd far n kept' odd' far' n' a b c : ℕ) (o o1 o2 : List ℕ) → Row (keep % 16) kept odd far n
-    → Row (keep / 16 % 16) kept' odd' far' n' → at + 8 ≤ length o → x < 2 ^ 64 → a ≡ kept + 0x1_0000_0000 * kept' → b ≡ odd + 0x1_0000_0000 * odd'
+pub sifted8 : (at to x y keep kept odd far n kept' odd' far' n' a b c : ℕ) (o o1 o2 : List ℕ) → Closes (keep % 16) kept odd far n
+    → Closes (keep / 16 % 16) kept' odd' far' n' → at + 8 ≤ length o → x < 2 ^ 64 → a ≡ kept + 0x1_0000_0000 * kept' → b ≡ odd + 0x1_0000_0000 * odd'
     → c ≡ far + 0x1_0000_0000 * far' → y ≡ closing x a b c → o1 ≡ splice at (octets_of_word 4 (y % 0x1_0000_0000)) o
-    → o2 ≡ splice (at + n) (octets_of_word 4 (y / 0x1_0000_0000)) o1 → Collected 8 keep (octets_of_word 8 x) o at o2 (at + n + n')
-sifted8 at x y keep kept odd far n kept' odd' far' n' a b c o o1 o2 r s h l ea eb ec ey f g =
+    → to ≡ at + n → o2 ≡ splice to (octets_of_word 4 (y / 0x1_0000_0000)) o1 → Collected 8 keep (octets_of_word 8 x) o at o2 (to + n')
+sifted8 at to x y keep kept odd far n kept' odd' far' n' a b c o o1 o2 r s h l ea eb ec ey f t g =
     let whole : x ≡ x % 0x1_0000_0000 + 0x1_0000_0000 * (x / 0x1_0000_0000) = omega arith in
     let two : y ≡ closing (x % 0x1_0000_0000) kept odd far + 0x1_0000_0000 * closing (x / 0x1_0000_0000) kept' odd' far' =
     ey ∙ rw (ea, eb, ec)
     (ap (λ (w : ℕ). closing w (kept + 0x1_0000_0000 * kept') (odd + 0x1_0000_0000 * odd') (far + 0x1_0000_0000 * far')) whole
     ∙ closing_halves (x % 0x1_0000_0000) (x / 0x1_0000_0000) (keep % 16) kept odd far n (keep / 16 % 16) kept' odd' far' n' (omega arith) r s) in
     let small = closing_less (x % 0x1_0000_0000) kept odd far in
-    let low : Collected 4 keep (octets_of_word 4 (x % 0x1_0000_0000)) o at o1 (at + n) =
-    half at (x % 0x1_0000_0000) (y % 0x1_0000_0000) keep kept odd far n o o1 r (omega arith) (omega arith) (omega (arith, two, small)) f in
-    collected_on 4 4 8 keep (keep / 16) keep at (at + n) (at + n + n') (octets_of_word 4 (x % 0x1_0000_0000)) (octets_of_word 4 (x / 0x1_0000_0000)) (octets_of_word 8 x) o o1 o2
+    let low : Collected 4 keep (octets_of_word 4 (x % 0x1_0000_0000)) o at o1 to =
+    rw t
+    (half at (x % 0x1_0000_0000) (y % 0x1_0000_0000) keep kept odd far n o o1 r (omega arith) (omega arith) (omega (arith, two, small)) f) in
+    collected_on 4 4 8 keep (keep / 16) keep at to (to + n') (octets_of_word 4 (x % 0x1_0000_0000)) (octets_of_word 4 (x / 0x1_0000_0000)) (octets_of_word 8 x) o o1 o2
     (omega arith) (kept_halves x keep) low
-    (half (at + n) (x / 0x1_0000_0000) (y / 0x1_0000_0000) (keep / 16) kept' odd' far' n' o1 o2 s (omega (arith, low.same, r.count)) (omega arith) (omega (arith, two, small)) g)
+    (half to (x / 0x1_0000_0000) (y / 0x1_0000_0000) (keep / 16) kept' odd' far' n' o1 o2 s (omega (arith, t, low.same, r.count)) (omega arith) (omega (arith, two, small)) g)
 
 -- ---- the lanes of a take
 

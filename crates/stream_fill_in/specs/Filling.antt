@@ -1,5 +1,5 @@
 -- Fill-in record by record, against stream_spec's Handshake.
-use Rattle.std.specs.Prelude.{◌≡◌, Bool, List, ℕ, ◌+◌, ◌≤◌, drop}
+use Rattle.std.specs.Prelude.{◌≡◌, Bool, List, ℕ, drop}
 use Rattle.stream_spec.specs.declared.Shape.{Shape}
 use Rattle.stream_spec.specs.Layout.{record_count}
 use Rattle.stream_spec.specs.Handshake.{filled_in}
@@ -11,9 +11,7 @@ pub record Filled (level : Bool) (s : Shape) (before after : List ℕ) (n : ℕ)
   pub octets : after ≡ in_front (filled_in level s before) before
   pub count : n ≡ record_count s before
 
--- what is known at the start of each turn: k records stand filled in front of `at`, and what follows is as it was
-pub record Filling (level : Bool) (s : Shape) (before now : List ℕ) (at k : ℕ) : Type 0 where
+-- what is known at the start of each turn: the records in front of `at` stand filled, and what follows is as it was
+pub record Filling (level : Bool) (s : Shape) (before now : List ℕ) (at : ℕ) : Type 0 where
   pub left : Left s before at
   pub writing : Writing before now at (filled_in level s before) (filled_in level s (drop at before))
-  pub count : k + record_count s (drop at before) ≡ record_count s before
-  pub few : k ≤ at

@@ -1,2 +1,1 @@
-pub mod TwoWords
 pub mod ZeroBits

@@ -9,7 +9,7 @@ pub use masks::{breaks, must_be_zero};
 pub use usual::is_usual;
 
 // The bits of a header that must be zero: in octets 0 to 3, and in octets 3 to 6.
-#[derive(Clone, Copy)]
+#[derive(Clone, Copy, Debug, PartialEq, Eq)]
 pub struct Zeros {
     pub low: u32,
     pub high: u32,

@@ -27,8 +27,7 @@ pub fn breaks(rec: &[u8], z: Zeros) -> bool
     requires { head_octets ≤ length rec.now }
     ensures { TellsFault z rec.now result }
 {
-    if words::load::<u32>(rec, FLAGS) & z.low != 0 {
-        return true;
-    }
-    words::load::<u32>(rec, TKEEP) & z.high != 0
+    let low = words::load::<u32>(rec, FLAGS);
+    let high = words::load::<u32>(rec, TKEEP);
+    low & z.low != 0 || high & z.high != 0
 }

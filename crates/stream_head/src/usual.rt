@@ -11,11 +11,7 @@ pub fn is_usual(lo: u32, hi: u32, pair: u32, full: u32) -> bool
     requires { pair < 0x1000 }
     ensures { (result ≡ usual_test lo hi pair full) × (result ≡ true → UsualWords lo hi pair full) }
 {
-    if lo - lo % 2 != PAIR * pair + KEEP_LOW * (hi % OCTET) {
-        return false;
-    }
-    if hi != BOTH_MASKS * (hi % MASK) {
-        return false;
-    }
-    hi % MASK <= full
+    lo - lo % 2 == PAIR * pair + KEEP_LOW * (hi % OCTET)
+        && hi == BOTH_MASKS * (hi % MASK)
+        && hi % MASK <= full
 }

@@ -4,7 +4,7 @@ use Rattle.std.specs.Prelude.{Option, None, Some, Result, Ok, Err}
 use mathlib.Core.Path.{◌≡◌, refl, sym, ap, ◌∙◌}
 use mathlib.Core.Bool.{Bool, true, false, cond, or-true, or-false}
 use mathlib.Core.List.{List, ◌∷◌, ◌++◌}
-use Prim.Native.Nat.{ℕ, ◌+◌, ◌%◌, ◌^◌, ◌≤◌, ◌<◌}
+use Prim.Native.Nat.{ℕ, ◌+◌, ◌%◌, ◌<◌}
 use native.Mathlib.Numerals.{add-one}
 use native.Mathlib.Omega.{arith}
 use lib.ListN.{length}
@@ -12,15 +12,14 @@ use Rattle.refusal.specs.declared.Refusal.{Refusal}
 use Rattle.refusal.specs.declared.Refusal.TheVariants.{Field as FieldAt, Reserved as ReservedAt}
 use Rattle.refusal.specs.Checks.{Check, first}
 use Rattle.stream_spec.specs.declared.Shape.{Shape}
-use Rattle.stream_spec.specs.Layout.{size, types_of, any_reserved, records}
+use Rattle.stream_spec.specs.Layout.{size, records}
 use Rattle.stream_spec.specs.Checks.{Fields, transfer_flags, each, transfer_faults, user_fault, field_fault, reserved_fault}
-use Rattle.stream_spec.proofs.Fields.{head-fits, fields_of}
+use Rattle.stream_spec.proofs.Fields.{fields_of}
 use Rattle.stream_spec.proofs.RecordChecks.{each-found, each-passed}
 use Rattle.stream_spec.proofs.Walk.{records_front, records_behind, no_records_short}
 use Rattle.stream_record.specs.declared.Header.{Header}
 use Rattle.stream_record.specs.declared.faults.Fault.{Fault}
 use Rattle.stream_record.specs.declared.faults.Fault.TheVariants.{Field, Reserved}
-use Rattle.std.specs.Result.{result_err}
 use Rattle.stream_record.specs.Header.{header_of, header_fault, fault_of, record_fault}
 
 -- ---- what it says of the record's checks

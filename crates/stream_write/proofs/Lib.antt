@@ -1,3 +1,2 @@
 pub mod Fill
-pub mod Word
 pub mod Users

@@ -8,7 +8,8 @@ ghost use Rattle.words.specs.Words.{octets_of_word};
 ghost use Rattle.stream_spec.specs.Layout.{head_octets, width_most};
 ghost use Rattle.stream_write.specs.Write.{header_octets, data_header, null_lanes};
 
-use stream_record::layout::{FLAGS, HEAD_OCTETS, TDEST, TID, TKEEP, TKEEP_HIGH, TSTRB, TSTRB_HIGH};
+use stream_record::Header;
+use stream_record::layout::{FLAGS, HEAD_OCTETS, TDEST, TID, TKEEP, TSTRB};
 
 // A header and the octet behind it as one number: the pair from octet 1 on (bit 8), a mask as TKEEP from octet 3 on (bit 24)
 // and as TSTRB from octet 5 on (bit 40), lane 0 in octet 7 (bit 56).
@@ -19,17 +20,15 @@ const BOTH_MASKS: u64 = 0x100_0100_0000;
 const LANE_0: u64 = 0x100_0000_0000_0000;
 
 // The header of the record at the front of `out`.
-pub fn write_header(out: &mut [u8], last: u8, tid: u8, tdest: u8, keep: u32, strb: u32)
-    requires { (head_octets ≤ length out.old) × (keep < 0x10000) × (strb < 0x10000) }
-    ensures { out.new ≡ header_octets last tid tdest keep strb ++ drop head_octets out.old }
+pub fn write_header(out: &mut [u8], h: Header)
+    requires { (head_octets ≤ length out.old) × (h.flags < 0x100) × (h.keep < 0x10000) × (h.strb < 0x10000) }
+    ensures { out.new ≡ header_octets h.flags h.tid h.tdest h.keep h.strb ++ drop head_octets out.old }
 {
-    out[FLAGS] = last;
-    out[TID] = tid;
-    out[TDEST] = tdest;
-    out[TKEEP] = (keep % 0x100) as u8;
-    out[TKEEP_HIGH] = (keep / 0x100 % 0x100) as u8;
-    out[TSTRB] = (strb % 0x100) as u8;
-    out[TSTRB_HIGH] = (strb / 0x100 % 0x100) as u8;
+    out[FLAGS] = h.flags as u8;
+    out[TID] = h.tid;
+    out[TDEST] = h.tdest;
+    words::store(out, TKEEP, h.keep as u16);
+    words::store(out, TSTRB, h.strb as u16);
 }
 
 // The header of a record with data on its first n lanes, as one word: eight octets are written, the last of which is 0.
@@ -38,10 +37,10 @@ pub fn write_data_header(out: &mut [u8], last: u32, pair: u32, n: usize)
     ensures { out.new ≡ data_header last pair n ++ (0 ∷ drop 8 out.old) }
 {
     let lanes = (1u64 << n) - 1;
-    words::store::<u64>(
+    words::store(
         out,
         0,
-        (last as u64) + PAIR * (pair as u64) + BOTH_MASKS * lanes,
+        u64::from(last) + PAIR * u64::from(pair) + BOTH_MASKS * lanes,
     );
 }
 
@@ -50,10 +49,10 @@ pub fn write_one(out: &mut [u8], pair: u32, lane: u8)
     requires { (8 ≤ length out.old) × (pair < 0x10000) }
     ensures { out.new ≡ data_header 0 pair 1 ++ (lane ∷ drop 8 out.old) }
 {
-    words::store::<u64>(
+    words::store(
         out,
         0,
-        PAIR * (pair as u64) + BOTH_MASKS + LANE_0 * (lane as u64),
+        PAIR * u64::from(pair) + BOTH_MASKS + LANE_0 * u64::from(lane),
     );
 }
 
@@ -62,11 +61,7 @@ pub fn write_nulls(out: &mut [u8], n: usize, v: usize)
     requires { (n ≤ v) × (head_octets + v ≤ length out.old) }
     ensures { out.new ≡ null_lanes n v out.old }
 {
-    let mut j = v;
-    while n < j {
-        j -= 1;
-        out[HEAD_OCTETS + j] = 0;
-    }
+    out[HEAD_OCTETS + n..HEAD_OCTETS + v].fill(0);
 }
 
 // User bits in k octets from place `at` on, low octet first.
@@ -75,10 +70,8 @@ pub fn write_user(out: &mut [u8], at: usize, user: u64, k: usize)
     ensures { out.new ≡ splice at (octets_of_word k user) out.old }
 {
     let mut u = user;
-    let mut j = 0;
-    while j < k {
-        out[at + j] = (u % 0x100) as u8;
-        u = u / 0x100;
-        j += 1;
+    for octet in out[at..at + k].iter_mut() {
+        *octet = (u % 0x100) as u8;
+        u /= 0x100;
     }
 }

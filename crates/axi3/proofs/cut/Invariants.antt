@@ -1,11 +1,7 @@
-use Prim.Native.Nat.{◌-◌, ◌≤◌}
 use mathlib.Core.Path.{◌≡◌}
 use Rattle.axi3.specs.Rows.{filled}
 use Rattle.axi3.proofs.cut.Given as goal
 
 -- the first j bursts of the cut stand in front
 abbrev pub invariant-loop-j : goal.invariant-loop-j
-invariant-loop-j l = (l.row ≡ filled l.b l.j l.initial.row) × (l.j ≤ l.count)
-
-abbrev pub decreases-loop-j : goal.decreases-loop-j
-decreases-loop-j l = l.count - l.j
+invariant-loop-j l = l.place-items ≡ filled l.accepted.burst l.j l.initial.place-items

@@ -3,18 +3,11 @@
 use mathlib.Core.Path.{◌≡◌, ap, ◌∙◌}
 use Prim.Native.Nat.{◌+◌, ◌-◌, ◌%◌, ◌≤◌}
 use native.Mathlib.Omega.{arith}
-use lib.Pow.{pow_pos}
 use Rattle.burst_spec.specs.Address.{highest_byte, bytes}
 use Rattle.burst_spec.specs.Legal.{Power}
 use Rattle.burst_spec.proofs.Known.{size_small}
 use Rattle.burst.proofs.Formulas.{address_bits, bus-is_power, lane-small, highest_fits, lt_by}
 use Rattle.burst.proofs.beat_at.Goals as goal
-
-pub bytes_of-bytes-requires : goal.bytes_of-bytes-requires
-bytes_of-bytes-requires c = size_small c.args.b c.requires
-
-pub overflow_sub-highest : goal.overflow_sub-highest
-overflow_sub-highest c = rw c.bytes_of-bytes.ensures (pow_pos c.args.b.size)
 
 pub overflow_add-highest : goal.overflow_add-highest
 overflow_add-highest c =
@@ -45,17 +38,3 @@ lane-requires-2 c =
     ∙ ap (λ h. h % c.wide-bus.result) highest-is
     ∙ ap (λ m. highest_byte c.args.address (bytes c.args.b) % m) c.wide-bus.ensures in
     lt_by upper_is (lane-small c.args.b c.requires (highest_byte c.args.address (bytes c.args.b)))
-
-pub returns : goal.returns
-returns c =
-    let highest-is : c.round_down-first.result + (c.bytes_of-bytes.result - 1) ≡ highest_byte c.args.address (bytes c.args.b) = rw (c.round_down-first.ensures, c.bytes_of-bytes.ensures) in
-    let lower-is : c.low_part.result ≡ c.args.address % c.args.b.bus = c.low_part.ensures ∙ ap (λ m. c.args.address % m) c.wide-bus.ensures in
-    let upper_is : c.low_part-2.result
-    ≡ highest_byte c.args.address (bytes c.args.b) % c.args.b.bus = c.low_part-2.ensures
-    ∙ ap (λ h. h % c.wide-bus.result) highest-is
-    ∙ ap (λ m. highest_byte c.args.address (bytes c.args.b) % m) c.wide-bus.ensures in
-    λ i. record {
-      address = c.args.address;
-      lower = (c.lane.ensures ∙ lower-is) i;
-      upper = (c.lane-2.ensures ∙ upper_is) i;
-    }

@@ -1,13 +1,14 @@
 -- `burst::bus_refused` meets its contract: the arms are the list of allowed widths. 1 | 2 is tested as a range. Assumes nothing.
-use mathlib.Core.Bool.{true, false, not}
+use mathlib.Core.Bool.{false, not}
 use mathlib.Core.List.{List, [], ◌∷◌}
-use mathlib.Core.Path.{◌≡◌, refl, sym, ap}
+use mathlib.Core.Path.{◌≡◌, refl, sym, ap, ◌∙◌}
 use Prim.Native.Nat.{ℕ}
 use native.Mathlib.Omega.{arith}
 use types.Run.{OneOf}
 use Rattle.burst_spec.specs.Checks.{bus_allowed, between}
 use Rattle.burst.proofs.Tests.{among-yes, none-among, one_or_two, between_below, between-above}
 use Rattle.burst.proofs.bus_refused.Goals as goal
+use Rattle.burst.proofs.bus_refused.Goals.{in_default, in_default-2, in-1, in-1-2}
 
 abbrev widths : List ℕ
 widths = 1 ∷ 2 ∷ 4 ∷ 8 ∷ 16 ∷ 32 ∷ 64 ∷ 128 ∷ []
@@ -17,25 +18,18 @@ abbrev keys : List ℕ
 keys = 4 ∷ 8 ∷ 16 ∷ 32 ∷ 64 ∷ 128 ∷ []
 
 -- a bus that is no key, and neither 1 nor 2
-refused : (bus : ℕ) → (OneOf keys bus → ⊥) → between 1 2 bus ≡ false → true ≡ not (bus_allowed bus)
+refused : (bus : ℕ) → (OneOf keys bus → ⊥) → between 1 2 bus ≡ false → bus_allowed bus ≡ false
 unfolding bus_allowed
 refused bus none small =
-    sym (ap not (none-among keys widths (between 1 2) bus (tt, (tt, (tt, (tt, (tt, (tt, (tt, (tt, tt)))))))) none small))
+    none-among keys widths (between 1 2) bus (tt, (tt, (tt, (tt, (tt, (tt, (tt, (tt, tt)))))))) none small
 
-pub returns-in_default : goal.returns-in_default
-returns-in_default c =
-    let bus = c.args.bus in
-    refused bus c.in_default.in_default-own.rest.1 (between_below 1 2 bus c.in_default.if-bus-lt1-own.true)
-
-pub returns-in_default-2 : goal.returns-in_default-2
-returns-in_default-2 c =
-    let bus = c.args.bus in
-    refused bus c.in_default.in_default-own.rest.1 (between-above 1 2 bus (omega arith) (omega arith))
-
-pub returns-in-1 : goal.returns-in-1
+pub returns : goal.returns
 unfolding bus_allowed
-returns-in-1 c = sym (ap not (among-yes keys widths c.args.bus (refl, (refl, (refl, (refl, (refl, (refl, tt)))))) c.in-1.is))
-
-pub returns-in-1-2 : goal.returns-in-1-2
-unfolding bus_allowed
-returns-in-1-2 c = sym (ap not (one_or_two widths c.args.bus (refl, (refl, tt)) c.in-1.if-bus-lt1-own.false c.in-1.if-bus-lt3-own.true))
+returns c =
+    let bus = c.args.bus in
+    elim c.match-matches.branch [
+      | in_default w ↦ ap not (w.matches-is ∙ sym (refused bus w.in_default.in_default-own.rest.1 (between_below 1 2 bus (omega arith))))
+      | in_default-2 w ↦ ap not (w.matches-is ∙ sym (refused bus w.in_default.in_default-own.rest.1 (between-above 1 2 bus (omega arith) (omega arith))))
+      | in-1 w ↦ ap not (w.matches-is ∙ sym (among-yes keys widths bus (refl, (refl, (refl, (refl, (refl, (refl, tt)))))) w.in-1.is))
+      | in-1-2 w ↦ ap not (w.matches-is ∙ sym (one_or_two widths bus (refl, (refl, tt)) (omega arith) (omega arith)))
+    ]

@@ -28,13 +28,13 @@ pub returns-in-1-to-256 : goal.returns-in-1-to-256
 unfolding count_allowed
 returns-in-1-to-256 c = rw c.in-Incr.is (sym (between-yes 1 256 c.args.beats (omega arith) (omega arith)))
 
-pub returns-in_default-beats : goal.returns-in_default-beats
+pub returns-in_default-matches : goal.returns-in_default-matches
 unfolding count_allowed
-returns-in_default-beats c = rw c.in-Incr.is (sym (between_below 1 256 c.args.beats (omega arith)))
+returns-in_default-matches c = rw c.in-Incr.is (sym (between_below 1 256 c.args.beats (omega arith)))
 
-pub returns-in_default-beats-3 : goal.returns-in_default-beats-3
+pub returns-in_default-matches-3 : goal.returns-in_default-matches-3
 unfolding count_allowed
-returns-in_default-beats-3 c = rw c.in-Incr.is (sym (between-above 1 256 c.args.beats (omega arith) (omega arith)))
+returns-in_default-matches-3 c = rw c.in-Incr.is (sym (between-above 1 256 c.args.beats (omega arith) (omega arith)))
 
 pub returns-in-2 : goal.returns-in-2
 unfolding count_allowed
@@ -42,11 +42,11 @@ returns-in-2 c =
     rw c.in-Wrap.is
     (sym (among-yes counts counts c.args.beats (refl, (refl, (refl, (refl, tt)))) c.in-2.is))
 
-pub returns-in_default-beats-2 : goal.returns-in_default-beats-2
+pub returns-in_default-matches-2 : goal.returns-in_default-matches-2
 unfolding count_allowed
-returns-in_default-beats-2 c =
+returns-in_default-matches-2 c =
     rw c.in-Wrap.is
-    (sym (none-among counts counts (λ y. false) c.args.beats (tt, (tt, (tt, (tt, tt)))) c.in_default-beats-2.in_default-beats-2-own.rest.1 refl))
+    (sym (none-among counts counts (λ y. false) c.args.beats (tt, (tt, (tt, (tt, tt)))) c.in_default-matches-2.in_default-matches-2-own.rest.1 refl))
 
 pub returns-in-Reserved : goal.returns-in-Reserved
 unfolding count_allowed

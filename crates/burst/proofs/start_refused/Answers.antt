@@ -1,29 +1,33 @@
 -- `burst::start_refused` meets its contract: only WRAP asks for an aligned start. Assumes nothing.
-use mathlib.Core.Path.{◌≡◌, sym, ap}
-use Rattle.burst_spec.specs.declared.Burst.{Burst}
+use mathlib.Core.Bool.{true, false, not}
+use mathlib.Core.Path.{◌≡◌, refl, ◌∙◌}
+use Prim.Native.Nat.{ℕ, ◌%◌, ◌^◌}
+use lib.Dec.{eqb}
+use denote.Enum.Bare.{sameb}
+use Rattle.burst_spec.specs.contracts.Kind.{the_type}
 use Rattle.burst_spec.specs.declared.Kind.{Kind}
-use Rattle.burst_spec.specs.Address.{bytes}
+use Rattle.burst_spec.specs.declared.Kind.TheVariants.{Fixed, Incr, Wrap, Reserved}
 use Rattle.burst_spec.specs.Checks.{misaligned}
+use Rattle.burst_spec.proofs.Known.{clash}
 use Rattle.burst.proofs.start_refused.Goals as goal
 
--- the line of the kind that the match found
-by_kind : (b : Burst) {m : Kind} → b.kind ≡ m → misaligned m b.start (bytes b) ≡ misaligned b.kind b.start (bytes b)
-by_kind b e = sym (ap (λ m. misaligned m b.start (bytes b)) e)
-
-pub returns-in-Fixed : goal.returns-in-Fixed
+at-wrap : (m : Kind) (s b : ℕ) → true ≡ sameb the_type m Wrap → not (eqb (s % b) 0) ≡ misaligned m s b
 unfolding misaligned
-returns-in-Fixed c = by_kind c.args.b c.in-Fixed.is
+at-wrap Fixed s b e = absurd (clash cc)
+at-wrap Incr s b e = absurd (clash cc)
+at-wrap Wrap s b e = refl
+at-wrap Reserved s b e = absurd (clash cc)
 
-pub returns-in-Incr : goal.returns-in-Incr
+at-other : (m : Kind) (s b : ℕ) → false ≡ sameb the_type m Wrap → false ≡ misaligned m s b
 unfolding misaligned
-returns-in-Incr c = by_kind c.args.b c.in-Incr.is
+at-other Fixed s b e = refl
+at-other Incr s b e = refl
+at-other Wrap s b e = absurd (clash cc)
+at-other Reserved s b e = refl
 
-pub returns-in-Wrap : goal.returns-in-Wrap
-unfolding misaligned
-returns-in-Wrap c =
-    let found = c in
-    rw (c.low_part.ensures, c.bytes_of.ensures) (by_kind c.args.b c.in-Wrap.is)
+pub returns-then-eq : goal.returns-then-eq
+returns-then-eq c =
+    rw (c.low_part.ensures, c.bytes_of.ensures) (at-wrap c.args.b.kind c.args.b.start (2 ^ c.args.b.size) c.if-eq.ensures)
 
-pub returns-in-Reserved : goal.returns-in-Reserved
-unfolding misaligned
-returns-in-Reserved c = by_kind c.args.b c.in-Reserved.is
+pub returns-else-eq : goal.returns-else-eq
+returns-else-eq c = c.if-eq.false ∙ at-other c.args.b.kind c.args.b.start (2 ^ c.args.b.size) c.if-eq.ensures

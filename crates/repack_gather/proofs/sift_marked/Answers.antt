@@ -6,8 +6,8 @@ use Rattle.repack_scratch.proofs.Marks.{length-marks}
 use Rattle.repack_gather.proofs.Marked.{marking_starts, marking_lane, marking_done}
 use Rattle.repack_gather.proofs.sift_marked.Goals as goal
 
-pub loop-j-init : goal.loop-j-init
-loop-j-init c =
+pub loop-lane-init : goal.loop-lane-init
+loop-lane-init c =
     let a = c.args in
     marking_starts a.keep a.strb a.lanes.now a.octets.now (mark_bits a.marks.now) a.at (length-marks a.marks.now ∙ c.requires.0)
 
@@ -15,31 +15,23 @@ pub keep_marked-n-requires : goal.keep_marked-n-requires
 keep_marked-n-requires c =
     let a = c.args in
     let p = c.requires in
-    let l = c.loop-j in (
-      omega (arith, l.invariant.near, l.invariant.same_octets, p.1, c.loop-j-test.true),
-      omega (arith, l.invariant.near, l.invariant.same_marks, length-marks l.marks, p.1, c.loop-j-test.true),
+    let l = c.loop-lane in (
+      omega (arith, l.invariant.near, l.invariant.same_octets, p.1, c.loop-lane-test.true),
+      omega (arith, l.invariant.near, l.invariant.same_marks, length-marks l.marks, p.1, c.loop-lane-test.true),
       l.invariant.clear p.2 l.n (omega arith),
     )
 
-pub loop-j-preserved : goal.loop-j-preserved
-loop-j-preserved c =
+pub loop-lane-preserved : goal.loop-lane-preserved
+loop-lane-preserved c =
     let a = c.args in
-    let l = c.loop-j in
+    let l = c.loop-lane in
     let e = c.keep_marked-n.ensures in
-    marking_lane a.keep a.strb a.lanes.now a.octets.now (mark_bits a.marks.now) a.at (length-marks a.marks.now ∙ c.requires.0) l.octets (mark_bits l.marks) l.n l.k l.t l.j l.invariant
-    c.requires.1 c.loop-j-test.true c.keep_marked-n.new.octets (mark_bits c.keep_marked-n.new.marks) c.keep_marked-n.result e.value e.octets_after e.marks_after
-
-pub shape_of-octets : goal.shape_of-octets
-shape_of-octets c = c.loop-j.invariant.same_octets
-
-pub shape_of-marks : goal.shape_of-marks
-shape_of-marks c =
-    omega
-    (arith, c.loop-j.invariant.same_marks, length-marks c.loop-j.marks, c.requires.0)
+    marking_lane a.keep a.strb a.lanes.now a.octets.now (mark_bits a.marks.now) a.at (length-marks a.marks.now ∙ c.requires.0) l.octets (mark_bits l.marks) l.n l.k l.t l.lane-index l.invariant
+    c.requires.1 c.loop-lane-test.true c.keep_marked-n.new.octets (mark_bits c.keep_marked-n.new.marks) c.keep_marked-n.result e.value e.octets_after e.marks_after
 
 pub returns : goal.returns
 returns c =
     let a = c.args in
-    let l = c.loop-j in
-    marking_done a.keep a.strb a.lanes.now a.octets.now (mark_bits a.marks.now) a.at (length-marks a.marks.now ∙ c.requires.0) l.octets (mark_bits l.marks) l.n l.k l.t l.j l.invariant
-    c.loop-j-test.false
+    let l = c.loop-lane in
+    marking_done a.keep a.strb a.lanes.now a.octets.now (mark_bits a.marks.now) a.at (length-marks a.marks.now ∙ c.requires.0) l.octets (mark_bits l.marks) l.n l.k l.t l.lane-index l.invariant
+    c.loop-lane-test.false

@@ -1,9 +1,10 @@
+use mathlib.Core.List.{map}
+use Rattle.repack_scratch.specs.Codes.{data_code}
 use Rattle.repack_plain.specs.Write.{Advanced}
 use Rattle.repack_plain.proofs.put_fulls.Given as goal
 
-abbrev pub invariant-loop-left : goal.invariant-loop-left
-invariant-loop-left l =
-    Advanced l.v l.pair l.octets l.initial.out (record { to = l.initial.to; from = l.initial.from; left = l.initial.left }) l.out (record { to = l.to; from = l.from; left = l.left })
+abbrev pub invariant-loop-c : goal.invariant-loop-c
+invariant-loop-c l = Advanced 0 l.v l.fn.head (map data_code l.octets) l.initial.out l.initial.c l.out l.c
 
-abbrev pub decreases-loop-left : goal.decreases-loop-left
-decreases-loop-left l = l.left
+abbrev pub decreases-loop-c : goal.decreases-loop-c
+decreases-loop-c l = l.c.left

@@ -1,5 +1,5 @@
 -- `stream_record::bad_padding` meets its contract: the last octet, where lanes and octets do not end together. Assumes nothing.
-use Rattle.std.proofs.Common.{not, eq-eqb, sym, ap, ◌∙◌}
+use Rattle.std.proofs.Common.{not, eq-eqb, ap, ◌∙◌}
 use native.Mathlib.Omega.{arith}
 use Rattle.stream_spec.proofs.Size.{size_pos}
 use Rattle.stream_record.proofs.Padding.{padding_clear, padding_set}

@@ -1,8 +1,0 @@
--- `repack_marked::unmarked_near` meets its contract: where four octets are zero no mark of theirs stands. Assumes nothing.
-use mathlib.Core.Path.{sym, ◌∙◌}
-use borrow.Author.Tests.{eqb-true}
-use Rattle.repack_marked.proofs.Near.{unmarked-word}
-use Rattle.repack_marked.proofs.unmarked_near.Goals as goal
-
-pub returns : goal.returns
-returns c = λ e i h. unmarked-word c.args.marks.now c.args.from c.requires (sym c.load.ensures ∙ eqb-true c.load.result 0 e) i h
