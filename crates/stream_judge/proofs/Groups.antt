@@ -2,17 +2,17 @@
 -- Assumes nothing.
 use Rattle.std.specs.Prelude.{Some}
 use mathlib.Core.Path.{◌≡◌, refl, sym, ap, ap₂, ◌∙◌}
-use mathlib.Core.Bool.{Bool, true, false, not, ◌&&◌, and-false, beq}
+use mathlib.Core.Bool.{Bool, true, false, not, ◌&&◌, beq}
 use mathlib.Core.List.{List, [], ◌∷◌}
 use Prim.Native.Nat.{ℕ, zero, suc, ◌+◌, ◌-◌, ◌*◌, ◌%◌, ◌≤◌, ◌<◌}
 use native.Mathlib.Nat.{div-one}
 use native.Mathlib.Numerals.{add-one}
 use native.Mathlib.Omega.{arith}
-use borrow.Author.Tests.{eq-eqb, ne_eqb, eqb-true, eqb-false, ltb-true, ltb-false, not-true, not-false}
+use borrow.Author.Tests.{eq-eqb, ne_eqb, eqb-true, eqb-false, le-ltb, ltb-true, ltb-false, not-true, not-false}
 use lib.Dec.{eqb, ltb}
 use lib.ListN.{length, get_or, take, drop, length-drop}
 use lib.Seq.{drop-cons, drop-drop, get_or-take, get_or-drop, ext_get_or}
-use Rattle.stream_spec.specs.Layout.{bit, body}
+use Rattle.stream_spec.specs.Layout.{bit}
 use Rattle.stream_spec.specs.Handshake.{same_octets, differs}
 use Rattle.stream_spec.proofs.Bools.{and_left, and_right, no_such, beq_refl}
 use Rattle.words.specs.Words.{word_at}
@@ -85,9 +85,6 @@ abbrev Differ : List ℕ → List ℕ → ℕ → ℕ → Bool
 Differ p r k i = not (same_octets (take k (drop i p)) (take k (drop i r)))
 
 module _ (p r : List ℕ) where
-  pub differs-last : (get_or p 0 0 % 2 ≡ get_or r 0 0 % 2 → ⊥) → true ≡ differs (Some p) r
-  differs-last h = rw (last-other (get_or p 0 0) (get_or r 0 0) h, and-false (same_octets (body p) (body r))) refl
-
   -- a group that differs
   pub differs_group : (k i : ℕ) (d : Bool) → 1 ≤ i → d ≡ Differ p r k i → d ≡ true → true ≡ differs (Some p) r
   differs_group k i d h e f = go (same_octets (drop 1 p) (drop 1 r)) refl
@@ -128,10 +125,6 @@ module _ (p r : List ℕ) where
         go true q = q ∙ differs_group k i d h e q
         go false q = q ∙ differs_not (f (group_same k i d e q))
 
-    -- records of 8 octets: 1 to 4 and 4 to 7
-    pub ends_8 : length r ≡ 8 → Same p r 1 5 → (d : Bool) → d ≡ Differ p r 4 4 → d ≡ differs (Some p) r
-    ends_8 n s d e = differs-rest 4 4 d (omega arith) e (λ x. joined p r 1 5 4 (length r) s (λ j a b. x j a (omega arith)) (omega arith))
-
     -- longer ones: the groups from 1 on and the last eight meet ..
     pub ends_same : (e : ℕ) → Same p r 1 e → Same p r (length r - 8) (length r) → length r ≤ e + 8 → false ≡ differs (Some p) r
     ends_same e s t n = differs_not (joined p r 1 e (length r - 8) (length r) s t (omega arith))
@@ -141,3 +134,52 @@ module _ (p r : List ℕ) where
         → d ≡ differs (Some p) r
     ends_more e h s t n d q =
         differs-rest 8 e d h q (λ x. joined p r 1 (e + 8) (length r - 8) (length r) (joined p r 1 e e (e + 8) s x (omega arith)) t (omega arith))
+
+-- what an answer over some groups tells: they differ, or what is the same
+pub record Told (p r : List ℕ) (v : Bool) (P : Type 0) : Type 0 where
+  pub yes' : v ≡ true → true ≡ differs (Some p) r
+  pub no : v ≡ false → P
+
+-- the same answer is told by an equal one
+pub told_as : (p r : List ℕ) (P : Type 0) (v w : Bool) → v ≡ w → Told p r w P → Told p r v P
+told_as p r P v w e t = record { yes' = λ h. t.yes' (sym e ∙ h); no = λ h. t.no (sym e ∙ h) }
+
+-- the first eight octets from 1 on, and the last eight, are the same
+abbrev pub Ends : List ℕ → List ℕ → Type 0
+Ends p r = Same p r 1 9 × Same p r (length r - 8) (length r)
+
+-- and so are those from 9 on that follow, where the record has them
+abbrev pub More : List ℕ → List ℕ → Type 0
+More p r = Ends p r × (17 < length r → Same p r 9 17)
+
+module _ (p r : List ℕ) where
+  pub first_differs : (P : Type 0) (k i : ℕ) (d : Bool) → 1 ≤ i → d ≡ Differ p r k i → d ≡ true → Told p r d P
+  first_differs P k i d h e f = record { yes' = differs_group p r k i d h e; no = λ g. no_such g f }
+
+  pub ends-told : 9 ≤ length r → (a b : Bool) → a ≡ Differ p r 8 1 → b ≡ Differ p r 8 (length r - 8) → a ≡ false → Told p r b (Ends p r)
+  ends-told l a b e f g =
+      record {
+        yes' = differs_group p r 8 (length r - 8) b (omega arith) f;
+        no = λ h. (group_same p r 8 1 a e g, λ j x y. group_same p r 8 (length r - 8) b f h j x (omega arith));
+      }
+
+  pub more-told : (v : Bool) → Told p r v (Ends p r) → v ≡ false → (d : Bool) → d ≡ Differ p r 8 9 → Told p r d (More p r)
+  more-told v t h d e = record { yes' = differs_group p r 8 9 d (omega arith) e; no = λ g. (t.no h, λ n. group_same p r 8 9 d e g) }
+
+  pub more_none : (v : Bool) → Told p r v (Ends p r) → v ≡ false → length r ≤ 17 → (d : Bool) → d ≡ ltb 17 (length r) → Told p r d (More p r)
+  more_none v t h l d e = record { yes' = λ g. no_such (e ∙ le-ltb 17 (length r) l) g; no = λ g. (t.no h, λ n. absurd (omega arith)) }
+
+  pub more_differs : (v : Bool) → Told p r v (Ends p r) → v ≡ true → Told p r v (More p r)
+  more_differs v t h = record { yes' = t.yes'; no = λ g. no_such g h }
+
+  module _ (long : length p ≡ length r) (last : get_or p 0 0 % 2 ≡ get_or r 0 0 % 2) (more : More p r) where
+    pub all_same : length r ≤ 25 → (v : Bool) → v ≡ ltb 25 (length r) → v ≡ differs (Some p) r
+    all_same l v e = e ∙ le-ltb 25 (length r) l ∙ go (ltb 17 (length r)) refl
+      where
+        go : (t : Bool) → ltb 17 (length r) ≡ t → false ≡ differs (Some p) r
+        go true h = ends_same p r long last 17 (joined p r 1 9 9 17 more.0.0 (more.1 (ltb-true 17 (length r) h)) (omega arith)) more.0.1 (omega arith)
+        go false h = ends_same p r long last 9 more.0.0 more.0.1 (omega (arith, ltb-false 17 (length r) h))
+
+    pub last-told : 25 < length r → length r ≤ 31 → (d : Bool) → d ≡ Differ p r 8 17 → d ≡ differs (Some p) r
+    last-told l h d e =
+        ends_more p r long last 17 (omega arith) (joined p r 1 9 9 17 more.0.0 (more.1 (omega arith)) (omega arith)) more.0.1 (omega arith) d e
