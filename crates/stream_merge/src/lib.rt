@@ -103,11 +103,11 @@ fn move_word(rec: &[u8], out: &mut [u8], at: usize)
     requires { (at + 8 ≤ length rec.now) × (at + 8 ≤ length out.old) }
     ensures { out.new ≡ splice at (take 8 (drop at rec.now)) out.old }
 {
-    words::store::<u64>(out, at, words::load::<u64>(rec, at));
+    words::store(out, at, words::load::<u64>(rec, at));
 }
 
 // A record at the front of `out`, eight octets at a time; the last eight may overlap those before them.
-// stays: `copy_from_slice` takes up to twice as long, and a loop over the words up to 1.7 times (docs/PERFORMANCE.md, 'Merging').
+// stays: tried, `copy_from_slice` and a loop over the words both miss the times of docs/PERFORMANCE.md, 'Merging' (D72).
 fn copy_record(rec: &[u8], out: &mut [u8])
     requires { Copies rec.now out.old }
     ensures { out.new ≡ in_front rec.now out.old }
