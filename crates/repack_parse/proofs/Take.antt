@@ -23,7 +23,7 @@ use Rattle.repack_parse.specs.declared.state.Open.{Open}
 use Rattle.repack_scratch.specs.declared.Entry.{Entry}
 use Rattle.repack_scratch.specs.Codes.{item_room, stretch_room, total}
 use Rattle.repack_parse.specs.Stands.{at_start, Stands}
-use Rattle.repack_parse.specs.Read.{Closable, Added, Ready, FinishIs, TakenAs}
+use Rattle.repack_parse.specs.Read.{Added, Ready, FinishIs, TakenAs}
 use Rattle.repack_parse.specs.Reading.{record_from, Reading, StandsAt}
 
 -- ---- the start
@@ -135,16 +135,6 @@ module _ (s : Shape) (transfers items : List ℕ) (table : List Entry) (st : Ope
     stands_done codes h =
         subst (λ R. Stands (take st.items codes) (take st.closed table) st R (cut (stream_items s transfers)))
         (rw (no-records s transfers at done) refl) h
-
-    -- what closing the last stretch needs
-    pub reading-closes : Closable st table
-    reading-closes =
-        record {
-          started = r.started;
-          small = omega (arith, r.kept, r.left.within, r.passed.short);
-          lists = omega (arith, r.few, r.started, r.many, r.left.within, r.same_table, r.passed.short);
-          pair = r.pair;
-        }
 
     -- the last stretch is closed, and the whole take is read; items can be read past the last one
     pub reading_done : (codes : List ℕ) (table' : List Entry) (n : ℕ) → StandsAt s transfers codes table st at → FinishIs table st table' n
