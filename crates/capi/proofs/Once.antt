@@ -1,7 +1,6 @@
 -- The contracts of the C calls leave no choice: two answers that meet one of them on the same arguments are equal in each
 -- number, and so is the memory lent to a report; that lent to a cut or a stream call is an equation in the contract itself. A
 -- field that says nothing breaks one of these proofs. Assumes nothing.
-use Rattle.std.specs.Prelude.{Result}
 use mathlib.Core.Path.{◌≡◌}
 use mathlib.Core.List.{List}
 use Prim.Native.Nat.{ℕ}
@@ -11,7 +10,6 @@ use Rattle.merge_spec.specs.Answers as merge
 use Rattle.write_data_spec.specs.Answers as writes
 use Rattle.stream_spec.specs.declared.Shape.{Shape}
 use Rattle.stream_spec.specs.Answers.{Values}
-use Rattle.refusal.specs.declared.Refusal.{Refusal}
 use Rattle.report_spec.specs.declared.Verdict.{Verdict}
 use Rattle.report_spec.specs.Report.{Whole}
 use Rattle.report_spec.proofs.Once.{both}
@@ -68,7 +66,7 @@ part_once p q = λ i. record {
   length = both p.octets q.octets i;
 }
 
-pub verdict_once : {a b : ReportAnswer} {v : Result Verdict Refusal} {text octets : ℕ} → ShowsVerdict a v text octets → ShowsVerdict b v text octets → a ≡ b
+pub verdict_once : {a b : ReportAnswer} {v : Verdict} {text octets : ℕ} → ShowsVerdict a v text octets → ShowsVerdict b v text octets → a ≡ b
 verdict_once p q = λ i. record {
   verdict = both p.verdict q.verdict i;
   refusal = both p.refusal q.refusal i;

@@ -1,7 +1,8 @@
 // The report as a C function. Reading the sheet and the take from files, and printing, is the program, crate report.
+ghost use Rattle.report_spec.specs.declared.Verdict.TheVariants.{Refused};
 ghost use Rattle.capi.specs.Reports.{ShowsVerdict, ShowsReport};
 
-use refusal::{Code, Refusal};
+use refusal::Refusal;
 use report_spec::Verdict;
 
 // What the report answers: the verdict (0 clean, 1 broken, 2 refused); the refusal's number; the broken rule; the record of
@@ -21,42 +22,50 @@ pub struct ReportAnswer {
     pub octets: u64,
 }
 
-fn of_verdict(verdict: Result<Verdict, Refusal>, text: usize, octets: usize) -> ReportAnswer
-    ensures { ShowsVerdict result verdict text octets }
+fn refused(r: Refusal, text: usize, octets: usize) -> ReportAnswer
+    ensures { ShowsVerdict result (Refused r) text octets }
 {
-    let clean = ReportAnswer {
-        verdict: 0,
-        refusal: 0,
+    let code = refusal::code_of(r);
+    ReportAnswer {
+        verdict: 2,
+        refusal: code.0,
         rule: 0,
-        place: 0,
+        place: code.1 as u64,
         transfers: 0,
         packets: 0,
         records: 0,
         text: text as u64,
         octets: octets as u64,
-    };
-    match verdict {
-        Ok(Verdict::Clean(t)) => ReportAnswer {
+    }
+}
+
+fn of_verdict(v: Verdict, text: usize, octets: usize) -> ReportAnswer
+    ensures { ShowsVerdict result v text octets }
+{
+    match v {
+        Verdict::Clean(t) => ReportAnswer {
+            verdict: 0,
+            refusal: 0,
+            rule: 0,
+            place: 0,
             transfers: t.transfers as u64,
             packets: t.packets as u64,
             records: t.records as u64,
-            ..clean
+            text: text as u64,
+            octets: octets as u64,
         },
-        Ok(Verdict::Broken(cycle, rule)) => ReportAnswer {
+        Verdict::Broken(cycle, rule) => ReportAnswer {
             verdict: 1,
+            refusal: 0,
             rule,
             place: cycle as u64,
-            ..clean
+            transfers: 0,
+            packets: 0,
+            records: 0,
+            text: text as u64,
+            octets: octets as u64,
         },
-        Err(why) => {
-            let Code(number, place, _) = refusal::code_of(why);
-            ReportAnswer {
-                verdict: 2,
-                refusal: number,
-                place: place as u64,
-                ..clean
-            }
-        }
+        Verdict::Refused(r) => refused(r, text, octets),
     }
 }
 
@@ -74,10 +83,13 @@ pub extern "C" fn urd_report(
     ensures { ShowsReport result sheet_read sheet.now capture_read capture.now out.old out.new text.old text.new }
 {
     let told = report_call::report(
-        (sheet_read != 0).then_some(sheet),
-        (capture_read != 0).then_some(capture),
+        sheet,
+        sheet_read != 0,
+        capture,
+        capture_read != 0,
         out,
         text,
     );
-    of_verdict(told.verdict, told.text, told.octets)
+    let verdict = told.verdict;
+    of_verdict(verdict, told.text, told.octets)
 }

@@ -25,9 +25,6 @@ module _ (s : Shape) (xs rest : List ℕ) (n : ℕ) (c : Counting s xs rest n) w
     room : 1 + n + length after ≤ length xs
     room = omega (arith, c.few, ap length cut, length-append r after, long, size_pos s)
 
-    pub counted_few : (b : ℕ) → b ≤ 1 → n + b ≤ length xs
-    counted_few b small = omega (arith, room, small)
-
     pub counted_next : (b : ℕ) → b ≡ bit_of (tlast r) → b ≤ 1 → Counting s xs after (n + b)
     counted_next b e small =
         record {

@@ -11,7 +11,8 @@ use report_spec::Verdict;
 // No text is longer: the `text_most` of report_spec, where numbers of 64 bits make 103 octets at most.
 const TEXT_MOST: usize = 128;
 
-// Writes a head and a line for each key, which has its `=`, and number, at the front of `out`.
+// Writes a head, and a line for each key, which has its `=`, and number, at the front of `out`.
+// stays: octets at places, as `text::put_line` has them; what std says of `write!` holds only where it answers Ok, and not that it does.
 fn put_lines(head: &str, lines: &[(&str, usize)], out: &mut [u8]) -> usize
     requires { length head.now + lines_most lines.now ≤ length out.old }
     ensures { Put 0 (head.now ++ lines_of lines.now) out.old out.new result }

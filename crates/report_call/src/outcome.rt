@@ -4,8 +4,11 @@
 ghost use Rattle.std.specs.Prelude.{◌≡◌, ◌<◌, IfOk, Ok, option_copied};
 ghost use Rattle.std.specs.Result.{result_err};
 ghost use Rattle.refusal.specs.Checks.{first};
-ghost use Rattle.report_spec.specs.Report.{shape_of, out_shape, packet_count, ratio_checks, setup_checks, Passes};
-ghost use Rattle.report_call.specs.Steps.{OfSheet};
+ghost use Rattle.stream_spec.specs.declared.Verdict.TheVariants.{Clean as Sound};
+ghost use Rattle.stream_spec.specs.Answers.{judge_answer};
+ghost use Rattle.stream_spec.specs.Walk.{Passed};
+ghost use Rattle.report_spec.specs.Report.{shape_of, out_shape, prepared, packet_count, ratio_checks, setup_checks, Passes};
+ghost use Rattle.report_call.specs.Steps.{OfSheet, OfCapture, OfCycles, OfClean, OfTransfers, Converts};
 
 use refusal::Refusal;
 use report_setup_spec::{Mode, Setup, Tlast};
@@ -79,12 +82,6 @@ struct Job {
 }
 
 impl Job {
-    ghost use Rattle.stream_spec.specs.declared.Verdict.TheVariants.{Clean as Sound};
-    ghost use Rattle.stream_spec.specs.Answers.{judge_answer};
-    ghost use Rattle.stream_spec.specs.Walk.{Passed};
-    ghost use Rattle.report_spec.specs.Report.{prepared};
-    ghost use Rattle.report_call.specs.Steps.{OfCapture, OfCycles, OfClean, OfTransfers, Converts};
-
     // WIDTH of either width, USERBITS, RATIO in lanes mode.
     fn new(setup: Setup) -> Result<Job, Refusal>
         ensures refused { result_err result ≡ first (setup_checks setup) }
