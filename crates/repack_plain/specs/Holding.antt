@@ -6,7 +6,7 @@ use lib.ListN.{length, length-map}
 use Rattle.repack_scratch.specs.Codes.{data_code}
 
 pub plain_held : (octets : List ℕ) (n : ℕ) → n + 32 ≤ length octets → n ≤ length (map data_code octets)
-plain_held octets n h = omega (arith, h, length-map octets)
+plain_held octets n h = omega (arith, h, length-map octets data_code)
 
 -- of whatever is held with 32 octets behind it
 pub bare_fewer : (octets : List ℕ) (n k : ℕ) → k ≤ n → n + 32 ≤ length octets → k + 32 ≤ length octets
