@@ -3,7 +3,6 @@
 #![tactic(auto)]
 
 ghost use Rattle.std.specs.Prelude.{◌≡◌, true, ◌++◌, map, ℕ, ◌+◌, ◌*◌, ◌≤◌, ◌<◌, length, get_or, drop};
-ghost use Rattle.std.proofs.Common.{rules};
 ghost use Rattle.stream_spec.specs.Layout.{head_octets, size, bit_of, mask_of, of_width};
 ghost use Rattle.repack_scratch.specs.Codes.{codes_in, mark_bits};
 ghost use Rattle.repack_plain.specs.Write.{item_octet, item_strobe, record_at, RecordFits};
@@ -65,8 +64,8 @@ impl<'a> Marked<'a> {
 }
 
 impl<'a> Items for Marked<'a> {
-    ghost use Rattle.repack_scratch.proofs.Held.{length-held};
-    ghost use Rattle.repack_scratch.proofs.Marks.{length-marks};
+    ghost use Rattle.repack_plain.specs.Holding.{bare_fewer};
+    ghost use Rattle.repack_marked.specs.Holding.{marked_held};
 
     ghost user = { λ _. 0 };
 
@@ -87,7 +86,7 @@ impl<'a> Items for Marked<'a> {
         }
     }
 
-    ghost held = { Prim.search (rules, length-held, length-marks) };
+    ghost held = { λ items n h. marked_held items.octets.now items.marks.now n items.same h };
 
-    ghost fewer = { Prim.search rules };
+    ghost fewer = { λ items n k l h. bare_fewer items.octets.now n k l h };
 }

@@ -13,6 +13,9 @@ use native.Mathlib.Omega.{arith}
 use lib.ListN.{length, take, drop, get_or, length-drop}
 use lib.Seq.{length-take-le, get_or-take, get_or-drop}
 use Rattle.stream_spec.specs.Layout.{bit}
+use Rattle.burst_spec.specs.declared.Beat.{Beat}
+use Rattle.burst_spec.specs.declared.Burst.{Burst}
+use Rattle.burst_spec.specs.Address.{beat_of}
 use Rattle.burst_spec.specs.Checks.{between, some_below}
 use Rattle.burst_spec.proofs.Below.{none_below, found_below}
 use Rattle.write_data_spec.specs.Layout.{lanes_each, strobe_octets, strobe, count_below, high_strobes}
@@ -90,6 +93,12 @@ module _ (bus : ℕ) (r : List ℕ) (h : BeatRecord bus r) where
       ∙ ap (λ (n : ℕ). n + count_below bus (strobe r))
       (count_none (lanes_each * strobe_octets bus - bus) (λ x. strobe r (bus + x)) (sound-above bus r h.sound))
       ∙ zero-add (count_below bus (strobe r))
+
+-- the strays of beat k, as the code finds them: among all octets, and by the lanes of the beat that it asks for
+pub stray-told : (b : Burst) (k : ℕ) (r : List ℕ) → BeatRecord b.bus r → (y : Beat) → y ≡ beat_of b k
+    → (t : Bool) → t ≡ stray_below (8 * (length r - 1)) r y.lower y.upper → t ≡ stray_below b.bus r (beat_of b k).lower (beat_of b k).upper
+stray-told b k r h y e t f =
+    f ∙ stray_all b.bus r h y.lower y.upper ∙ ap (λ (z : Beat). stray_below b.bus r z.lower z.upper) e
 
 -- ---- the loop over a record's strobes: up to octet i no strobe is a stray
 

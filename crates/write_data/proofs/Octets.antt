@@ -13,7 +13,7 @@ use lib.Pow.{pow_pos}
 use Rattle.stream_spec.specs.Layout.{bit, odd}
 use Rattle.stream_spec.specs.Promises.{SetAbove}
 use Rattle.stream_spec.proofs.Bits.{bit-zero, bit-suc}
-use Rattle.stream_spec.proofs.Bools.{no_such, and_left, and_right}
+use Rattle.stream_spec.proofs.Bools.{no_such}
 use Rattle.stream_spec.proofs.Promises.{field_bits}
 use Rattle.stream_record.proofs.Field.{shifted}
 use Rattle.burst_spec.specs.Checks.{between, some_below}
@@ -99,11 +99,8 @@ module _ (octet lane lower upper : ℕ) where
   stray_zero e = none_below 8 strays (λ x l. low_bit x (low-none 8 octet (rw e refl) x l))
 
   -- all lanes are inside
-  pub stray_inside : (leb lower lane && leb (lane + 8) (upper + 1)) ≡ true → octet_stray octet lane lower upper ≡ false
-  stray_inside e =
-      let h = leb-true lower lane (and_left (leb lower lane) (leb (lane + 8) (upper + 1)) e) in
-      let l = leb-true (lane + 8) (upper + 1) (and_right (leb lower lane) (leb (lane + 8) (upper + 1)) e) in
-      none_below 8 strays (λ x m. inside x (omega arith) (omega arith))
+  pub stray_inside : lower ≤ lane → lane + 8 ≤ upper + 1 → octet_stray octet lane lower upper ≡ false
+  stray_inside h l = none_below 8 strays (λ x m. inside x (omega arith) (omega arith))
 
   -- neither
   pub stray_none : (n m : ℕ) → n ≡ min 8 (lower - lane) → m ≡ min 8 (upper + 1 - lane) → octet % 2 ^ n ≡ 0 → octet < 2 ^ m

@@ -1,17 +1,17 @@
 // Judging the beats of the write data channel against their burst (paper 02, T-05). The call takes any numbers and octets and refuses
-// what is not allowed. What it answers is defined in the crate write_data_spec; a beat's lanes are what `burst::beat` answers. The call comes
+// what is not allowed. What it answers is defined in the crate write_data_spec; a beat's lanes are what `AcceptedBurst::beat` answers. The call comes
 // first, then the refusals, the rules of one beat, and its strobes octet by octet.
 #![tactic(auto)]
 
-ghost use Rattle.std.specs.Prelude.{◌≡◌, Ok, true, ◌&&◌, ◌+◌, ◌-◌, ◌*◌, ◌≤◌, ◌<◌, min, leb, length};
-ghost use Rattle.burst_spec.specs.Address.{beats, beat_of};
+ghost use Rattle.std.specs.Prelude.{◌≡◌, Ok, true, ◌-◌, ◌*◌, ◌≤◌, ◌<◌, min, length};
 ghost use Rattle.burst_spec.specs.Answers.{judgement_for};
 ghost use Rattle.burst_spec.specs.Checks.{bus_most, bus_allowed};
-ghost use Rattle.burst_spec.specs.Legal.{Accepted};
+ghost use Rattle.refusal.specs.Checks.{first};
 ghost use Rattle.write_data_spec.specs.Layout.{lanes_each, strobes_at, beat_size, write_beats, wlast, high_strobes};
-ghost use Rattle.write_data_spec.specs.Answers.{length_fault, field_fault, write_refusal, WritesJudged};
+ghost use Rattle.write_data_spec.specs.Answers.{length_fault, field_fault, take_checks, WritesJudged};
 ghost use Rattle.write_data.specs.Scan.{size_most, BeatRecord, octet_stray, stray_below, lowest_rule, Whole, fault_from, Judgeable, verdict_from};
 
+use burst::AcceptedBurst;
 use burst_spec::Burst;
 use refusal::Refusal;
 use stream_record::layout::CAPTURE_MOST;
@@ -29,19 +29,20 @@ const LANES_EACH: u32 = 8;
 pub fn judge_writes(b: Burst, beats: &[u8]) -> Result<WriteVerdict, Refusal>
     ensures { WritesJudged b beats.now result }
 {
-    judge_take(b, beats)?;
-    Ok(judge_beats(b, beats))
+    let accepted = AcceptedBurst::new(b)?;
+    judge_take(b.bus, beats)?;
+    Ok(judge_beats(accepted, beats))
 }
 
-// The refusals: the burst's own, then 2 LENGTH, then 3 FIELD.
-fn judge_take(b: Burst, beats: &[u8]) -> Result<(), Refusal>
-    ensures { result ≡ judgement_for (write_refusal b beats.now) }
+// The refusals of a take, once its burst is accepted: 2 LENGTH, then 3 FIELD.
+fn judge_take(bus: u32, beats: &[u8]) -> Result<(), Refusal>
+    requires { bus_allowed bus ≡ true }
+    ensures { result ≡ judgement_for (first (take_checks bus beats.now)) }
 {
-    burst::judge(b)?;
-    if bad_length(b.bus, beats) {
+    if bad_length(bus, beats) {
         return Err(Refusal::Length);
     }
-    judge_fields(b.bus, beats)
+    judge_fields(bus, beats)
 }
 
 // The octets of a beat record.
@@ -82,14 +83,15 @@ fn judge_fields(bus: u32, beats: &[u8]) -> Result<(), Refusal>
 }
 
 // The rules, beat by beat: a beat past the last ends the pass, and where none breaks a rule the count decides.
-fn judge_beats(b: Burst, beats: &[u8]) -> WriteVerdict
-    requires { Judgeable b beats.now }
-    ensures { Ok result ≡ verdict_from b 0 (write_beats b.bus beats.now) 0 }
+fn judge_beats(accepted: AcceptedBurst, beats: &[u8]) -> WriteVerdict
+    requires { Judgeable accepted.burst beats.now }
+    ensures { Ok result ≡ verdict_from accepted.burst 0 (write_beats accepted.burst.bus beats.now) 0 }
 {
+    let b = accepted.burst;
     let size = beat_size(b.bus);
     let mut high = 0;
     for (k, rec) in beats.chunks_exact(size).enumerate() {
-        if let Some(rule) = rule_of(b, k, rec) {
+        if let Some(rule) = rule_of(accepted, k, rec) {
             return WriteVerdict::Broken(k, rule);
         }
         high += high_strobes(b.bus, rec);
@@ -102,15 +104,16 @@ fn judge_beats(b: Burst, beats: &[u8]) -> WriteVerdict
 }
 
 // The lowest rule that beat k breaks. W4 comes first here, since no other rule reads a beat past the last.
-fn rule_of(b: Burst, k: usize, rec: &[u8]) -> Option<u32>
-    requires { Accepted b × BeatRecord b.bus rec.now }
-    ensures { result ≡ lowest_rule b k rec.now }
+fn rule_of(accepted: AcceptedBurst, k: usize, rec: &[u8]) -> Option<u32>
+    requires { BeatRecord accepted.burst.bus rec.now }
+    ensures { result ≡ lowest_rule accepted.burst k rec.now }
 {
-    let last = b.len as usize;
+    let last = accepted.burst.len as usize;
     if last < k {
         return Some(4);
     }
-    if stray(b, k, rec) {
+    let beat = accepted.beat(k as u32);
+    if any_outside(rec, beat.lower, beat.upper) {
         return Some(1);
     }
     match (k == last, wlast(rec)) {
@@ -126,15 +129,6 @@ fn wlast(rec: &[u8]) -> bool
     ensures { result ≡ wlast rec.now }
 {
     rec[FLAGS] % 2 == 1
-}
-
-// W1 of a beat that the burst has: whether a strobe is high outside the beat's lanes. `burst::beat` refuses no such beat.
-fn stray(b: Burst, k: usize, rec: &[u8]) -> bool
-    requires { Accepted b × (k < beats b) × BeatRecord b.bus rec.now }
-    ensures { result ≡ stray_below b.bus rec.now (beat_of b k).lower (beat_of b k).upper }
-{
-    let beat = burst::beat(b, k as u32).unwrap();
-    any_outside(rec, beat.lower, beat.upper)
 }
 
 // Whether a strobe of a record is high outside these lanes.
@@ -156,21 +150,13 @@ fn octet_outside(octet: u8, lane: u32, lower: u32, upper: u32) -> bool
     requires { (lane ≤ bus_most) × (upper < bus_most) }
     ensures { result ≡ octet_stray octet lane lower upper }
 {
-    if octet == 0 || all_inside(lane, lower, upper) {
+    if octet == 0 || lower <= lane && lane + LANES_EACH <= upper + 1 {
         return false;
     }
     let strobes = u32::from(octet);
     let below = lanes_below(lower, lane);
     let end = lanes_below(upper + 1, lane);
     strobes % (1u32 << below) != 0 || 1u32 << end <= strobes
-}
-
-// Whether the eight lanes from `lane` on lie from lower to upper.
-fn all_inside(lane: u32, lower: u32, upper: u32) -> bool
-    requires { (lane ≤ bus_most) × (upper < bus_most) }
-    ensures { result ≡ (leb lower lane && leb (lane + lanes_each) (upper + 1)) }
-{
-    lower <= lane && lane + LANES_EACH <= upper + 1
 }
 
 // How many of the eight lanes from `lane` on lie below this one.

@@ -9,6 +9,6 @@ invariant-loop-k l =
     record {
       goes_on : (goal.iterator-loop-k).can_next l.k-iterator;
       ends : (goal.iterator-loop-k).is_finite l.k-iterator;
-      each : chunks_exact_size l.k-iterator.iter ≡ beat_size l.b.bus;
-      turning : Turning l.b l.beats (chunks_exact_rest l.k-iterator.iter) l.k-iterator.count l.high;
+      each : chunks_exact_size l.k-iterator.iter ≡ beat_size l.accepted.burst.bus;
+      turning : Turning l.accepted.burst l.beats (chunks_exact_rest l.k-iterator.iter) l.k-iterator.count l.high;
     }
