@@ -21,6 +21,15 @@ pub struct Marked<'a> {
 }
 
 impl<'a> Marked<'a> {
+    // Of two arrays, of which the second has a bit for each octet of the first.
+    pub fn new(octets: &'a [u8], marks: &'a [u8]) -> Marked<'a>
+        requires { length octets.now ≡ 8 * length marks.now }
+        ensures octets { result.octets.now ≡ octets.now }
+        ensures marks { result.marks.now ≡ marks.now }
+    {
+        Marked { octets, marks }
+    }
+
     // Whether item i is a position item.
     fn mark(&self, i: usize) -> bool
         requires { i < length self.now.octets.now }

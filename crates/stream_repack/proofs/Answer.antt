@@ -50,7 +50,7 @@ module _ (s : Shape) (v : ℕ) (transfers out : List ℕ) where
   module _ (tested : first (input_checks s v transfers) ≡ None) where
     -- what the tests let through
     pub width_fits : WidthFits v
-    width_fits = (input_passed (Ok tt) tt refl s v transfers (sym tested)).1
+    width_fits = (input_passed {X = Unit {0}} (Ok tt) tt refl s v transfers (sym tested)).1
 
     ladder : repack_refusal s v transfers (length out) ≡ first later
     ladder = append-passed (input_checks s v transfers) later tested

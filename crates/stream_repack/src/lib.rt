@@ -31,11 +31,7 @@ fn convert_bare(take: &Take<'_>, v: usize, out: &mut [u8]) -> Result<usize, Refu
     if parsed.plain {
         repack_emit::emit(out, &Plain { octets: &octets }, stretches, v)
     } else {
-        let items = Marked {
-            octets: &octets,
-            marks: &marks,
-        };
-        repack_emit::emit(out, &items, stretches, v)
+        repack_emit::emit(out, &Marked::new(&octets, &marks), stretches, v)
     }
 }
 
