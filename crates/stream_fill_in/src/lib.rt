@@ -33,7 +33,7 @@ fn fill(s: Shape, capture: &mut [u8], level: bool) -> usize
 {
     let size = record_size(s);
     let count = capture.len() / size;
-    // stays: by place (tried, no proof): a proof knows nothing of what a loop over chunks_exact_mut wrote, but for its length
+    // stays: by place (tried chunks_exact_mut, no proof closes: after such a loop only the length of `capture` is known)
     for k in 0..count {
         put_last(&mut capture[k * size..], level);
     }

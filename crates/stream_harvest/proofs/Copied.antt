@@ -8,23 +8,16 @@ use lib.Seq.{take_all, take-add, take-take, length-take-le, drop-drop}
 use Rattle.stream_spec.specs.Handshake.{as_transfer}
 use Rattle.stream_spec.specs.Memory.{in_front}
 use Rattle.stream_spec.proofs.Bits.{low-number}
-use Rattle.stream_spec.proofs.Harvest.{length-kept}
 use Rattle.words.specs.Splice.{splice}
 use Rattle.words.specs.Words.{padded}
 use Rattle.words.proofs.Words.{padded-take}
-use Rattle.words.proofs.Splice.{splice-long, splice_over}
-
-pub same_length : (rec : List ℕ) → 0 < length rec → length (as_transfer rec) ≡ length rec
-same_length rec h = length-kept (length rec) rec h refl
+use Rattle.words.proofs.Splice.{splice_over}
 
 -- ---- one group
 
 -- the part from `at` on is lent, and the first n octets of it are wanted
 part-all : (i : ℕ) (rec : List ℕ) → take (length rec - i) (drop i rec) ≡ drop i rec
 part-all i rec = take_all (length rec - i) (drop i rec) (omega (arith, length-drop i rec))
-
-pub part-long : (i : ℕ) (rec : List ℕ) → length (take (length rec - i) (drop i rec)) ≡ length rec - i
-part-long i rec = rw (part-all i rec) (length-drop i rec)
 
 pub group_is : (n i : ℕ) (rec : List ℕ) → i + n ≤ length rec → padded n n (take (length rec - i) (drop i rec)) ≡ take n (drop i rec)
 group_is n i rec h = rw (part-all i rec) (padded-take n (drop i rec) (omega (arith, length-drop i rec)))
@@ -38,11 +31,6 @@ copied rec out j = splice 1 (take j (drop 1 rec)) (set out 0 (get_or rec 0 0 % 2
 module _ (rec out : List ℕ) (room : length rec ≤ length out) where
   group_long : (n i : ℕ) → i + n ≤ length rec → length (take n (drop i rec)) ≡ n
   group_long n i h = length-take-le n (drop i rec) (omega (arith, length-drop i rec))
-
-  pub copied_long : (j : ℕ) → 1 + j ≤ length rec → length (copied rec out j) ≡ length out
-  copied_long j h =
-      splice-long 1 (take j (drop 1 rec)) (set out 0 (get_or rec 0 0 % 2)) (omega (arith, group_long j 1 h, length-set out 0 (get_or rec 0 0 % 2)))
-      ∙ length-set out 0 (get_or rec 0 0 % 2)
 
   -- n octets more, from behind octet a on: those that stand there already are written once more
   pub copied_over : (a j n : ℕ) → a ≤ j → j ≤ a + n → 1 + (a + n) ≤ length rec

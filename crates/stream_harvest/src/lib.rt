@@ -28,6 +28,7 @@ fn put_transfer(rec: &[u8], out: &mut [u8])
     requires { RecordFits rec.now out.old }
     ensures { out.new ≡ in_front (as_transfer rec.now) out.old }
 {
+    // stays: groups and not copy_from_slice (tried, proved, too slow: 1.46 of the yardstick's time at width 1, groups 0.9)
     let n = rec.len();
     out[FLAGS] = rec[FLAGS] % 2;
     words::place(out, TID, &rec[TID..], 7, 7);
@@ -58,7 +59,7 @@ fn put_cycles(take: &Take<'_>, out: &mut [u8])
     requires { length (harvested take.now.shape take.now.octets.now) ≤ length out.old }
     ensures { out.new ≡ in_front (harvested take.now.shape take.now.octets.now) out.old }
 {
-    // stays: each is lent `out` from its place on, since a proof knows nothing of what is written through chunks_exact_mut
+    // stays: a place counted (over chunks_exact_mut no proof closes: after such a loop only the length of `out` is known)
     let mut to = 0;
     for rec in take.records() {
         to += put_cycle(rec, &mut out[to..]);

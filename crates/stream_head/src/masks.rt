@@ -27,7 +27,5 @@ pub fn breaks(rec: &[u8], z: Zeros) -> bool
     requires { head_octets ≤ length rec.now }
     ensures { TellsFault z rec.now result }
 {
-    let low = words::load::<u32>(rec, FLAGS);
-    let high = words::load::<u32>(rec, TKEEP);
-    low & z.low != 0 || high & z.high != 0
+    words::load::<u32>(rec, FLAGS) & z.low != 0 || words::load::<u32>(rec, TKEEP) & z.high != 0
 }
