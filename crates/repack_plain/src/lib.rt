@@ -46,6 +46,7 @@ pub trait Items {
             last: false,
         };
         let mut d = c;
+        // stays: no iterator is plainer. Octet, item and what is left go on together, and what is read reaches past a record's items.
         while v < d.left {
             self.put_record(&mut out[d.to..], d.from, v, v, inside);
             d.to += size;
@@ -83,6 +84,7 @@ fn put_ones(out: &mut [u8], octets: &[u8], mut c: Cursor, head: Head) -> Cursor
     requires { (c.from + c.left + 32 ≤ length octets.now) × StretchFits 0 1 head (map data_code octets.now) out.old c }
     ensures { (result.left ≤ 1) × Advanced 0 1 head (map data_code octets.now) out.old c out.new result }
 {
+    // stays: chunks of 8 zipped with octets are no plainer: both ranges subtract the last item, and may be empty.
     while 1 < c.left {
         stream_write::write_one(&mut out[c.to..], head.pair, octets[c.from]);
         c.to += 8;
@@ -101,6 +103,7 @@ fn put_fulls(out: &mut [u8], octets: &[u8], mut c: Cursor, v: usize, head: Head)
         pair: head.pair,
         last: false,
     };
+    // stays: no iterator is plainer, as in `Items::put_stretch`: sixteen octets are read for each record's items.
     while v < c.left {
         put_plain(&mut out[c.to..], &octets[c.from..], v, v, inside);
         c.to += repack_scratch::record_size(v);
