@@ -1,5 +1,5 @@
 -- The steps of the report: a law for each way that the code ends and the check does not find alone. Assumes nothing.
-use Rattle.std.specs.Prelude.{Option, None, Some, Result, Ok, Err}
+use Rattle.std.specs.Prelude.{Option, None, Some, Result, Err}
 use Rattle.std.specs.Result.{is_ok, result_err, IsOk}
 use mathlib.Core.Path.{◌≡◌, refl, sym, ap, ◌∙◌, subst}
 use mathlib.Core.Bool.{Bool, true, false, cond}
@@ -12,12 +12,10 @@ use Rattle.refusal.specs.declared.Refusal.TheVariants.{Length}
 use Rattle.refusal.specs.Checks.{first}
 use Rattle.stream_spec.specs.declared.Shape.{Shape}
 use Rattle.stream_spec.specs.declared.Verdict.{Verdict as Judgement}
-use Rattle.stream_spec.specs.Checks.{width_check, user_check, length_check, take_checks}
-use Rattle.stream_spec.specs.Layout.{records}
+use Rattle.stream_spec.specs.Checks.{width_check, user_check, length_check}
 use Rattle.stream_spec.specs.Walk.{Passed}
 use Rattle.stream_spec.specs.Handshake.{low, high}
-use Rattle.stream_spec.specs.Memory.{in_front}
-use Rattle.stream_spec.specs.Answers.{written, judge_answer, fill_answer, fill_after, FilledIn}
+use Rattle.stream_spec.specs.Answers.{judge_answer, fill_answer, fill_after, FilledIn}
 use Rattle.stream_spec.proofs.Fill.{refused-kept}
 use Rattle.stream_spec.proofs.Passed.{passed-checks}
 use Rattle.stream_record.proofs.Tests.{refused-is}

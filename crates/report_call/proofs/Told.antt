@@ -1,21 +1,16 @@
 -- Laws of the verdict's text: its lines, put one after the other. Assumes nothing.
-use Rattle.std.specs.Prelude.{Result, Ok, Err}
-use mathlib.Core.Path.{◌≡◌, refl, sym, ap, ap₂, ◌∙◌, subst}
+use mathlib.Core.Path.{◌≡◌, refl, sym, ap, ◌∙◌}
 use mathlib.Core.List.{List, [], ◌∷◌, ◌++◌, append_assoc, append-nil}
 use Prim.Native.Nat.{ℕ, ◌+◌, ◌^◌, ◌≤◌, ◌<◌}
-use native.Mathlib.Nat.{zero-add}
 use native.Mathlib.Numerals.{add-one}
 use native.Mathlib.Omega.{arith}
-use borrow.Author.Tests.{lt-ltb, le-ltb}
 use denote.Ref.{Bor}
 use lib.ListN.{length, take, drop, get_or, length-append, take-append-drop}
-use lib.Seq.{take_all, take-suc, take-append_seam}
-use Rattle.stream_spec.specs.Memory.{in_front}
+use lib.Seq.{take-suc}
 use Rattle.text.specs.Text.{line, Put}
 use Rattle.text.proofs.Laws.{put_long, put_put}
-use Rattle.report_spec.specs.Report.{text_most}
 use Rattle.report_spec.proofs.Short.{line-short}
-use Rattle.report_call.specs.Steps.{lines_of, lines_most, Rendered}
+use Rattle.report_call.specs.Steps.{lines_of, lines_most}
 
 abbrev Line : Type 0
 Line = Bor (List ℕ) × ℕ

@@ -11,7 +11,7 @@ use Rattle.report_setup_spec.specs.declared.Setup.{Setup}
 use Rattle.report_setup_spec.specs.declared.Mode.{Mode}
 use Rattle.report_setup_spec.specs.declared.Mode.TheVariants.{Pack, Lanes}
 use Rattle.report_spec.specs.declared.Verdict.{Verdict}
-use Rattle.report_spec.specs.Report.{Outcome, shape_of, convert_answer, converted_transfers, after_judging, capture_outcome, setup_outcome, outcome_of, fitting, text_most}
+use Rattle.report_spec.specs.Report.{Outcome, shape_of, convert_answer, converted_transfers, after_judging, capture_outcome, outcome_of, fitting, text_most}
 use Rattle.report_call.specs.declared.outcome.Ending.{Ending}
 
 -- the verdict and the octets of result that an ending stands for

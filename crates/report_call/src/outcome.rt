@@ -131,12 +131,7 @@ impl Job {
     }
 
     // Of a clean take. Its transfers go into an array of this function's own; they are never longer than a take.
-    fn of_clean(
-        self,
-        count: usize,
-        cycles: &[u8],
-        out: &mut [u8],
-    ) -> Result<Ending, Refusal>
+    fn of_clean(self, count: usize, cycles: &[u8], out: &mut [u8]) -> Result<Ending, Refusal>
         requires { judge_answer (shape_of self.setup) cycles.now ≡ Ok (Sound count) }
         ensures { OfClean self.setup count cycles.now out.old out.new result }
     {

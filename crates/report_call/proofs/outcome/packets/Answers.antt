@@ -18,9 +18,12 @@ pub loop-rec-preserved : goal.loop-rec-preserved
 loop-rec-preserved c =
     let t = c.args.transfers.now in
     let st = c.in-Some.ensures.steps in
-    let inv = c.loop-rec.invariant in
-    (search rules, tt, st.0 ∙ inv.2,
-    counted_next t.shape t.octets.now _ _ inv.3 _ _ st.1.0 (st.1.1 ∙ inv.2) _ (rw (← c.from.ensures) c.tlast.ensures.0) (omega (arith, c.tlast.ensures.1)))
+    let inv = c.loop-rec.invariant in (
+      search rules,
+      tt,
+      st.0 ∙ inv.2,
+      counted_next t.shape t.octets.now _ _ inv.3 _ _ st.1.0 (st.1.1 ∙ inv.2) _ (rw (← c.from.ensures) c.tlast.ensures.0) (omega (arith, c.tlast.ensures.1)),
+    )
 
 pub returns : goal.returns
 returns c =
