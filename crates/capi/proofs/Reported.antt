@@ -1,8 +1,10 @@
 -- What C is told of a report: the numbers of its verdict, and what the report leaves in lent memory. Assumes nothing.
+use Rattle.std.specs.Prelude.{Result}
 use mathlib.Core.Path.{◌≡◌, sym, subst}
 use mathlib.Core.List.{List}
 use Prim.Native.Nat.{ℕ}
 use lib.ListN.{length}
+use Rattle.refusal.specs.declared.Refusal.{Refusal}
 use Rattle.report_spec.specs.declared.Summary.{Summary}
 use Rattle.report_spec.specs.declared.Verdict.{Verdict}
 use Rattle.report_spec.specs.Report.{Whole, Reported, fitting}
@@ -10,7 +12,7 @@ use Rattle.capi.specs.declared.report_calls.ReportAnswer.{ReportAnswer}
 use Rattle.capi.specs.Reports.{ShowsVerdict, ShowsWhole}
 
 -- a verdict x that was found to be y shows what y shows
-pub shown : (a : ReportAnswer) (text octets : ℕ) {x y : Verdict} → x ≡ y → ShowsVerdict a y text octets → ShowsVerdict a x text octets
+pub shown : (a : ReportAnswer) (text octets : ℕ) {x y : Result Verdict Refusal} → x ≡ y → ShowsVerdict a y text octets → ShowsVerdict a x text octets
 shown a text octets e h = subst (λ v. ShowsVerdict a v text octets) (sym e) h
 
 -- the report answered r, and a shows the verdict of r and its two lengths

@@ -1,4 +1,5 @@
 -- What C is told of a burst's and of a stream's answer: the numbers that its definition shows. Assumes nothing.
+use Rattle.std.specs.Prelude.{Ok, Err}
 use mathlib.Core.Path.{◌≡◌, sym, ap, ◌∙◌, subst}
 use mathlib.Core.List.{List}
 use Prim.Native.Nat.{ℕ}
@@ -10,7 +11,6 @@ use mir.Syntax.{w32}
 use mir.Val.{SFits}
 use native.Mathlib.Omega.{arith}
 use Rattle.burst_spec.specs.declared.Burst.{Burst}
-use Rattle.burst_spec.specs.declared.StepAnswer.TheVariants as step
 use Rattle.burst_spec.specs.Answers.{step_answer}
 use Rattle.burst_spec.specs.Answers as burst
 use Rattle.burst_spec.proofs.Answers.{answered-step}
@@ -36,7 +36,7 @@ fits (pos n) a b = record { sfits = omega (arith, leb→le n 128 b.le) }
 fits (negsuc n) a b = record { sfits = omega (arith, leb→le n 1919 a.le) }
 
 -- the step that a call answers fits 32 bits
-pub step_fits : (x : Burst) (k : ℕ) (d : ℤ) → step.By d ≡ step_answer x k → SFits w32 d
+pub step_fits : (x : Burst) (k : ℕ) (d : ℤ) → Ok d ≡ step_answer x k → SFits w32 d
 step_fits x k d e =
     let h = answered-step x k d e in
     let r = step_in_range x h.1.legal k in
