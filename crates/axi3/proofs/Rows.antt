@@ -1,5 +1,5 @@
 -- A row of bursts while a cut is written to it, and when it is written. Assumes nothing.
-use Rattle.std.specs.Prelude.{Option, None, Some, Result}
+use Rattle.std.specs.Prelude.{Option, None, Some, Result, Err}
 use Rattle.std.proofs.lemmas.List.{drop_all}
 use mathlib.Core.List.{List, [], ◌∷◌, ◌++◌, append-nil}
 use mathlib.Core.Path.{◌≡◌, refl, sym, ap, ◌∙◌}
@@ -10,13 +10,11 @@ use lib.ListN.{length, set, take, drop, get_or}
 use lib.Seq.{drop-cons, set-append_seam, append_snoc, length-take-le}
 use Rattle.refusal.specs.declared.Refusal.{Refusal}
 use Rattle.burst_spec.specs.declared.Burst.{Burst}
-use Rattle.burst_spec.specs.Legal.{Accepted}
-use Rattle.burst_spec.proofs.Answers.{accepted_exactly}
 use Rattle.axi3_spec.specs.Cut.{piece_count, piece, run, pieces}
-use Rattle.axi3_spec.specs.Answers.{cut_refusal, cut_for, cut_after, row_for, Answered}
+use Rattle.axi3_spec.specs.Answers.{cut_refusal, cut_for, cut_after, row_for, Answered, Cut}
 use Rattle.axi3.specs.Rows.{used_of, filled}
 use Rattle.axi3_spec.proofs.Runs.{run_length, run-last}
-use Rattle.axi3_spec.proofs.Answers.{none-refused}
+use Rattle.axi3_spec.proofs.Answers.{refused-is}
 
 -- what an answer counts, by the first refusal
 pub used_is : (x : Burst) (room : ℕ) (r : Result ℕ Refusal) → Answered x room r → (o : Option Refusal) → cut_refusal x room ≡ o
@@ -47,29 +45,10 @@ module _ (x : Burst) (row : List Burst) where
       let none : drop n (take n row) ≡ [] = drop_all n (take n row) (omega (arith, length-take-le n row h)) in
       ap (λ l. l ++ drop n row) (e ∙ ap (λ l. run (piece x) 0 n ++ l) none ∙ append-nil (run (piece x) 0 n))
 
-  -- what is known of burst j of those that an answer says are written
-  pub record Written (j : ℕ) : Type 0 where
-    pub accepted : Accepted x
-    pub counted : j < piece_count x
-    pub below : j < length row
-
-  pub written : (r : Result ℕ Refusal) → Answered x (length row) r → (j : ℕ) → j < used_of r → Written j
-  written r a j h = go (cut_refusal x (length row)) refl
-    where
-      go : (o : Option Refusal) → cut_refusal x (length row) ≡ o → Written j
-      go (Some q) e = absurd (omega (arith, used_is x (length row) r a (Some q) e))
-      go None e =
-          let f = none-refused x (length row) e in
-          let counted : j < piece_count x = omega (arith, used_is x (length row) r a None e) in
-          record { accepted = (accepted_exactly x).0 f.0; counted = counted; below = omega (arith, f.1) }
-
-  -- and there is room for all of them
-  pub written-most : (r : Result ℕ Refusal) → Answered x (length row) r → used_of r ≤ length row
-  written-most r a = go (cut_refusal x (length row)) refl
-    where
-      go : (o : Option Refusal) → cut_refusal x (length row) ≡ o → used_of r ≤ length row
-      go (Some q) e = omega (arith, used_is x (length row) r a (Some q) e)
-      go None e = omega (arith, used_is x (length row) r a None e, (none-refused x (length row) e).1)
+  -- refused, the row keeps its content
+  pub row_kept : (r : Refusal) → Answered x (length row) (Err r) → Cut x row (Err r) row
+  row_kept r a =
+      record { answers = a; leaves = sym (ap (λ o. row_for o (pieces x) row) (refused-is x (length row) r a.is)) }
 
   filled_by : (o : Option Refusal) → filled x (used_of (cut_for o (piece_count x))) row ≡ row_for o (pieces x) row
   unfolding filled

@@ -4,14 +4,13 @@
 #![tactic(auto)]
 
 ghost use Rattle.std.specs.Prelude.{◌≡◌, ◌+◌, ◌*◌, ◌≤◌, ◌<◌, min, length};
-ghost use Rattle.burst_spec.specs.Address.{beats, beat_address};
-ghost use Rattle.burst_spec.specs.Legal.{Accepted};
 ghost use Rattle.axi3_spec.specs.Cut.{piece_count, piece};
-ghost use Rattle.axi3_spec.specs.Answers.{row_length, blank_row, numbers_each, numbers_of, Answered, Cut, CutAlone, CutNumbers};
+ghost use Rattle.axi3_spec.specs.Answers.{row_length, blank_row, numbers_each, numbers_of, Cut, CutAlone, CutNumbers};
 ghost use Rattle.axi3.specs.Rows.{laid};
 
 use axi3_spec::{CutRow, ROW_LENGTH};
-use burst_spec::{Address, Burst, Kind};
+use burst::AcceptedBurst;
+use burst_spec::{Burst, Kind};
 use refusal::Refusal;
 
 // "Older boards take at most 16 beats".
@@ -25,9 +24,13 @@ const NUMBERS_EACH: usize = 5;
 pub fn cut(b: Burst, row: &mut [Burst]) -> Result<usize, Refusal>
     ensures { Cut b row.old result row.new }
 {
-    let count = planned(b, row.len())?;
+    let accepted = AcceptedBurst::new(b)?;
+    let count = piece_count(accepted);
+    if row.len() < count {
+        return Err(Refusal::Room);
+    }
     for (j, place) in row[..count].iter_mut().enumerate() {
-        *place = piece(b, j);
+        *place = piece(accepted, j);
     }
     Ok(count)
 }
@@ -52,45 +55,25 @@ pub fn cut_numbers(b: Burst, row: &mut [u64]) -> Result<usize, Refusal>
     Ok(count)
 }
 
-// What cutting a burst into so many descriptions answers.
-fn planned(b: Burst, room: usize) -> Result<usize, Refusal>
-    ensures { Answered b room result }
-{
-    burst::judge(b)?;
-    let count = piece_count(b);
-    if room < count {
-        return Err(Refusal::Room);
-    }
-    Ok(count)
-}
-
 // How many bursts an accepted burst is cut into: its beats, in sixteens, rounded up. FIXED and WRAP have 16 at most.
-fn piece_count(b: Burst) -> usize
-    requires { Accepted b }
-    ensures { result ≡ piece_count b }
+fn piece_count(accepted: AcceptedBurst) -> usize
+    ensures { result ≡ piece_count accepted.burst }
 {
-    (b.len / BEATS_MOST + 1) as usize
+    (accepted.burst.len / BEATS_MOST + 1) as usize
 }
 
 // Burst j of the list.
-fn piece(b: Burst, j: usize) -> Burst
-    requires { Accepted b × (j < piece_count b) }
-    ensures { result ≡ piece b j }
+fn piece(accepted: AcceptedBurst, j: usize) -> Burst
+    requires { j < piece_count accepted.burst }
+    ensures { result ≡ piece accepted.burst j }
 {
+    let b = accepted.burst;
     let from = BEATS_MOST * (j as u32);
     Burst {
-        start: beat_address(b, from),
+        start: accepted.address_of(from),
         len: (b.len - from).min(BEATS_MOST - 1),
         ..b
     }
-}
-
-// The address of beat k of an accepted burst; no other is asked for.
-fn beat_address(b: Burst, k: u32) -> Address
-    requires { Accepted b × (k < beats b) }
-    ensures { result ≡ beat_address b k }
-{
-    burst::beat(b, k).unwrap().address
 }
 
 // A row of descriptions that say nothing. 16 are room for every cut.

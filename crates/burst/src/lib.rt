@@ -3,14 +3,13 @@
 // this file, the tests of the refusals, the beats of an accepted burst, and the arithmetic on addresses.
 #![tactic(auto)]
 
-ghost use Rattle.std.specs.Prelude.{not, ◌≡◌, ◌/◌, ◌%◌, ◌^◌, ◌≤◌, ◌<◌};
+ghost use Rattle.std.specs.Prelude.{Err, IfOk, IfErr, not, ◌≡◌, ◌/◌, ◌%◌, ◌^◌, ◌≤◌, ◌<◌};
 ghost use Rattle.std.proofs.Math.IntN.{sub_ℕ};
-ghost use Rattle.burst_spec.specs.Address.{bytes, beats, round_down, beat_address, beat_at};
-ghost use Rattle.burst_spec.specs.Answers.{kind_of, burst_of, judgement_for, Judged, BeatGiven, StepGiven};
-ghost use Rattle.burst_spec.specs.Checks.{block, axsize_most, bus_most, bus_allowed, too_wide, is_reserved, count_allowed, count_refused, misaligned, crosses, indexed_checks};
+ghost use Rattle.burst_spec.specs.Address.{bytes, beats, round_down, beat_address, beat_at, beat_of};
+ghost use Rattle.burst_spec.specs.Answers.{kind_of, burst_of, judgement, Judged, BeatGiven, StepGiven};
+ghost use Rattle.burst_spec.specs.Checks.{block, axsize_most, bus_most, bus_allowed, too_wide, is_reserved, count_allowed, count_refused, misaligned, crosses};
 ghost use Rattle.burst_spec.specs.Legal.{Power, Legal, Accepted};
 ghost use Rattle.burst_spec.specs.declared.Kind.TheVariants.{Incr, Wrap};
-ghost use Rattle.refusal.specs.Checks.{first};
 
 use burst_spec::{Address, Beat, Burst, Kind};
 use refusal::Refusal;
@@ -84,29 +83,24 @@ pub fn judge_numbers(
 pub fn beat(b: Burst, k: u32) -> Result<Beat, Refusal>
     ensures { BeatGiven b k result }
 {
-    judge_indexed(b, b.len < k)?;
-    Ok(beat_at(b, address_of(b, k)))
+    let accepted = AcceptedBurst::new(b)?;
+    if b.len < k {
+        return Err(Refusal::Index);
+    }
+    Ok(accepted.beat(k))
 }
 
 // The step from beat k to beat k + 1; or a refusal, 7 to 12 in order, then 13 where there is no next beat.
 pub fn step(b: Burst, k: u32) -> Result<i32, Refusal>
     ensures { StepGiven b k result }
 {
-    judge_indexed(b, b.len <= k)?;
-    let from = address_of(b, k);
-    let to = address_of(b, k + 1);
-    Ok(distance(from, to))
-}
-
-// 7 to 12, and then 13 INDEX where the beat that is asked for is missing.
-fn judge_indexed(b: Burst, missing: bool) -> Result<(), Refusal>
-    ensures { result ≡ judgement_for (first (indexed_checks b missing)) }
-{
-    judge(b)?;
-    if missing {
+    let accepted = AcceptedBurst::new(b)?;
+    if b.len <= k {
         return Err(Refusal::Index);
     }
-    Ok(())
+    let from = accepted.address_of(k);
+    let to = accepted.address_of(k + 1);
+    Ok(distance(from, to))
 }
 
 // The tests of refusals 7 to 12: true where the burst is refused for it. A test counts only on those before it.
@@ -175,48 +169,74 @@ fn leaves_block(b: Burst) -> bool
     BLOCK < offset + beats * bytes
 }
 
-// The beats of an accepted burst.
+// A burst that is allowed, so its beats can be asked for without another test.
+#[derive(Clone, Copy)]
+pub struct AcceptedBurst {
+    pub burst: Burst,
+    ghost accepted: { Accepted burst },
+}
 
-// INCR: beat 0 is at the start, beat k at the aligned address and k beats further.
-fn incr_address(b: Burst, k: u32) -> Address
-    requires { Accepted b × (b.kind ≡ Incr) × (k < beats b) }
-    ensures { result ≡ beat_address b k }
-{
-    let start = b.start;
-    if k == 0 {
-        return start;
+impl AcceptedBurst {
+    // The burst, where it is allowed; or the first of refusals 7 to 12 that holds.
+    pub fn new(burst: Burst) -> Result<AcceptedBurst, Refusal>
+        ensures accepted { IfOk result (λ a. a.burst ≡ burst) }
+        ensures refused { IfErr result (λ r. judgement burst ≡ Err r) }
+    {
+        judge(burst)?;
+        Ok(AcceptedBurst { burst })
     }
-    let bytes = bytes_of(b.size);
-    let aligned = round_down(start, bytes);
-    aligned + wide(k) * bytes
-}
 
-// WRAP: the offset from the wrap boundary goes round in the burst's container. The container's end is never worked out: at
-// the top of memory it is no address.
-fn wrap_address(b: Burst, k: u32) -> Address
-    requires { Accepted b × (b.kind ≡ Wrap) × (k < beats b) }
-    ensures { result ≡ beat_address b k }
-{
-    let start = b.start;
-    let bytes = bytes_of(b.size);
-    let container = bytes * wide(b.len + 1);
-    let offset = low_part(start, container) + wide(k) * bytes;
-    let boundary = round_down(start, container);
-    let turned = low_part(offset, container);
-    boundary + turned
-}
+    // Beat k, counted from 0.
+    pub fn beat(self, k: u32) -> Beat
+        requires { k < beats self.burst }
+        ensures { result ≡ beat_of self.burst k }
+    {
+        beat_at(self.burst, self.address_of(k))
+    }
 
-// The address of beat k.
-fn address_of(b: Burst, k: u32) -> Address
-    requires { Accepted b × (k < beats b) }
-    ensures { result ≡ beat_address b k }
-{
-    let kind = b.kind;
-    match kind {
-        Kind::Fixed => b.start,
-        Kind::Incr => incr_address(b, k),
-        Kind::Wrap => wrap_address(b, k),
-        Kind::Reserved => b.start,
+    // The address of beat k.
+    pub fn address_of(self, k: u32) -> Address
+        requires { k < beats self.burst }
+        ensures { result ≡ beat_address self.burst k }
+    {
+        let b = self.burst;
+        match b.kind {
+            Kind::Fixed => b.start,
+            Kind::Incr => self.incr_address(k),
+            Kind::Wrap => self.wrap_address(k),
+            Kind::Reserved => b.start,
+        }
+    }
+
+    // INCR: beat 0 is at the start, beat k at the aligned address and k beats further.
+    fn incr_address(self, k: u32) -> Address
+        requires { (self.burst.kind ≡ Incr) × (k < beats self.burst) }
+        ensures { result ≡ beat_address self.burst k }
+    {
+        let b = self.burst;
+        let start = b.start;
+        if k == 0 {
+            return start;
+        }
+        let bytes = bytes_of(b.size);
+        let aligned = round_down(start, bytes);
+        aligned + wide(k) * bytes
+    }
+
+    // WRAP: the offset from the wrap boundary goes round in the burst's container. The container's end is never worked out: at
+    // the top of memory it is no address.
+    fn wrap_address(self, k: u32) -> Address
+        requires { (self.burst.kind ≡ Wrap) × (k < beats self.burst) }
+        ensures { result ≡ beat_address self.burst k }
+    {
+        let b = self.burst;
+        let start = b.start;
+        let bytes = bytes_of(b.size);
+        let container = bytes * wide(b.len + 1);
+        let offset = low_part(start, container) + wide(k) * bytes;
+        let boundary = round_down(start, container);
+        let turned = low_part(offset, container);
+        boundary + turned
     }
 }
 

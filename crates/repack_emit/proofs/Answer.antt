@@ -7,23 +7,21 @@ use native.Mathlib.Omega.{arith}
 use borrow.Author.Tests.{lt-ltb, le-ltb}
 use lib.ListN.{length}
 use Rattle.refusal.specs.declared.Refusal.TheVariants.{Room}
-use Rattle.stream_spec.specs.declared.Written.TheVariants.{Records, Refused}
+use Rattle.std.specs.Prelude.{Ok, Err}
 use Rattle.stream_spec.specs.Packed.{pack_stretches}
-use Rattle.stream_spec.specs.Layout.{width_most, user_most, size, size_most, shaped}
+use Rattle.stream_spec.specs.Layout.{size, size_most, shaped}
 use Rattle.stream_spec.specs.Memory.{in_front}
 use Rattle.stream_spec.proofs.Records.{length-octets}
+use Rattle.repack_scratch.specs.declared.Entry.{Entry}
 use Rattle.repack_scratch.specs.Codes.{stretch_room, stretches_of, total}
 use Rattle.repack_emit.specs.Emit.{packed_from, count_of, Emitted}
-use Rattle.stream_spec.proofs.Size.{size-most}
 use Rattle.repack_emit.proofs.Tables.{count-is, wide_stretches}
 
 -- a record has at most 31 octets, so that the product fits
-pub product_fits : (m v n z : ℕ) → m ≤ user_most → v ≤ width_most → z ≡ size (shaped v m) → n ≤ 0x10000 * stretch_room → n * z < 2 ^ 64
-product_fits m v n z u h e l =
-    let short : z ≤ size_most = omega (arith, size-most (shaped v m) h u) in
-    omega (arith, mul-le-mul_left n short)
+pub product_fits : (n z : ℕ) → z ≤ size_most → n ≤ 0x10000 * stretch_room → n * z < 2 ^ 64
+product_fits n z h l = omega (arith, mul-le-mul_left n h)
 
-module _ (m v : ℕ) (items table out : List ℕ) (n z : ℕ) (held : total table ≤ length items) (counted : n ≡ count_of v table)
+module _ (m v : ℕ) (items : List ℕ) (table : List Entry) (out : List ℕ) (n z : ℕ) (held : total table ≤ length items) (counted : n ≡ count_of v table)
     (sized : z ≡ size (shaped v m)) where
   number : n ≡ length (pack_stretches v (stretches_of table items))
   number = counted ∙ count-is v table items held
@@ -33,7 +31,7 @@ module _ (m v : ℕ) (items table out : List ℕ) (n z : ℕ) (held : total tabl
       length-octets (shaped v m) (pack_stretches v (stretches_of table items)) (wide_stretches v (stretches_of table items))
       ∙ rw (← number, ← sized) refl
 
-  pub emit_refused : length out < n * z → Emitted m v items table out out (Refused Room)
+  pub emit_refused : length out < n * z → Emitted m v items table out out (Err Room)
   emit_refused h =
       let short : length out < length (packed_from m v table items) = rw packed-long h in
       record {
@@ -43,7 +41,7 @@ module _ (m v : ℕ) (items table out : List ℕ) (n z : ℕ) (held : total tabl
 
   pub emit_written : (after : List ℕ) → n * z ≤ length out
       → after ≡ in_front (packed_from m v table items) out
-      → Emitted m v items table out after (Records n)
+      → Emitted m v items table out after (Ok n)
   emit_written after h e =
       let room : length (packed_from m v table items) ≤ length out = rw packed-long h in
       record {

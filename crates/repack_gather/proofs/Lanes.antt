@@ -22,26 +22,6 @@ use Rattle.repack_sieve.specs.Kept.{kept_octet, kept_octets, Collected}
 use Rattle.repack_sieve.proofs.Kept.{kept_split, collected_as, stored_kept}
 use Rattle.repack_gather.specs.Gather.{Clear}
 
--- ---- one lane
-
-pub lane-kept : (o : List ℕ) (n x k : ℕ) → n < length o → Collected 1 k (x ∷ []) o n (set o n x) (n + k % 2)
-lane-kept o n x k h =
-    record {
-      same = length-set o n x;
-      beyond = omega arith;
-      within = omega arith;
-      is = go (odd k) refl;
-    }
-  where
-    go : (b : Bool) → odd k ≡ b → take (n + k % 2) (set o n x) ≡ take n o ++ (kept_octet k x ++ [])
-    go true e =
-        let bit : k % 2 ≡ 1 = eqb-true (k % 2) 1 e in
-        rw (bit, add-one n, take-suc-set o n x h) refl
-    go false e =
-        let odd : k % 2 ≡ 1 → ⊥ = eqb-false (k % 2) 1 e in
-        let bit : k % 2 ≡ 0 = omega arith in
-        rw (bit, add-zero n, take-set-le n o n x (omega arith)) (sym (append-nil (take n o)))
-
 -- ---- all lanes
 
 -- a mask of all ones keeps every lane
@@ -65,13 +45,6 @@ all-kept w m lanes octets after at l h e =
     let long = length-padded m m lanes in
     stored_kept w (2 ^ w - 1) at w lanes (padded m m lanes) octets after (omega (arith, long)) (omega (arith, long))
     (take-padded w m m lanes l ∙ padded-enough w m lanes l ∙ sym (kept_full w lanes)) e
-
--- one lane of a take
-pub one_kept : (w from keep at r : ℕ) (input o after : List ℕ) → w ≡ 1 → at + 1 ≤ length o → Collected 1 keep (get_or input from 0 ∷ []) o at after r
-    → Collected w keep (drop from input) o at after r
-one_kept w from keep at r input o after e h f =
-    let first : get_or (drop from input) 0 0 ≡ get_or input from 0 = get_or-drop from input 0 0 ∙ rw (add-zero from) refl in
-    rw e (collected_as 1 1 keep keep at r (get_or input from 0 ∷ []) (drop from input) o after h (rw first refl) f)
 
 -- ---- the lane loop
 

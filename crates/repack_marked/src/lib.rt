@@ -10,7 +10,6 @@ ghost use Rattle.repack_plain.specs.Write.{item_octet, item_strobe, record_at, R
 ghost use Rattle.repack_marked.specs.Marked.{items_from, lanes_put};
 
 use repack_plain::{Head, Items};
-use stream_record::Header;
 use stream_record::layout::HEAD_OCTETS;
 
 // An octet for each item, and a mark, which is a bit, for a position item. Up to 32 behind them may be read.
@@ -56,21 +55,12 @@ impl<'a> Marked<'a> {
 
     // A record with the n items from item `from` on, lane by lane, at the front of `out`.
     fn put_lanes(&self, out: &mut [u8], from: usize, n: usize, v: usize, head: Head)
-        requires { (from + n ≤ length self.now.octets.now) × RecordFits 0 v n head out.old }
-        ensures { out.new ≡ record_at 0 v head.pair head.last (codes_in self.now.octets.now self.now.marks.now) from n ++ drop (size (of_width v)) out.old }
+        requires { (from + n ≤ length self.now.octets.now) × RecordFits 0 v n out.old }
+        ensures { out.new ≡ record_at 0 v head (codes_in self.now.octets.now self.now.marks.now) from n ++ drop (size (of_width v)) out.old }
     {
         let strb = self.put_items(out, from, n);
         stream_write::write_nulls(out, n, v);
-        stream_write::write_header(
-            out,
-            Header {
-                flags: head.last,
-                tid: (head.pair % 0x100) as u8,
-                tdest: (head.pair / 0x100 % 0x100) as u8,
-                keep: (1u32 << n) - 1,
-                strb,
-            },
-        );
+        stream_write::write_header(out, head.header(n, strb));
     }
 }
 

@@ -1,5 +1,4 @@
--- What a header tells of its record's fault: all of it where there are no user bits, and a record of data lanes then has none where
--- the fields of its head are as they should be. Assumes nothing.
+-- A record of data lanes without user bits has no fault where the fields of its head are as they should be. Assumes nothing.
 use Rattle.std.specs.Prelude.{None}
 use mathlib.Core.Path.{◌≡◌, refl, ◌∙◌}
 use mathlib.Core.Bool.{Bool, true, false, ◌||◌}
@@ -8,23 +7,8 @@ use Prim.Native.Nat.{ℕ, zero, suc, ◌/◌}
 use Rattle.refusal.specs.Checks.{first}
 use Rattle.stream_spec.specs.Layout.{of_width, odd, lane_type, types_of, is_reserved, any_reserved, flags, pair_of, tkeep, tstrb}
 use Rattle.stream_spec.specs.Checks.{HeadFits, transfer_flags, field_fault, transfer_faults}
-use Rattle.stream_spec.specs.declared.Shape.{Shape}
-use Rattle.stream_spec.proofs.Bare.{bare_user, bare_field}
+use Rattle.stream_spec.proofs.Bare.{bare_field}
 use Rattle.stream_spec.proofs.Fields.{fits_head}
-use Rattle.stream_record.specs.declared.Header.{Header}
-use Rattle.stream_record.specs.declared.Fault.{Fault}
-use Rattle.stream_record.specs.declared.Fault.TheVariants.{Sound}
-use Rattle.stream_record.specs.Header.{header_of, fault_of, record_fault}
-use Rattle.stream_record.proofs.RecordFaults.{head-tells, told_fields}
-
-module _ (rec : List ℕ) (h : Header) (e : h ≡ header_of rec) where
-  -- without user bits the header tells all
-  pub bare_told : (w : ℕ) {f : Fault} → f ≡ fault_of (of_width w) h → f ≡ record_fault (of_width w) rec
-  bare_told w t = t ∙ head-tells (of_width w) rec h e (bare_user w rec)
-
-  -- a sound record's header has fields that fit
-  pub told-fits : (s : Shape) → Sound ≡ record_fault s rec → HeadFits transfer_flags s h.flags h.tdest h.keep h.strb
-  told-fits s t = rw e (told_fields s rec 0 t).head
 
 -- where TKEEP and TSTRB are one mask, no lane is reserved
 reserved-none : (w k : ℕ) → any_reserved (types_of w k k) ≡ false

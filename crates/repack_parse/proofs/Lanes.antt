@@ -2,17 +2,20 @@
 -- position lanes. Assumes nothing.
 use mathlib.Core.Path.{◌≡◌, refl, sym, ap, ◌∙◌}
 use mathlib.Core.List.{List, map}
-use Prim.Native.Nat.{ℕ, ◌+◌, ◌≤◌, ◌<◌}
+use Prim.Native.Nat.{ℕ, ◌+◌, ◌-◌, ◌≤◌, ◌<◌}
 use native.Mathlib.Omega.{arith}
-use lib.ListN.{length, get_or}
+use lib.ListN.{length, get_or, take, drop}
 use Rattle.stream_spec.proofs.Legal.{octets-of}
+use Rattle.stream_spec.proofs.Size.{size_bare}
 use Rattle.stream_spec.specs.Items.{kept}
 use Rattle.stream_spec.specs.Layout.{size, of_width, flags, pair_of, tkeep, tstrb, data_octets, user_number, transfer_of}
 use Rattle.stream_spec.specs.Legal.{Octets}
 use Rattle.stream_record.specs.declared.Header.{Header}
-use Rattle.repack_scratch.specs.declared.Open.{Open}
+use Rattle.repack_parse.specs.declared.state.Open.{Open}
+use Rattle.repack_scratch.specs.declared.Entry.{Entry}
 use Rattle.repack_scratch.specs.Codes.{held_codes, kept_of, sifted, pair_code}
-use Rattle.repack_scratch.specs.Stands.{kept_at, Gathered}
+use Rattle.repack_scratch.specs.Stands.{Gathered}
+use Rattle.repack_parse.specs.Stands.{kept_at}
 use Rattle.repack_scratch.proofs.Codes.{sifted-tagged}
 use Rattle.repack_scratch.proofs.Held.{length-held}
 use Rattle.repack_sieve.specs.Kept.{Collected}
@@ -30,7 +33,7 @@ module _ (w : ℕ) (rec : List ℕ) (oct : Octets rec) (long : length rec ≡ si
   sifted-lanes =
       ap (map kept_of) (sifted-tagged w (tkeep rec) (tstrb rec) (user_number (of_width w) rec) lanes) ∙ codes_kept (of_width w) rec oct long
 
-  pub add_collected : (octets octets1 table table1 table2 : List ℕ) (st o r : Open) (n keep last : ℕ) → w ≤ 16 → (pair_of rec).tdest ≤ 15
+  pub add_collected : (octets octets1 : List ℕ) (table table1 table2 : List Entry) (st o r : Open) (n keep last : ℕ) → w ≤ 16 → (pair_of rec).tdest ≤ 15
       → tkeep rec ≡ keep → tstrb rec ≡ keep → flags rec ≡ last → st.items + 16 ≤ length octets
       → ((items : List ℕ) → Paired (of_width w) rec items table st table1 o)
       → Collected (length lanes) keep lanes octets o.items octets1 n → Ended last table1 (kept_at o n) table2 r
@@ -54,14 +57,18 @@ module _ (w : ℕ) (rec : List ℕ) (oct : Octets rec) (long : length rec ≡ si
 
 -- ---- the same, of the values that the code has
 
-module _ (w : ℕ) (rec octets table table1 : List ℕ) (h : Header) (st o : Open) (byte_at : (i : ℕ) → get_or rec i 0 < 256)
+-- without user bits nothing stands behind a record's lanes
+pub lanes_behind : (w : ℕ) (rec : List ℕ) → length rec ≡ size (of_width w) → take (length rec - 7) (drop 7 rec) ≡ data_octets (of_width w) rec
+lanes_behind w rec long = let same : length rec - 7 ≡ w = omega (arith, long, size_bare w) in rw same refl
+
+module _ (w : ℕ) (rec octets : List ℕ) (table table1 : List Entry) (h : Header) (st o : Open) (byte_at : (i : ℕ) → get_or rec i 0 < 256)
     (carries : Carries (of_width w) rec h) (ready : Ready (of_width w) octets table st) (p : ℕ) (pe : p ≡ pair_code h.tid h.tdest)
     (turned : Turned p table st table1 o) (lanes : List ℕ) (le : lanes ≡ data_octets (of_width w) rec) where
   count : length lanes ≡ w
   count = lane_count (of_width w) rec octets table table1 h st o byte_at carries ready p pe turned lanes le
 
-  pub added_data : (octets1 table2 : List ℕ) (r : Open) (n : ℕ) → h.keep ≡ h.strb
-      → Collected (length lanes) h.keep lanes octets o.items octets1 n → Ended h.flags table1 (kept_at o n) table2 r
+  pub added_data : (octets1 : List ℕ) (table2 : List Entry) (r : Open) (n : ℕ) → h.keep ≡ h.strb
+      → Collected w h.keep lanes octets o.items octets1 n → Ended h.flags table1 (kept_at o n) table2 r
       → AddedData w rec octets table st octets1 table2 r
   added_data octets1 table2 r n d collected ended =
       let e = carries.header in
@@ -69,9 +76,9 @@ module _ (w : ℕ) (rec octets table table1 : List ℕ) (h : Header) (st o : Ope
       let tdest : (pair_of rec).tdest ≤ 15 = rw e at carries.fits.tdest in
       add_collected w rec (octets-of rec byte_at) carries.long octets octets1 table table1 table2 st o r n h.keep h.flags ready.high tdest
       (rw e refl) strb (rw e refl) ready.holds
-      (turned_paired (of_width w) rec octets table table1 h st o byte_at carries ready p pe turned) (rw le at collected) ended
+      (turned_paired (of_width w) rec octets table table1 h st o byte_at carries ready p pe turned) (rw le at (rw (← count) at collected)) ended
 
-  pub added-marked : (octets1 marks marks1 table2 : List ℕ) (r : Open) (n : ℕ) → length marks ≡ length octets → Clear st.items marks
+  pub added-marked : (octets1 marks marks1 : List ℕ) (table2 : List Entry) (r : Open) (n : ℕ) → length marks ≡ length octets → Clear st.items marks
       → Marks h.keep h.strb lanes octets marks o.items octets1 marks1 n → Ended h.flags table1 (kept_at o n) table2 r
       → AddedMarked w rec octets marks table st octets1 marks1 table2 r
   added-marked octets1 marks marks1 table2 r n l c marked ended =
@@ -88,7 +95,7 @@ module _ (w : ℕ) (rec octets table table1 : List ℕ) (h : Header) (st o : Ope
 
 -- ---- a record of data, with the marks that were there
 
-pub data_marked : (w : ℕ) (rec octets marks table : List ℕ) (st : Open) (octets1 table1 : List ℕ) (r : Open) → length marks ≡ length octets
+pub data_marked : (w : ℕ) (rec octets marks : List ℕ) (table : List Entry) (st : Open) (octets1 : List ℕ) (table1 : List Entry) (r : Open) → length marks ≡ length octets
     → Clear st.items marks → AddedData w rec octets table st octets1 table1 r → AddedMarked w rec octets marks table st octets1 marks table1 r
 data_marked w rec octets marks table st octets1 table1 r l c d =
     let a = d.added marks l c in

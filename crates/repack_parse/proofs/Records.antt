@@ -3,7 +3,7 @@
 use mathlib.Core.Path.{◌≡◌, refl, sym, ap, ◌∙◌, subst}
 use mathlib.Core.Bool.{Bool, true, false, cond}
 use mathlib.Core.List.{List, [], ◌∷◌, ◌++◌, map, append_assoc}
-use Prim.Native.Nat.{ℕ, zero, suc, ◌+◌, ◌-◌, ◌*◌, ◌/◌, ◌%◌, ◌^◌, ◌≤◌, ◌<◌}
+use Prim.Native.Nat.{ℕ, zero, suc, ◌+◌, ◌*◌, ◌/◌, ◌%◌, ◌^◌, ◌≤◌, ◌<◌}
 use native.Mathlib.Nat.{pow-suc}
 use native.Mathlib.Omega.{arith}
 use borrow.Author.Tests.{eqb-false}
@@ -20,11 +20,13 @@ use Rattle.stream_spec.proofs.Legal.{octets-of, octets-take, octets-drop, octet-
 use Rattle.stream_spec.proofs.Size.{data_long}
 use Rattle.stream_record.specs.declared.Header.{Header}
 use Rattle.stream_record.specs.Header.{header_of}
-use Rattle.repack_scratch.specs.declared.Open.{Open}
+use Rattle.repack_parse.specs.declared.state.Open.{Open}
+use Rattle.repack_scratch.specs.declared.Entry.{Entry}
 use Rattle.repack_scratch.specs.Codes.{kept_of, tagged, pair_code, pair_from, pair_limit}
-use Rattle.repack_scratch.specs.Stands.{kept_at, Gathered, Stands}
+use Rattle.repack_scratch.specs.Stands.{Gathered}
+use Rattle.repack_parse.specs.Stands.{kept_at, Stands}
 use Rattle.repack_scratch.proofs.Codes.{tagged-kept}
-use Rattle.repack_scratch.proofs.Stands.{gather_stands}
+use Rattle.repack_parse.proofs.Stands.{gather_stands}
 use Rattle.repack_parse.specs.Read.{Few, Closable, Turned, Ended, Carries, Added, Ready}
 
 -- ---- whether a record has an item
@@ -65,7 +67,7 @@ abbrev pub code_of : List ℕ → ℕ
 code_of rec = pair_code (pair_of rec).tid (pair_of rec).tdest
 
 -- the open stretch has the record's pair, and stands as before
-pub record Paired (s : Shape) (rec codes table : List ℕ) (st : Open) (table1 : List ℕ) (o : Open) : Type 0 where
+pub record Paired (s : Shape) (rec codes : List ℕ) (table : List Entry) (st : Open) (table1 : List Entry) (o : Open) : Type 0 where
   pub same : length table1 ≡ length table
   pub items : o.items ≡ st.items
   pub paired : o.pair ≡ code_of rec
@@ -76,7 +78,7 @@ pub record Paired (s : Shape) (rec codes table : List ℕ) (st : Open) (table1 :
       → Stands (take st.items codes) (take st.closed table) st (transfer_items (transfer_of s rec) ++ rest) all
       → Stands (take st.items codes) (take o.closed table1) o (transfer_items (transfer_of s rec) ++ rest) all
 
-pub paired_same : (s : Shape) (rec items table : List ℕ) (st : Open) → st.start ≤ st.items → st.pair ≡ code_of rec → Paired s rec items table st table st
+pub paired_same : (s : Shape) (rec items : List ℕ) (table : List Entry) (st : Open) → st.start ≤ st.items → st.pair ≡ code_of rec → Paired s rec items table st table st
 paired_same s rec items table st b e =
     record { same = refl; items = refl; paired = e; started = b; few = λ k h. h; stands = λ rest all h. h }
 
@@ -99,7 +101,7 @@ module _ (s : Shape) (rec : List ℕ) (oct : Octets rec) (long : length rec ≡ 
   no_items k f =
       rw (← codes_kept) (rw (k, f) (rw (tagged-none s.user s.width (tstrb rec) (user_number s rec) (data_octets s rec)) refl))
 
-  pub add_none : (items table : List ℕ) (st : Open) → st.start ≤ st.items → st.pair < pair_limit → tkeep rec ≡ 0 → flags rec ≡ 0
+  pub add_none : (items : List ℕ) (table : List Entry) (st : Open) → st.start ≤ st.items → st.pair < pair_limit → tkeep rec ≡ 0 → flags rec ≡ 0
       → Added s rec items table st items table st
   add_none items table st b p k f =
       record {
@@ -131,7 +133,7 @@ module _ (s : Shape) (rec : List ℕ) (oct : Octets rec) (long : length rec ≡ 
         tagged-some s.user s.width (tkeep rec) (tstrb rec) (user_number s rec) (data_octets s rec) fits.keep (omega arith)
         (rw (length-map record_codes kept_of) at e)
 
-    pub paired_turned : (items table table1 : List ℕ) (st o : Open) → Turned (code_of rec) table st table1 o → Paired s rec items table st table1 o
+    pub paired_turned : (items : List ℕ) (table table1 : List Entry) (st o : Open) → Turned (code_of rec) table st table1 o → Paired s rec items table st table1 o
     paired_turned items table table1 st o turned =
         record {
           same = turned.same;
@@ -159,7 +161,7 @@ module _ (s : Shape) (rec : List ℕ) (oct : Octets rec) (long : length rec ≡ 
         rw (e, code_pair, ← more-kept)
         (append_assoc (map (byte (pair_of rec)) (map kept_of more)) (cond (tlast rec) (end (pair_of rec) ∷ []) []) rest)
 
-    module _ (items items1 table table1 table2 : List ℕ) (st o r : Open) (n : ℕ) (high : s.width ≤ width_most) (tdest : (pair_of rec).tdest ≤ 15)
+    module _ (items items1 : List ℕ) (table table1 table2 : List Entry) (st o r : Open) (n : ℕ) (high : s.width ≤ width_most) (tdest : (pair_of rec).tdest ≤ 15)
         (holds : st.items + 16 ≤ length items) (paired : Paired s rec items table st table1 o)
         (gathered : Gathered s.width more items o.items items1 n) (ended : Ended (flags rec) table1 (kept_at o n) table2 r) where
       reached : n ≤ length items1
@@ -200,14 +202,14 @@ module _ (s : Shape) (rec : List ℕ) (oct : Octets rec) (long : length rec ≡ 
 -- ---- the same, of the values that the code has
 
 -- a record with no item
-pub added_none : (s : Shape) (rec items table : List ℕ) (h : Header) (st : Open) → ((i : ℕ) → get_or rec i 0 < 256) → length rec ≡ size s
+pub added_none : (s : Shape) (rec items : List ℕ) (table : List Entry) (h : Header) (st : Open) → ((i : ℕ) → get_or rec i 0 < 256) → length rec ≡ size s
     → h ≡ header_of rec → Ready s items table st → (codes : List ℕ) → h.keep + h.flags ≡ 0 → Added s rec codes table st codes table st
 added_none s rec items table h st byte_at long e ready codes z =
     let sum : tkeep rec + flags rec ≡ 0 = rw e at z in
     add_none s rec (octets-of rec byte_at) long codes table st ready.started ready.pair (omega arith) (omega arith)
 
 -- a record with an item, after turning
-module _ (s : Shape) (rec items table table1 : List ℕ) (h : Header) (st o : Open) (byte_at : (i : ℕ) → get_or rec i 0 < 256)
+module _ (s : Shape) (rec items : List ℕ) (table table1 : List Entry) (h : Header) (st o : Open) (byte_at : (i : ℕ) → get_or rec i 0 < 256)
     (carries : Carries s rec h) (ready : Ready s items table st) where
   e : h ≡ header_of rec
   e = carries.header
@@ -225,7 +227,7 @@ module _ (s : Shape) (rec items table table1 : List ℕ) (h : Header) (st o : Op
         paired_turned s rec (octets-of rec byte_at) carries.long head item_there codes table table1 st o (rw pc at turned)
 
     -- Items are gathered and ended: as many codes are there as items.
-    pub added_codes : (more codes codes1 table2 : List ℕ) (r : Open) (n : ℕ) → length codes ≡ length items
+    pub added_codes : (more codes codes1 : List ℕ) (table2 : List Entry) (r : Open) (n : ℕ) → length codes ≡ length items
         → map kept_of more ≡ kept (transfer_of s rec).lanes → Gathered s.width more codes o.items codes1 n
         → Ended h.flags table1 (kept_at o n) table2 r → Added s rec codes table st codes1 table2 r
     added_codes more codes codes1 table2 r n same kept gathered ended =
@@ -241,17 +243,11 @@ module _ (s : Shape) (rec items table table1 : List ℕ) (h : Header) (st o : Op
       tagged-lanes = rw (e, le) (codes_kept s rec (octets-of rec byte_at) carries.long)
 
       -- what gathering needs of the state after turning
-      pub lanes_ready : (full : ℕ) → full ≡ 2 ^ s.width - 1
-          → (1 ≤ length lanes) × (length lanes ≤ 16) × (o.items + length lanes ≤ length items) × (full ≡ 2 ^ length lanes - 1)
-      lanes_ready full fe = (
-        omega (arith, lane_count, ready.low),
-        omega (arith, lane_count, ready.high),
-        omega (arith, turned.items, lane_count, ready.high, ready.holds),
-        rw lane_count fe,
-      )
+      pub lanes_ready : (length lanes ≡ s.width) × (o.items + s.width ≤ length items)
+      lanes_ready = (lane_count, omega (arith, turned.items, ready.high, ready.holds))
 
       -- and ending, of the state after gathering
-      pub end_ready : (n : ℕ) → o.items ≤ n → n ≤ o.items + length lanes → Closable (kept_at o n) table1 × (h.flags < 2)
+      pub end_ready : (n : ℕ) → o.items ≤ n → n ≤ o.items + s.width → Closable (kept_at o n) table1 × (h.flags < 2)
       end_ready n low high =
           let tid : h.tid < 256 = rw e (byte_at 1) in
           let f = carries.fits in (

@@ -19,14 +19,15 @@ use Rattle.words.specs.Words.{word_at}
 use Rattle.words.proofs.Words.{word-drop}
 use Rattle.stream_record.specs.Header.{header_of}
 use Rattle.stream_head.specs.Usual.{Usual, UsualWords}
-use Rattle.repack_scratch.specs.declared.Open.{Open}
+use Rattle.repack_parse.specs.declared.state.Open.{Open}
+use Rattle.repack_scratch.specs.declared.Entry.{Entry}
 use Rattle.repack_scratch.specs.Codes.{held_codes}
-use Rattle.repack_scratch.specs.Stands.{kept_at}
+use Rattle.repack_parse.specs.Stands.{kept_at}
 use Rattle.repack_scratch.proofs.Held.{unmarked-at}
 use Rattle.repack_sieve.specs.Kept.{kept_octet, kept_octets, Collected}
 use Rattle.repack_gather.specs.Gather.{Clear}
 use Rattle.repack_parse.specs.Read.{Ready, Ended, AddedData}
-use Rattle.repack_parse.specs.Reading.{record_from, UsualAt, Reading, Skimmed}
+use Rattle.repack_parse.specs.Reading.{record_from, UsualAt, Skimmed}
 use Rattle.repack_parse.proofs.Faults.{data_faultless}
 use Rattle.repack_parse.proofs.Records.{lanes-long, paired_same}
 use Rattle.repack_parse.proofs.Lanes.{add_collected}
@@ -76,7 +77,7 @@ collected_taken w k ds octets at after r c =
 
 -- ---- the usual record
 
-module _ (w : ℕ) (transfers octets table : List ℕ) (st : Open) (at full : ℕ) (b : (i : ℕ) → get_or transfers i 0 < 256) (fits : at + size (of_width w) ≤ length transfers)
+module _ (w : ℕ) (transfers octets : List ℕ) (table : List Entry) (st : Open) (at full : ℕ) (b : (i : ℕ) → get_or transfers i 0 < 256) (fits : at + size (of_width w) ≤ length transfers)
     (fe : full ≡ 2 ^ w - 1) (ready : Ready (of_width w) octets table st) (u : UsualAt transfers at st.pair full) where
   abbrev rec : List ℕ
   rec = record_from (of_width w) transfers at
@@ -105,7 +106,7 @@ module _ (w : ℕ) (transfers octets table : List ℕ) (st : Open) (at full : �
   pub usual_faultless : (k : ℕ) → first (transfer_faults (of_width w) k rec) ≡ None
   usual_faultless k = data_faultless w rec k usual_fields (told.keep ∙ sym told.strb)
 
-  pub usual_added : (octets1 table1 : List ℕ) (r : Open) (n lo hi : ℕ) → lo ≡ word_at 4 transfers at → hi ≡ word_at 4 transfers (at + 3)
+  pub usual_added : (octets1 : List ℕ) (table1 : List Entry) (r : Open) (n lo hi : ℕ) → lo ≡ word_at 4 transfers at → hi ≡ word_at 4 transfers (at + 3)
       → Collected w (hi % 0x10000) (drop (at + 7) transfers) octets st.items octets1 n → Ended (lo % 2) table (kept_at st n) table1 r
       → AddedData w rec octets table st octets1 table1 r
   usual_added octets1 table1 r n lo hi l h collected ended =
@@ -117,13 +118,9 @@ module _ (w : ℕ) (transfers octets table : List ℕ) (st : Open) (at full : �
 
 -- ---- a step of skimming
 
-pub skimmed_none : (w : ℕ) (transfers octets table : List ℕ) (st : Open) (from : ℕ) → Reading (of_width w) transfers octets table st from
-    → Skimmed w transfers octets table st from octets table st from
-skimmed_none w transfers octets table st from r = record { on = omega arith; reading = r; holding = λ marks h. h }
-
-module _ (w : ℕ) (transfers octets table : List ℕ) (st : Open) (from : ℕ) (octets1 table1 : List ℕ) (st1 : Open) (at : ℕ)
+module _ (w : ℕ) (transfers octets : List ℕ) (table : List Entry) (st : Open) (from : ℕ) (octets1 : List ℕ) (table1 : List Entry) (st1 : Open) (at : ℕ)
     (k : Skimmed w transfers octets table st from octets1 table1 st1 at) where
-  pub skimmed_next : (octets2 table2 : List ℕ) (st2 : Open) → at < length transfers → first (transfer_faults (of_width w) (at / size (of_width w)) (record_from (of_width w) transfers at)) ≡ None
+  pub skimmed_next : (octets2 : List ℕ) (table2 : List Entry) (st2 : Open) → at < length transfers → first (transfer_faults (of_width w) (at / size (of_width w)) (record_from (of_width w) transfers at)) ≡ None
       → AddedData w (record_from (of_width w) transfers at) octets1 table1 st1 octets2 table2 st2
       → Skimmed w transfers octets table st from octets2 table2 st2 (at + size (of_width w))
   skimmed_next octets2 table2 st2 more sound a =

@@ -10,21 +10,22 @@ use Rattle.stream_spec.specs.Items.{Item, byte, end}
 use Rattle.stream_spec.specs.Packed.{Stretch, cut}
 use Rattle.stream_spec.specs.Layout.{odd, Kept}
 use Rattle.stream_spec.proofs.Cut.{cut-ended}
-use Rattle.repack_scratch.specs.declared.Open.{Open}
+use Rattle.repack_parse.specs.declared.state.Open.{Open}
+use Rattle.repack_scratch.specs.declared.Entry.{Entry}
 use Rattle.repack_scratch.specs.Codes.{kept_of, pair_from, entry_of, stretches_of, total}
-use Rattle.repack_scratch.specs.Stands.{closed_at, paired_at, Stands}
+use Rattle.repack_parse.specs.Stands.{closed_at, paired_at, Stands}
 use Rattle.repack_scratch.proofs.Codes.{stretches_more}
-use Rattle.repack_scratch.proofs.Stands.{opened, made, close_stands, turn-stands, all_closed, pairs_differ, cut_apart, cut-last}
+use Rattle.repack_parse.proofs.Stands.{opened, made, close_stands, turn-stands, all_closed, pairs_differ, cut_apart, cut-last}
 use Rattle.repack_parse.specs.Read.{Closable, Turned, Ended, Finished}
 
 -- ---- closing
 
 -- the table with one entry more
-listed : (table : List ℕ) (m e : ℕ) → m < length table → take (m + 1) (set table m e) ≡ take m table ++ e ∷ []
+listed : (table : List Entry) (m : ℕ) (e : Entry) → m < length table → take (m + 1) (set table m e) ≡ take m table ++ e ∷ []
 listed table m e h = rw (add-one m) (take-suc-set table m e h)
 
-module _ (table : List ℕ) (st : Open) (c : Closable st table) where
-  abbrev entry : ℕ → ℕ
+module _ (table : List Entry) (st : Open) (c : Closable st table) where
+  abbrev entry : ℕ → Entry
   entry last = entry_of (st.items - st.start) last st.pair
 
   closed-stands : (codes : List ℕ) (rest rest' : List (Item Kept)) (all : List (Stretch Kept)) (last pair : ℕ) → last ≤ 1
@@ -73,7 +74,7 @@ module _ (table : List ℕ) (st : Open) (c : Closable st table) where
             (cut-ended (pair_from st.pair) (opened st codes) rest) h;
       }
 
-pub turn_empty : (table : List ℕ) (st : Open) (pair : ℕ) → st.start ≡ st.items → Turned pair table st table (paired_at st pair)
+pub turn_empty : (table : List Entry) (st : Open) (pair : ℕ) → st.start ≡ st.items → Turned pair table st table (paired_at st pair)
 turn_empty table st pair e =
     record {
       same = refl;
@@ -85,12 +86,8 @@ turn_empty table st pair e =
       stands = λ codes i rest all p h. turn-stands codes (take st.closed table) st all (i ∷ rest) pair e h;
     }
 
-pub end_none : (table : List ℕ) (st : Open) → st.start ≤ st.items → Ended 0 table st table st
-end_none table st s =
-    record { same = refl; items = refl; pair = refl; started = s; few = λ k h. omega arith; stands = λ codes rest all h. h }
-
 -- what is closed is the whole take's
-pub finished : (items table : List ℕ) (st : Open) (all : List (Stretch Kept)) → st.start ≡ st.items
+pub finished : (items : List ℕ) (table : List Entry) (st : Open) (all : List (Stretch Kept)) → st.start ≡ st.items
     → Stands (take st.items items) (take st.closed table) st [] all
     → Finished st.closed items table all × (total (take st.closed table) ≡ st.items)
 finished items table st all e h =
@@ -107,7 +104,7 @@ finished items table st all e h =
       h.started ∙ e,
     )
 
-pub finish_close : (items table : List ℕ) (st : Open) (all : List (Stretch Kept)) (c : Closable st table) → (st.start ≡ st.items → ⊥) → Stands (take st.items items) (take st.closed table) st [] all
+pub finish_close : (items : List ℕ) (table : List Entry) (st : Open) (all : List (Stretch Kept)) (c : Closable st table) → (st.start ≡ st.items → ⊥) → Stands (take st.items items) (take st.closed table) st [] all
     → Finished (st.closed + 1) items (set table st.closed (entry_of (st.items - st.start) 0 st.pair)) all
     × (total (take (st.closed + 1) (set table st.closed (entry_of (st.items - st.start) 0 st.pair))) ≡ st.items)
 finish_close items table st all c n h =

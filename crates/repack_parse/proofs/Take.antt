@@ -19,19 +19,17 @@ use Rattle.stream_spec.specs.Walk.{Passed}
 use Rattle.stream_spec.proofs.RecordChecks.{each-found, each-passed}
 use Rattle.stream_spec.proofs.Size.{size_holds}
 use Rattle.stream_spec.proofs.Walk.{left-start, record_fits, record_is, left-next, records-next, place-next, no-records}
-use Rattle.repack_scratch.specs.declared.Open.{Open}
+use Rattle.repack_parse.specs.declared.state.Open.{Open}
+use Rattle.repack_scratch.specs.declared.Entry.{Entry}
 use Rattle.repack_scratch.specs.Codes.{item_room, stretch_room, total}
-use Rattle.repack_scratch.specs.Stands.{Stands}
-use Rattle.repack_parse.specs.Read.{Closable, Added, Ready, FinishIs, TakenAs}
+use Rattle.repack_parse.specs.Stands.{at_start, Stands}
+use Rattle.repack_parse.specs.Read.{Added, Ready, FinishIs, TakenAs}
 use Rattle.repack_parse.specs.Reading.{record_from, Reading, StandsAt}
 
 -- ---- the start
 
-abbrev pub start : Open
-start = record { items = 0; start = 0; closed = 0; pair = 0 }
-
-pub reading-starts : (s : Shape) (transfers items table : List ℕ) → Passed s transfers → length items ≡ item_room → length table ≡ stretch_room
-    → Reading s transfers items table start 0
+pub reading-starts : (s : Shape) (transfers items : List ℕ) (table : List Entry) → Passed s transfers → length items ≡ item_room → length table ≡ stretch_room
+    → Reading s transfers items table at_start 0
 reading-starts s transfers items table p i t =
     let zeroth : 0 / size s ≡ 0 = zero-div (size s) in
     record {
@@ -47,12 +45,12 @@ reading-starts s transfers items table p i t =
       few = rw zeroth (omega arith);
     }
 
-pub stands-start : (s : Shape) (transfers codes table : List ℕ) → StandsAt s transfers codes table start 0
+pub stands-start : (s : Shape) (transfers codes : List ℕ) (table : List Entry) → StandsAt s transfers codes table at_start 0
 stands-start s transfers codes table = record { kept = refl; closed = refl; started = refl; is = refl }
 
 -- ---- a record more
 
-module _ (s : Shape) (transfers items table : List ℕ) (st : Open) (at : ℕ) (r : Reading s transfers items table st at) where
+module _ (s : Shape) (transfers items : List ℕ) (table : List Entry) (st : Open) (at : ℕ) (r : Reading s transfers items table st at) where
   module _ (more : at < length transfers) where
     -- another record stands there
     pub reading-fits : at + size s ≤ length transfers
@@ -95,7 +93,7 @@ module _ (s : Shape) (transfers items table : List ℕ) (st : Open) (at : ℕ) (
     next_place : (at + size s) / size s ≡ at / size s + 1
     next_place = place-next s transfers at r.left more (size s) refl
 
-    module _ (rec codes codes' table' : List ℕ) (st' : Open) (e : rec ≡ record_from s transfers at) (a : Added s rec codes table st codes' table' st') where
+    module _ (rec codes codes' : List ℕ) (table' : List Entry) (st' : Open) (e : rec ≡ record_from s transfers at) (a : Added s rec codes table st codes' table' st') where
       pub reading-next : (items' : List ℕ) → first (transfer_faults s (at / size s) rec) ≡ None → length items' ≡ length items
           → Reading s transfers items' table' st' (at + size s)
       reading-next items' sound l =
@@ -138,18 +136,8 @@ module _ (s : Shape) (transfers items table : List ℕ) (st : Open) (at : ℕ) (
         subst (λ R. Stands (take st.items codes) (take st.closed table) st R (cut (stream_items s transfers)))
         (rw (no-records s transfers at done) refl) h
 
-    -- what closing the last stretch needs
-    pub reading-closes : Closable st table
-    reading-closes =
-        record {
-          started = r.started;
-          small = omega (arith, r.kept, r.left.within, r.passed.short);
-          lists = omega (arith, r.few, r.started, r.many, r.left.within, r.same_table, r.passed.short);
-          pair = r.pair;
-        }
-
     -- the last stretch is closed, and the whole take is read; items can be read past the last one
-    pub reading_done : (codes table' : List ℕ) (n : ℕ) → StandsAt s transfers codes table st at → FinishIs table st table' n
+    pub reading_done : (codes : List ℕ) (table' : List Entry) (n : ℕ) → StandsAt s transfers codes table st at → FinishIs table st table' n
         → TakenAs s transfers codes table' n × (total (take n table') + 32 ≤ length items)
     reading_done codes table' n h f =
         let g = f codes (cut (stream_items s transfers)) (stands_done codes h) in (

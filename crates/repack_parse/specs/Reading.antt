@@ -9,9 +9,10 @@ use Rattle.stream_spec.specs.Walk.{Passed, Left}
 use Rattle.words.specs.Words.{word_at}
 use Rattle.stream_record.specs.Header.{header_of}
 use Rattle.stream_head.specs.Usual.{Usual}
-use Rattle.repack_scratch.specs.declared.Open.{Open}
+use Rattle.repack_parse.specs.declared.state.Open.{Open}
+use Rattle.repack_scratch.specs.declared.Entry.{Entry}
 use Rattle.repack_scratch.specs.Codes.{item_room, stretch_room, pair_limit, held_codes}
-use Rattle.repack_scratch.specs.Stands.{Stands}
+use Rattle.repack_parse.specs.Stands.{Stands}
 use Rattle.repack_gather.specs.Gather.{Clear}
 use Rattle.repack_parse.specs.Read.{Few}
 
@@ -25,7 +26,7 @@ UsualAt transfers at pair full = Usual (word_at 4 transfers at) (word_at 4 trans
 
 -- Room and faults: the first fault of the take is the first one of the records that are left, and the table and the array of items
 -- (codes, or octets) are large enough for them.
-pub record Reading (s : Shape) (transfers items table : List ℕ) (st : Open) (at : ℕ) : Type 0 where
+pub record Reading (s : Shape) (transfers items : List ℕ) (table : List Entry) (st : Open) (at : ℕ) : Type 0 where
   pub passed : Passed s transfers
   pub left : Left s transfers at
   pub faults :
@@ -39,18 +40,18 @@ pub record Reading (s : Shape) (transfers items table : List ℕ) (st : Open) (a
   pub few : Few st (at / size s) 0
 
 -- The items: those that are read have these codes.
-abbrev pub StandsAt : Shape → List ℕ → List ℕ → List ℕ → Open → ℕ → Type 0
+abbrev pub StandsAt : Shape → List ℕ → List ℕ → List Entry → Open → ℕ → Type 0
 StandsAt s transfers codes table st at =
     Stands (take st.items codes) (take st.closed table) st (stream_items s (drop at transfers)) (cut (stream_items s transfers))
 
 -- those of the fast reader, held in octets and marks: no mark stands behind them
-pub record Holding (w : ℕ) (transfers octets marks table : List ℕ) (st : Open) (at : ℕ) : Type 0 where
+pub record Holding (w : ℕ) (transfers octets marks : List ℕ) (table : List Entry) (st : Open) (at : ℕ) : Type 0 where
   pub long : length marks ≡ length octets
   pub clear : Clear st.items marks
   pub stands : StandsAt (of_width w) transfers (held_codes octets marks) table st at
 
 -- from octet `from` on some records more are read, and none of them has a mark
-pub record Skimmed (w : ℕ) (transfers octets table : List ℕ) (st : Open) (from : ℕ) (octetsAfter tableAfter : List ℕ) (r : Open) (at : ℕ) : Type 0 where
+pub record Skimmed (w : ℕ) (transfers octets : List ℕ) (table : List Entry) (st : Open) (from : ℕ) (octetsAfter : List ℕ) (tableAfter : List Entry) (r : Open) (at : ℕ) : Type 0 where
   pub on : from ≤ at
   pub reading : Reading (of_width w) transfers octetsAfter tableAfter r at
   pub holding : (marks : List ℕ) → Holding w transfers octets marks table st from → Holding w transfers octetsAfter marks tableAfter r at

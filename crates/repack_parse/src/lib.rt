@@ -1,100 +1,29 @@
 // Reads a take of transfer records without user bits, once, into held items and a table of stretches, or refuses it. The usual
-// records are read in usual.rt. Nothing is written to the caller's memory here. The steps on table and state, `turn` to
-// `finish`, serve the reader of records with user bits too.
+// records are read in usual.rt; how far a take has been read, and its steps, are in state.rt. Nothing is written to the caller's
+// memory here.
 #![tactic(auto)]
 
+mod state;
 mod usual;
 
-ghost use Rattle.std.specs.Prelude.{◌≡◌, ◌-◌, ◌*◌, ◌≤◌, ◌<◌, length, set};
+ghost use Rattle.std.specs.Prelude.{◌≡◌, ◌*◌, ◌/◌, length};
 ghost use Rattle.stream_spec.specs.Layout.{size, of_width};
-ghost use Rattle.stream_spec.specs.Walk.{Passed};
-ghost use Rattle.repack_scratch.specs.Codes.{item_room, mark_room, stretch_room, Unmarked, mark_bits, pair_code, entry_of};
-ghost use Rattle.repack_scratch.specs.Lanes.{Wide};
-ghost use Rattle.repack_scratch.specs.Stands.{closed_at, paired_at, kept_at};
+ghost use Rattle.stream_record.specs.Header.{refusal_at};
+ghost use Rattle.repack_scratch.specs.Codes.{item_room, mark_room, stretch_room, Unmarked, mark_bits, pair_code};
 ghost use Rattle.repack_gather.specs.Gather.{Clear};
-ghost use Rattle.repack_parse.specs.Read.{Closable, Turned, Ended, Carries, AddedData, AddedBits, Ready, FinishIs, NextIs, ParsedIs};
+ghost use Rattle.repack_parse.specs.Read.{Carries, AddedData, AddedBits, Ready, HeaderIs, NextIs, ParsedIs};
 
 use refusal::Refusal;
-use repack_scratch::{Lanes, Open};
-use stream_record::{Fault, HEAD_OCTETS, Header};
+use repack_scratch::{Entry, Lanes};
+use repack_sieve::Sieve;
+pub use state::Open;
+use stream_record::{Fault, HEAD_OCTETS, Header, Take};
 
-// What reading one record gives: how far the take has been read, with no mark or with some, or the record's fault.
-#[derive(Clone, Copy)]
-pub enum Next {
-    Read(Open),
-    Marked(Open),
-    Refused(Refusal),
-}
-
-// What reading a take gives: so many stretches in the table and whether every item is data, or the first fault.
-#[derive(Clone, Copy)]
-pub enum Parsed {
-    Stretches(usize, bool),
-    Refused(Refusal),
-}
-
-// The open stretch is closed: one table entry more. An end is behind it where `last` is 1.
-fn close(table: &mut [u32], st: Open, last: u32) -> Open
-    requires { Closable st table.old × (last ≤ 1) }
-    ensures { (result ≡ closed_at st st.pair) × (table.new ≡ set table.old st.closed (entry_of (st.items - st.start) last st.pair)) }
-{
-    let at = st.closed;
-    table[at] = repack_scratch::entry_of((st.items - st.start) as u32, last, st.pair);
-    Open {
-        items: st.items,
-        start: st.items,
-        closed: at + 1,
-        pair: st.pair,
-    }
-}
-
-// The same state with another pair.
-fn turned(st: Open, pair: u32) -> Open
-    ensures { result ≡ paired_at st pair }
-{
-    Open {
-        items: st.items,
-        start: st.start,
-        closed: st.closed,
-        pair: pair,
-    }
-}
-
-// Before a record with an item: an open stretch of another pair is closed.
-pub fn turn(table: &mut [u32], st: Open, pair: u32) -> Open
-    requires { Closable st table.old }
-    ensures { Turned pair table.old st table.new result }
-{
-    if st.pair == pair {
-        return st;
-    }
-    if st.start == st.items {
-        return turned(st, pair);
-    }
-    turned(close(table, st, 0), pair)
-}
-
-// After a record's lanes: TLAST closes the open stretch with an end.
-pub fn end(table: &mut [u32], st: Open, flags: u32) -> Open
-    requires { Closable st table.old × (flags < 2) }
-    ensures { Ended flags table.old st table.new result }
-{
-    if flags == 0 {
-        return st;
-    }
-    close(table, st, 1)
-}
-
-// The same state with so many items.
-pub fn with_items(st: Open, n: usize) -> Open
-    ensures { result ≡ kept_at st n }
-{
-    Open {
-        items: n,
-        start: st.start,
-        closed: st.closed,
-        pair: st.pair,
-    }
+// What a take is read to: so many stretches in the table, and whether every item is data.
+#[derive(Clone, Copy, Debug, PartialEq, Eq)]
+pub struct Parsed {
+    pub stretches: usize,
+    pub plain: bool,
 }
 
 // The pair of a header as one number.
@@ -104,141 +33,136 @@ pub fn pair_code(h: Header) -> u32
     u32::from(h.tid) + 0x100 * u32::from(h.tdest)
 }
 
+// stays: octets, marks, table and state are handed apart. A struct of them is no plainer: it holds three `&mut`, and each function
+// that takes it owes a clause for each of the three that it is still the caller's memory.
+// stays: add_data, add_marked and usual::add_usual are three. One with a closure for its middle line is no plainer: the closure
+// holds the arrays, and its clauses would say again what each of them ensures.
+
 // One record more, which has no fault and an item, and of which each kept lane is data.
 fn add_data(
     lanes: Lanes,
     rec: &[u8],
     h: Header,
     octets: &mut [u8],
-    table: &mut [u32],
-    st: Open,
-) -> Open
-    requires { Wide lanes × Carries (of_width lanes.width) rec.now h × (h.keep ≡ h.strb) × Ready (of_width lanes.width) octets.old table.old st }
-    ensures { AddedData lanes.width rec.now octets.old table.old st octets.new table.new result }
+    table: &mut [Entry],
+    state: &mut Open,
+)
+    requires { Carries (of_width lanes.width) rec.now h × (h.keep ≡ h.strb) × Ready (of_width lanes.width) octets.old table.old state.old }
+    ensures { AddedData lanes.width rec.now octets.old table.old state.old octets.new table.new state.new }
 {
-    let o = turn(table, st, pair_code(h));
-    let e = HEAD_OCTETS + lanes.width;
-    let n = repack_gather::gather_lanes(octets, o.items, &rec[HEAD_OCTETS..e], h.keep, lanes.full);
-    end(table, with_items(o, n), h.flags)
+    state.turn(table, pair_code(h));
+    state.items = repack_gather::gather_lanes(
+        octets,
+        state.items,
+        lanes,
+        &rec[HEAD_OCTETS..],
+        h.keep,
+    );
+    state.end(table, h.flags);
 }
 
 // One record more, which has no fault and an item, and may have position lanes.
 fn add_marked(
-    w: usize,
+    lanes: Lanes,
     rec: &[u8],
     h: Header,
     octets: &mut [u8],
     marks: &mut [u8],
-    table: &mut [u32],
-    st: Open,
-) -> Open
-    requires carries { Carries (of_width w) rec.now h × Ready (of_width w) octets.old table.old st }
-    requires marks_value { (8 * length marks.old ≡ length octets.old) × Clear st.items (mark_bits marks.old) }
-    ensures { AddedBits w rec.now octets.old marks.old table.old st octets.new marks.new table.new result }
+    table: &mut [Entry],
+    state: &mut Open,
+)
+    requires record_fits { Carries (of_width lanes.width) rec.now h × Ready (of_width lanes.width) octets.old table.old state.old }
+    requires unmarked { (8 * length marks.old ≡ length octets.old) × Clear state.old.items (mark_bits marks.old) }
+    ensures { AddedBits lanes.width rec.now octets.old marks.old table.old state.old octets.new marks.new table.new state.new }
 {
-    let o = turn(table, st, pair_code(h));
-    let e = HEAD_OCTETS + w;
-    let n = repack_gather::sift_marked(
+    state.turn(table, pair_code(h));
+    state.items = repack_gather::sift_marked(
         octets,
         marks,
-        o.items,
-        &rec[HEAD_OCTETS..e],
+        state.items,
+        &rec[HEAD_OCTETS..],
         h.keep,
         h.strb,
     );
-    end(table, with_items(o, n), h.flags)
+    state.end(table, h.flags);
 }
 
-// Judges and adds the record at octet `at` of the take, of any kind. One with no item changes nothing, whatever its pair.
+// The refusal for a fault of the record at octet `at`.
+fn refusal_at(fault: Fault, lanes: Lanes, at: usize) -> Refusal
+    ensures { result ≡ refusal_at (at / size (of_width lanes.width)) fault }
+{
+    fault.at(at / lanes.record_size())
+}
+
+// The header of the record at octet `at` of the take, which tells all of its faults, or the refusal for it.
+fn sound_header(lanes: Lanes, rec: &[u8], at: usize) -> Result<Header, Refusal>
+    requires { length rec.now ≡ size (of_width lanes.width) }
+    ensures { HeaderIs lanes.width rec.now at result }
+{
+    let h = stream_record::read_header(rec);
+    let told = stream_record::fault_of(h, stream_record::shape_of(lanes.width, 0));
+    told.map_err(|fault| refusal_at(fault, lanes, at))?;
+    Ok(h)
+}
+
+// Judges and adds the record at octet `at` of the take, of any kind. One with no item changes nothing, whatever its pair. Answers
+// whether it may have marked an item.
 fn unusual(
     lanes: Lanes,
     rec: &[u8],
     at: usize,
     octets: &mut [u8],
     marks: &mut [u8],
-    table: &mut [u32],
-    st: Open,
-) -> Next
-    requires wide { Wide lanes × (length rec.now ≡ size (of_width lanes.width)) × Ready (of_width lanes.width) octets.old table.old st }
-    requires marks_value { (8 * length marks.old ≡ length octets.old) × Clear st.items (mark_bits marks.old) }
-    ensures { NextIs lanes.width rec.now at octets.old marks.old table.old st octets.new marks.new table.new result }
+    table: &mut [Entry],
+    state: &mut Open,
+) -> Result<bool, Refusal>
+    requires whole { (length rec.now ≡ size (of_width lanes.width)) × Ready (of_width lanes.width) octets.old table.old state.old }
+    requires unmarked { (8 * length marks.old ≡ length octets.old) × Clear state.old.items (mark_bits marks.old) }
+    ensures { NextIs lanes.width rec.now at octets.old marks.old table.old state.old octets.new marks.new table.new state.new result }
 {
-    let h = stream_record::read_header(rec);
-    let f = stream_record::fault_of(h, stream_record::shape_of(lanes.width, 0));
-    match f {
-        Fault::Field => Next::Refused(Refusal::Field(
-            at / repack_scratch::record_size(lanes.width),
-        )),
-        Fault::Reserved => {
-            Next::Refused(Refusal::Reserved(at / repack_scratch::record_size(lanes.width)))
-        }
-        Fault::Sound => {
-            if h.keep + h.flags == 0 {
-                return Next::Read(st);
-            }
-            if h.keep == h.strb {
-                return Next::Read(add_data(lanes, rec, h, octets, table, st));
-            }
-            Next::Marked(add_marked(lanes.width, rec, h, octets, marks, table, st))
-        }
+    let h = sound_header(lanes, rec, at)?;
+    if h.keep + h.flags == 0 {
+        return Ok(false);
     }
+    if h.keep == h.strb {
+        add_data(lanes, rec, h, octets, table, state);
+        return Ok(false);
+    }
+    add_marked(lanes, rec, h, octets, marks, table, state);
+    Ok(true)
 }
 
-// After the last record: what is still open is closed without an end. Answers the number of stretches.
-pub fn finish(table: &mut [u32], st: Open) -> usize
-    requires { Closable st table.old }
-    ensures { FinishIs table.old st table.new result }
-{
-    if st.start == st.items {
-        return st.closed;
-    }
-    close(table, st, 0).closed
-}
-
-// Reads a take of records of w lanes whose width and length have passed their tests: the items' octets and marks, one entry
-// a stretch into `table`. No mark stands at the start. Usual records are skimmed; each other one is judged in full. A helper
-// for the crate stream_repack, which makes the tests and owns the arrays.
+// Reads a take of records without user bits: the items' octets and marks, one entry a stretch into `table`. No mark stands at the
+// start. Usual records are skimmed; each other one is judged in full. A helper for the crate stream_repack, which owns the arrays.
 pub fn parse(
-    w: usize,
-    transfers: &[u8],
+    take: &Take<'_>,
     octets: &mut [u8],
     marks: &mut [u8],
-    table: &mut [u32],
-) -> Parsed
-    requires passed { Passed (of_width w) transfers.now × Unmarked (mark_bits marks.old) }
-    requires octets_len { (length octets.old ≡ item_room) × (length marks.old ≡ mark_room) × (length table.old ≡ stretch_room) }
-    ensures { ParsedIs w transfers.now octets.new marks.new table.new result }
+    table: &mut [Entry],
+) -> Result<Parsed, Refusal>
+    requires bare { (take.now.shape.user ≡ 0) × Unmarked (mark_bits marks.old) }
+    requires room { (length octets.old ≡ item_room) × (length marks.old ≡ mark_room) × (length table.old ≡ stretch_room) }
+    ensures { ParsedIs take.now.shape.width take.now.octets.now octets.new marks.new table.new result }
 {
-    let z = repack_scratch::record_size(w);
-    let lanes = repack_scratch::lanes_of(w);
-    let sieve = repack_sieve::make_sieve();
-    let mut st = Open {
-        items: 0,
-        start: 0,
-        closed: 0,
-        pair: 0,
-    };
+    let transfers = take.octets;
+    let lanes = Lanes::new(take.shape.width);
+    let sieve = Sieve::new();
+    let mut state = Open::new();
     let mut at = 0;
     let mut plain = true;
     loop {
-        let p = usual::skim(lanes, &sieve, transfers, at, octets, table, st);
-        let from = p.at;
-        if transfers.len() <= from {
-            return Parsed::Stretches(finish(table, p.st), plain);
+        at = usual::skim(lanes, &sieve, transfers, at, octets, table, &mut state);
+        if transfers.len() <= at {
+            return Ok(Parsed {
+                stretches: state.finish(table),
+                plain,
+            });
         }
-        let e = from + z;
-        match unusual(lanes, &transfers[from..e], from, octets, marks, table, p.st) {
-            Next::Refused(r) => {
-                return Parsed::Refused(r);
-            }
-            Next::Read(o) => {
-                st = o;
-            }
-            Next::Marked(o) => {
-                st = o;
-                plain = false;
-            }
+        let next = at + lanes.record_size();
+        let rec = &transfers[at..next];
+        if unusual(lanes, rec, at, octets, marks, table, &mut state)? {
+            plain = false;
         }
-        at = e;
+        at = next;
     }
 }

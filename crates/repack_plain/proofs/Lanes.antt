@@ -1,7 +1,8 @@
 -- One record's octets: what the items' codes say of its lanes and masks. Assumes nothing.
 use Rattle.std.specs.Prelude.{Some}
 use mathlib.Core.Path.{◌≡◌, refl, sym, ap, ◌∙◌}
-use mathlib.Core.Bool.{Bool}
+use mir.Val.{bool_byte}
+use mathlib.Core.Bool.{Bool, true, false}
 use mathlib.Core.List.{List, [], ◌∷◌, ◌++◌, map}
 use Prim.Native.Nat.{ℕ, zero, suc, ◌+◌, ◌-◌, ◌*◌, ◌/◌, ◌%◌, ◌^◌, ◌≤◌, ◌<◌}
 use native.Mathlib.Nat.{pow-suc, mul-one}
@@ -86,6 +87,16 @@ pub slice_small : (items : List ℕ) (j n : ℕ) → n ≤ length items → n �
 slice_small items j n h k =
     let few : length (slice j n items) ≤ 16 = rw (length-slice j n items h) (omega arith) in
     omega (arith, strb-fits (slice j n items), pow_mono few)
+
+-- ---- a bit as a number
+
+pub bool-bit : (b : Bool) → bool_byte b ≡ bit_of b
+bool-bit true = refl
+bool-bit false = refl
+
+pub bit-small : (b : Bool) → bit_of b ≤ 1
+bit-small true = omega arith
+bit-small false = omega arith
 
 -- ---- items that are all data
 

@@ -12,15 +12,15 @@ use lib.ListN.{length, get_or, take, drop, length-append, length-drop, length-ma
 use lib.Seq.{take-take, take-nil, drop-drop, drop-cons, length-take-le}
 use Rattle.stream_spec.specs.Items.{Pair}
 use Rattle.stream_spec.specs.Packed.{fitted}
-use Rattle.stream_spec.specs.Layout.{size, shaped, odd, octets_of}
+use Rattle.stream_spec.specs.Layout.{size, shaped, octets_of}
 use Rattle.stream_spec.proofs.Pack.{length-fitted}
 use Rattle.stream_spec.proofs.Records.{octets_sized}
 use Rattle.stream_spec.proofs.Memory.{lent-long, lent-writes, lent-rest}
 use Rattle.stream_write.specs.Write.{header_octets}
 use Rattle.repack_scratch.specs.Codes.{data_code, kept_of, pair_from}
 use Rattle.stream_spec.specs.Memory.{Writing}
-use Rattle.repack_plain.specs.declared.Cursor.{Cursor}
-use Rattle.repack_plain.specs.declared.Head.{Head}
+use Rattle.repack_plain.specs.declared.stretch.Cursor.{Cursor}
+use Rattle.repack_plain.specs.declared.stretch.Head.{Head}
 use Rattle.repack_plain.specs.Write.{record_of, record_at, stretch_octets, left_octets, RecordFits, StretchFits, StretchPut, Advanced}
 use Rattle.repack_plain.proofs.Lanes.{data_octet, data_strobe}
 
@@ -90,7 +90,7 @@ data_held octets n h = omega (arith, length-map octets data_code)
 
 -- the head of a record that is not its stretch's last
 abbrev pub inside : Head → Head
-inside head = record { pair = head.pair; last = 0 }
+inside head = record { pair = head.pair; last = false; fits = head.fits }
 
 -- nothing is written yet
 pub advanced_none : (m v : ℕ) (head : Head) (codes out : List ℕ) (c : Cursor) → StretchFits m v head codes out c
@@ -105,7 +105,7 @@ module _ (m v : ℕ) (head : Head) (codes out₀ : List ℕ) (c : Cursor) (f : S
   -- a full record that is not the last
   module _ (h : v < r.left) where
     abbrev full : List ℕ
-    full = record_at m v head.pair 0 codes r.from v
+    full = record_at m v (inside head) codes r.from v
 
     -- what is left behind it
     abbrev later : List ℕ
@@ -113,7 +113,7 @@ module _ (m v : ℕ) (head : Head) (codes out₀ : List ℕ) (c : Cursor) (f : S
 
     this_record : left_octets m v head codes r ≡ full ++ later
     this_record =
-        full_record m v (pair_from head.pair) (take r.left (drop r.from codes)) (odd head.last) f.low (omega (arith, codes_long))
+        full_record m v (pair_from head.pair) (take r.left (drop r.from codes)) head.last f.low (omega (arith, codes_long))
         ∙ rw (
           take-take v r.left (drop r.from codes) (omega arith),
           drop-take v r.left (drop r.from codes) (omega arith),
@@ -129,13 +129,12 @@ module _ (m v : ℕ) (head : Head) (codes out₀ : List ℕ) (c : Cursor) (f : S
     pub full-room : r.to + size (shaped v m) ≤ length out
     full-room = omega (arith, a.room, this_long)
 
-    pub full_fits : RecordFits m v v (inside head) (lent out r.to)
+    pub full_fits : RecordFits m v v (lent out r.to)
     full_fits =
         record {
           few = omega arith;
           low = f.low;
           high = f.high;
-          headed = record { pair = f.headed.pair; last = omega arith };
           room = lent-room out r.to (size (shaped v m)) full-room;
         }
 
@@ -167,22 +166,22 @@ module _ (m v : ℕ) (head : Head) (codes out₀ : List ℕ) (c : Cursor) (f : S
   -- the last record
   module _ (h : r.left ≤ v) where
     abbrev ending : List ℕ
-    ending = record_at m v head.pair head.last codes r.from r.left
+    ending = record_at m v head codes r.from r.left
 
     last_one : left_octets m v head codes r ≡ ending
     last_one =
-        last_record m v (pair_from head.pair) (take r.left (drop r.from codes)) (odd head.last) f.low (omega (arith, codes_long))
+        last_record m v (pair_from head.pair) (take r.left (drop r.from codes)) head.last f.low (omega (arith, codes_long))
         ∙ append-nil ending
 
     ending_long : length ending ≡ size (shaped v m)
-    ending_long = record_long m v (pair_from head.pair) (take r.left (drop r.from codes)) (odd head.last)
+    ending_long = record_long m v (pair_from head.pair) (take r.left (drop r.from codes)) head.last
 
     pub last-room : r.to + size (shaped v m) ≤ length out
     last-room = omega (arith, a.room, ap length last_one, ending_long)
 
-    pub last_fits : RecordFits m v r.left head (lent out r.to)
+    pub last_fits : RecordFits m v r.left (lent out r.to)
     last_fits =
-        record { few = h; low = f.low; high = f.high; headed = f.headed; room = lent-room out r.to (size (shaped v m)) last-room }
+        record { few = h; low = f.low; high = f.high; room = lent-room out r.to (size (shaped v m)) last-room }
 
     pub last_written : (z : ℕ) → z ≡ size (shaped v m) → (part : List ℕ) → part ≡ ending ++ drop z (lent out r.to)
         → StretchPut m v head codes out₀ c (lent_back out r.to part) (r.to + z)
@@ -204,7 +203,7 @@ module _ (m v : ℕ) (head : Head) (codes out₀ : List ℕ) (c : Cursor) (f : S
 
 -- ---- a record of one lane, which is data
 
-pub one_written : (pair d : ℕ) (octets tail : List ℕ) (from : ℕ) → from < length octets → d ≡ get_or octets from 0 → d < 256
-    → header_octets 0 (pair % 256) (pair / 256) 1 1 ++ (d ∷ tail) ≡ record_at 0 1 pair 0 (map data_code octets) from 1 ++ tail
-one_written pair d octets tail from h e b =
+pub one_written : (head : Head) (d : ℕ) (octets tail : List ℕ) (from : ℕ) → from < length octets → d ≡ get_or octets from 0 → d < 256
+    → header_octets 0 (head.pair % 256) (head.pair / 256) 1 1 ++ (d ∷ tail) ≡ record_at 0 1 (inside head) (map data_code octets) from 1 ++ tail
+one_written head d octets tail from h e b =
     rw (map-drop data_code from octets, drop-cons octets from 0 h, ← e) (rw (data_octet d b, data_strobe d b) refl)

@@ -4,6 +4,8 @@
 // repack_tags's, and which stretches there are repack_emit's.
 #![tactic(auto)]
 
+mod stretch;
+
 ghost use Rattle.std.specs.Prelude.{◌≡◌, List, ◌++◌, map, ℕ, ◌+◌, ◌≤◌, length, drop};
 ghost use Rattle.std.proofs.Common.{rules};
 ghost use Rattle.std.proofs.lemmas.Grind.{common_steps};
@@ -12,21 +14,7 @@ ghost use Rattle.repack_scratch.specs.Codes.{data_code};
 ghost use Rattle.repack_plain.specs.Write.{record_at, RecordFits, StretchFits, StretchPut, Advanced};
 
 use stream_record::layout::HEAD_OCTETS;
-
-// How far a stretch is written: up to octet `to` of the output; `left` items, from item `from` on, are not written yet.
-#[derive(Clone, Copy, Debug, PartialEq, Eq)]
-pub struct Cursor {
-    pub to: usize,
-    pub from: usize,
-    pub left: usize,
-}
-
-// The pair of a record, and its TLAST; of a stretch, that of its last record.
-#[derive(Clone, Copy, Debug, PartialEq, Eq)]
-pub struct Head {
-    pub pair: u32,
-    pub last: u32,
-}
+pub use stretch::{Cursor, Head};
 
 // The items of a take, held between reading and writing.
 pub trait Items {
@@ -46,8 +34,8 @@ pub trait Items {
 
     // A record of v lanes with the n items from item `from` on, at the front of `out`.
     fn put_record(&self, out: &mut [u8], from: usize, n: usize, v: usize, head: Head)
-        requires { holds self.now (from + n) × RecordFits (user self.now) v n head out.old }
-        ensures { out.new ≡ record_at (user self.now) v head.pair head.last (codes self.now) from n ++ drop (size (shaped v (user self.now))) out.old };
+        requires { holds self.now (from + n) × RecordFits (user self.now) v n out.old }
+        ensures { out.new ≡ record_at (user self.now) v head (codes self.now) from n ++ drop (size (shaped v (user self.now))) out.old };
 
     // The records of what is left of a stretch at a cursor. Answers the place after them.
     fn put_stretch(&self, out: &mut [u8], c: Cursor, v: usize, head: Head) -> usize
@@ -55,9 +43,13 @@ pub trait Items {
         ensures { StretchPut (user self.now) v head (codes self.now) out.old c out.new result }
     {
         let size = self.record_size(v);
+        let inside = Head {
+            pair: head.pair,
+            last: false,
+        };
         let mut d = c;
         while v < d.left {
-            self.put_record(&mut out[d.to..], d.from, v, v, Head { last: 0, ..head });
+            self.put_record(&mut out[d.to..], d.from, v, v, inside);
             d.to += size;
             d.from += v;
             d.left -= v;
@@ -81,10 +73,10 @@ pub struct Plain<'a> {
 // A record with n items from lane 0 up, each of which is data, at the front of `out`: the header as one word, then the lanes
 // in groups. Up to sixteen octets are read.
 pub fn put_plain(out: &mut [u8], octets: &[u8], n: usize, v: usize, head: Head)
-    requires { (v ≤ length octets.now) × RecordFits 0 v n head out.old }
-    ensures { out.new ≡ record_at 0 v head.pair head.last (map data_code octets.now) 0 n ++ drop (size (of_width v)) out.old }
+    requires { (v ≤ length octets.now) × RecordFits 0 v n out.old }
+    ensures { out.new ≡ record_at 0 v head (map data_code octets.now) 0 n ++ drop (size (of_width v)) out.old }
 {
-    stream_write::write_data_header(out, head.last, head.pair, n);
+    stream_write::write_data_header(out, u32::from(head.last), head.pair, n);
     words::place(out, HEAD_OCTETS, octets, n, v);
 }
 
@@ -107,14 +99,12 @@ fn put_fulls(out: &mut [u8], octets: &[u8], mut c: Cursor, v: usize, head: Head)
     requires { (c.from + c.left + 32 ≤ length octets.now) × StretchFits 0 v head (map data_code octets.now) out.old c }
     ensures { (result.left ≤ v) × Advanced 0 v head (map data_code octets.now) out.old c out.new result }
 {
+    let inside = Head {
+        pair: head.pair,
+        last: false,
+    };
     while v < c.left {
-        put_plain(
-            &mut out[c.to..],
-            &octets[c.from..],
-            v,
-            v,
-            Head { last: 0, ..head },
-        );
+        put_plain(&mut out[c.to..], &octets[c.from..], v, v, inside);
         c.to += repack_scratch::record_size(v);
         c.from += v;
         c.left -= v;

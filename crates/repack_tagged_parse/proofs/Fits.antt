@@ -11,6 +11,7 @@ use Rattle.stream_spec.specs.Packed.{cut}
 use Rattle.stream_spec.specs.Layout.{odd, records, transfers, stream_items}
 use Rattle.stream_spec.proofs.Each.{EachByte, EachStretch, each-items, each-cut}
 use Rattle.stream_spec.proofs.Users.{AnyPair, BitsFit, transfers-tagged}
+use Rattle.repack_scratch.specs.declared.Entry.{Entry}
 use Rattle.repack_scratch.specs.Codes.{kept_of, entry_count, stretches_of, total}
 use Rattle.repack_tags.specs.Tags.{TagsFit}
 use Rattle.repack_tags.proofs.Lanes.{fit_append}
@@ -29,7 +30,7 @@ items_fit : (m : ℕ) (xs : List ℕ) → EachByte AnyPair (BitsFit m) (map kept
 items_fit m [] h = tt
 items_fit m (x ∷ xs) h = (item_fits m x h.0, items_fit m xs h.1)
 
-stretches_fit : (m : ℕ) (es xs : List ℕ) → EachStretch AnyPair (BitsFit m) (stretches_of es xs) → TagsFit m (take (total es) xs)
+stretches_fit : (m : ℕ) (es : List Entry) (xs : List ℕ) → EachStretch AnyPair (BitsFit m) (stretches_of es xs) → TagsFit m (take (total es) xs)
 stretches_fit m [] xs h = tt
 stretches_fit m (e ∷ es) xs h =
     rw (take-add (entry_count e) (total es) xs)
@@ -44,6 +45,6 @@ cut_fits s xs =
     (each-items AnyPair (BitsFit s.user) (transfers s xs) (transfers-tagged s (records s xs)))
 
 -- the items of a table that has a take's stretches
-pub taken-fits : (s : Shape) (xs es items : List ℕ) → stretches_of es items ≡ cut (stream_items s xs) → TagsFit s.user (take (total es) items)
+pub taken-fits : (s : Shape) (xs : List ℕ) (es : List Entry) (items : List ℕ) → stretches_of es items ≡ cut (stream_items s xs) → TagsFit s.user (take (total es) items)
 taken-fits s xs es items e =
     stretches_fit s.user es items (subst (EachStretch AnyPair (BitsFit s.user)) (sym e) (cut_fits s xs))

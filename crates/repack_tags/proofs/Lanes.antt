@@ -1,14 +1,15 @@
 -- Codes whose user bits fit: parts of them, and what they stand for. Assumes nothing.
 use Rattle.std.specs.Prelude.{Some}
+use mathlib.Core.Path.{◌≡◌}
 use mathlib.Core.List.{List, [], ◌∷◌, ◌++◌, map}
-use Prim.Native.Nat.{ℕ, zero, suc, ◌+◌, ◌≤◌}
+use Prim.Native.Nat.{ℕ, zero, suc, ◌+◌, ◌/◌, ◌^◌, ◌≤◌, ◌<◌}
 use native.Mathlib.Omega.{arith}
-use lib.ListN.{take, drop}
-use lib.Seq.{take-take, take-nil}
+use lib.ListN.{length, get_or, take, drop, length-drop}
+use lib.Seq.{take-take, take-nil, length-take-le, get_or-take, get_or-drop}
 use Rattle.stream_spec.proofs.Users.{LanesTagged}
 use Rattle.repack_scratch.specs.Codes.{kept_of}
 use Rattle.repack_scratch.proofs.Fitted.{bits_fit}
-use Rattle.repack_tags.specs.Tags.{TagsFit}
+use Rattle.repack_tags.specs.Tags.{TagsFit, FrontFits}
 
 -- ---- bits that fit
 
@@ -36,3 +37,23 @@ fit_part m (suc a) (suc from) n (x ∷ xs) h f = fit_part m a from n xs (omega a
 pub fit_append : (m : ℕ) (xs ys : List ℕ) → TagsFit m xs → TagsFit m ys → TagsFit m (xs ++ ys)
 fit_append m [] ys h k = k
 fit_append m (x ∷ xs) ys h k = (h.0, fit_append m xs ys h.1 k)
+
+-- ---- the first of those that are held
+
+fit_each : (m : ℕ) (xs : List ℕ) → ((i : ℕ) → i < length xs → get_or xs i 0 / 512 < 2 ^ m) → TagsFit m xs
+fit_each m [] f = tt
+fit_each m (x ∷ xs) f = (f 0 (omega arith), fit_each m xs (λ i h. f (suc i) (omega arith)))
+
+-- a part of them
+pub front_part : (m from n : ℕ) (xs : List ℕ) → from + n ≤ length xs → FrontFits m xs (from + n) → TagsFit m (take n (drop from xs))
+front_part m from n xs h f =
+    let long : length (take n (drop from xs)) ≡ n = length-take-le n (drop from xs) (omega (arith, length-drop from xs)) in
+    fit_each m (take n (drop from xs))
+    (λ i l.
+    rw (get_or-take n (drop from xs) i 0 (omega (arith, long, l)), get_or-drop from xs i 0) (f (from + i) (omega (arith, long, l))))
+
+pub tags_front : (m n : ℕ) (xs : List ℕ) → TagsFit m (take n xs) → n ≤ length xs → FrontFits m xs n
+tags_front m (suc n) (x ∷ xs) t l zero h = t.0
+tags_front m (suc n) (x ∷ xs) t l (suc i) h = tags_front m n xs t.1 (omega arith) i (omega arith)
+tags_front m zero xs t l i h = absurd (omega arith)
+tags_front m (suc n) [] t l i h = absurd (omega arith)

@@ -16,14 +16,16 @@ use Rattle.words.specs.Words.{octets_of_word}
 use Rattle.words.proofs.Splice.{splice-splice}
 use Rattle.words.proofs.Words.{length-octets}
 use Rattle.stream_spec.specs.Packed.{fitted}
-use Rattle.stream_spec.specs.Layout.{head_octets, user_octets, size, shaped, odd, bit_of, mask_of, Kept, keep_bit, strb_bit, lane_octet, users_of, octets_of}
-use Rattle.stream_spec.proofs.Bits.{mask_fits, number_back}
+use Rattle.stream_spec.specs.Layout.{head_octets, user_octets, size, shaped, bit_of, mask_of, Kept, keep_bit, strb_bit, lane_octet, users_of, octets_of}
+use Rattle.stream_spec.proofs.Bits.{mask_fits}
 use Rattle.stream_spec.proofs.Pack.{length-fitted}
 use Rattle.stream_spec.proofs.Size.{size_is}
 use Rattle.stream_spec.proofs.Users.{users_fit}
 use Rattle.stream_write.specs.Write.{header_octets, null_lanes}
 use Rattle.stream_write.proofs.Fill.{fill_down}
 use Rattle.repack_scratch.specs.Codes.{kept_of, pair_from}
+use Rattle.repack_plain.specs.declared.stretch.Head.{Head}
+use Rattle.repack_plain.specs.Write.{record_of}
 use Rattle.repack_tags.specs.declared.Tags.{Tags}
 use Rattle.repack_tags.specs.Tags.{TagsFit, tags_of}
 use Rattle.repack_scratch.proofs.Fitted.{octet-is, strobe-is, user-is, fitted-octets, fitted-strb, fitted_users, fitted-keep}
@@ -169,11 +171,11 @@ four_writes out out1 out2 out3 out4 octs zeros us hdr n v lo lz h room e f g k =
     ∙ ap (λ (x : ℕ). ((octs ++ zeros) ++ us) ++ drop x out) all)
 
 -- header, items, nulls and user bits are the record
-record_octets : (m v pair last : ℕ) (codes tail : List ℕ) → length codes ≤ v → pair < 0x10000 → last ≤ 1
-    → header_octets (last % 256) (pair % 256) (pair / 256 % 256) (2 ^ length codes - 1) (mask_of (map strb_bit (lanes_with codes)))
+record_octets : (m v : ℕ) (head : Head) (codes tail : List ℕ) → length codes ≤ v
+    → header_octets (bit_of head.last) (head.pair % 256) (head.pair / 256) (2 ^ length codes - 1) (mask_of (map strb_bit (lanes_with codes)))
     ++ (((map lane_octet (lanes_with codes) ++ replicate {A = ℕ} (v - length codes) 0) ++ octets_of_word (user_octets v m) (users_of m (lanes_with codes))) ++ tail)
-    ≡ octets_of m (record { pair = pair_from pair; lanes = fitted v (lanes_with codes); last = odd last }) ++ tail
-record_octets m v pair last codes tail h p l =
+    ≡ octets_of m (record_of v (pair_from head.pair) codes head.last) ++ tail
+record_octets m v head codes tail h =
     let long = length-lanes codes in
     let kepts : length (map kept_of codes) ≡ length codes = length-map codes kept_of in
     let keep : mask_of (map keep_bit (fitted v (lanes_with codes))) ≡ 2 ^ length codes - 1 =
@@ -181,25 +183,24 @@ record_octets m v pair last codes tail h p l =
     let octs : map lane_octet (fitted v (lanes_with codes)) ≡ map lane_octet (lanes_with codes) ++ replicate {A = ℕ} (v - length codes) 0 =
     fitted-octets v (lanes_with codes) (omega (arith, long))
     ∙ ap (λ (n : ℕ). map lane_octet (lanes_with codes) ++ replicate {A = ℕ} (v - n) 0) long in
-    let high : pair / 256 % 256 ≡ pair / 256 = omega arith in
-    let bit : bit_of (odd last) ≡ last % 256 = omega (arith, number_back last l) in
-    rw (keep, octs, fitted-strb v (lanes_with codes) (omega (arith, long)), fitted_users m v (lanes_with codes) (omega (arith, long)), length-fitted v (lanes_with codes), high, bit)
+    rw (keep, octs, fitted-strb v (lanes_with codes) (omega (arith, long)), fitted_users m v (lanes_with codes) (omega (arith, long)), length-fitted v (lanes_with codes))
     refl
 
 -- what the four writes of a record come to
-pub record_written : (m v : ℕ) (out out1 out2 out3 out4 codes : List ℕ) (n pair last keep k : ℕ) (tags : Tags)
-    → length codes ≡ n → n ≤ v → size (shaped v m) ≤ length out → pair < 0x10000 → last ≤ 1 → keep ≡ 2 ^ n - 1 → k ≡ user_octets v m
+pub record_written : (m v : ℕ) (head : Head) (out out1 out2 out3 out4 codes : List ℕ) (n k : ℕ) (tags : Tags)
+    → length codes ≡ n → n ≤ v → size (shaped v m) ≤ length out
+    → k ≡ user_octets v m
     → tags ≡ tags_of m (lanes_with codes)
     → out1 ≡ splice 7 (map lane_octet (lanes_with codes)) out
     → out2 ≡ null_lanes n v out1
     → out3 ≡ splice (7 + v) (octets_of_word k tags.user) out2
-    → out4 ≡ header_octets (last % 256) (pair % 256) (pair / 256 % 256) keep tags.strb ++ drop 7 out3
-    → out4 ≡ octets_of m (record { pair = pair_from pair; lanes = fitted v (lanes_with codes); last = odd last }) ++ drop (size (shaped v m)) out
-record_written m v out out1 out2 out3 out4 codes n pair last keep k tags long few room p l ke kk te e f g h =
+    → out4 ≡ header_octets (bit_of head.last) (head.pair % 256) (head.pair / 256) (2 ^ n - 1) tags.strb ++ drop 7 out3
+    → out4 ≡ octets_of m (record_of v (pair_from head.pair) codes head.last) ++ drop (size (shaped v m)) out
+record_written m v head out out1 out2 out3 out4 codes n k tags long few room kk te e f g h =
     let us_long : length (octets_of_word (user_octets v m) (users_of m (lanes_with codes))) ≡ user_octets v m =
     length-octets (user_octets v m) (users_of m (lanes_with codes)) in
     let end : 7 + v + length (octets_of_word (user_octets v m) (users_of m (lanes_with codes))) ≡ size (shaped v m) = omega (arith, us_long, size_is (shaped v m)) in
     four_writes out out1 out2 out3 out4 (map lane_octet (lanes_with codes)) (replicate {A = ℕ} (v - n) 0) (octets_of_word (user_octets v m) (users_of m (lanes_with codes)))
-    (header_octets (last % 256) (pair % 256) (pair / 256 % 256) (2 ^ n - 1) (mask_of (map strb_bit (lanes_with codes)))) n v (length_octs codes ∙ long) (length-replicate {A = ℕ} (v - n) 0) few (omega (arith, end)) e f
-    (g ∙ rw (kk, te) refl) (h ∙ rw (ke, te) refl)
-    ∙ rw (end, ← long) (record_octets m v pair last codes (drop (size (shaped v m)) out) (omega arith) p l)
+    (header_octets (bit_of head.last) (head.pair % 256) (head.pair / 256) (2 ^ n - 1) (mask_of (map strb_bit (lanes_with codes)))) n v (length_octs codes ∙ long) (length-replicate {A = ℕ} (v - n) 0) few (omega (arith, end)) e f
+    (g ∙ rw (kk, te) refl) (h ∙ rw te refl)
+    ∙ rw (end, ← long) (record_octets m v head codes (drop (size (shaped v m)) out) (omega arith))

@@ -1,5 +1,5 @@
 -- Items with user bits: what is gathered of one record's lanes, and what is written of one record.
-use Rattle.std.specs.Prelude.{List, [], ◌∷◌, map, ℕ, ◌+◌, ◌/◌, ◌^◌, ◌≤◌, ◌<◌, length, take, drop, Option, Some}
+use Rattle.std.specs.Prelude.{List, [], ◌∷◌, map, ℕ, ◌/◌, ◌^◌, ◌<◌, length, get_or, take, drop, Option, Some}
 use Rattle.stream_spec.specs.Layout.{mask_of, Kept, strb_bit, users_of}
 use Rattle.repack_scratch.specs.Codes.{kept_of, tagged}
 use Rattle.repack_scratch.specs.Stands.{Gathered}
@@ -19,6 +19,10 @@ abbrev pub TagsFit : ℕ → List ℕ → Type 0
 TagsFit m [] = Unit {0}
 TagsFit m (x ∷ xs) = (x / 0x200 < 2 ^ m) × TagsFit m xs
 
+-- the same of the first n of those that are held
+abbrev pub FrontFits : ℕ → List ℕ → ℕ → Type 0
+FrontFits m items n = (i : ℕ) → i < n → get_or items i 0 / 0x200 < 2 ^ m
+
 -- what n lanes carry: the items of these codes, from item `from` on
 abbrev pub item_lanes : List ℕ → ℕ → ℕ → List (Option Kept)
 item_lanes codes from n = map Some (map kept_of (take n (drop from codes)))
@@ -26,14 +30,3 @@ item_lanes codes from n = map Some (map kept_of (take n (drop from codes)))
 -- TSTRB and the user bits of lanes
 abbrev pub tags_of : ℕ → List (Option Kept) → Tags
 tags_of m ls = record { strb = mask_of (map strb_bit ls); user = users_of m ls }
-
--- A record of v lanes with n items, from item `from` on, can be made: they are held, their bits fit, and so do the pair and the bit
--- of its head.
-pub record RecordFits (m v pair last : ℕ) (codes : List ℕ) (from n : ℕ) : Type 0 where
-  pub few : n ≤ v
-  pub low : 1 ≤ v
-  pub high : v ≤ 16
-  pub user : m ≤ 4
-  pub held : from + n ≤ length codes
-  pub fits : TagsFit m (take n (drop from codes))
-  pub headed : (pair < 0x10000) × (last ≤ 1)

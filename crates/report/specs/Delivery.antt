@@ -1,15 +1,15 @@
 -- What the program hands on: what it knows of a file, the report that a summary and its buffers are of, and what may be saved
 -- and printed. Words in quotes are paper 01's.
-use Rattle.std.specs.Prelude.{◌≡◌, true, List, ℕ, take, Option}
+use Rattle.std.specs.Prelude.{◌≡◌, true, List, ℕ, take, Option, option_copied}
+use denote.Ref.{Bor}
 use Rattle.report.specs.Counts.{IsPrefixLen}
 use Rattle.report_spec.specs.declared.Summary.{Summary}
-use Rattle.report_spec.specs.Report.{contents, Whole, report_of}
+use Rattle.report_spec.specs.Report.{Whole, report_of}
 use Rattle.report_spec.specs.Promises.{is_clean}
-use Rattle.report.specs.declared.files.Input.{Input}
 
--- the octets of a file that was read into this buffer, or none where they are not the whole file
-abbrev pub known : Input → List ℕ → Option (List ℕ)
-known input buffer = contents input.whole (take input.octets buffer)
+-- the octets of a file that was read, or none where they are not the whole file
+abbrev pub known : Option (Bor (List ℕ)) → Option (List ℕ)
+known read = option_copied read
 
 -- "buffers of 65,536 octets"
 abbrev pub room : ℕ

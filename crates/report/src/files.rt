@@ -3,7 +3,7 @@
 // std's contracts say nothing of what a call on a file reads or writes, so only code and tests/report show the rest: that `read_file`
 // hands over what the file holds, that `save` puts its octets into out.bin and flushes them, and that `print` puts its
 // letters on standard output. Proved of that is that nothing goes out of bounds and that every loop ends.
-ghost use Rattle.report.specs.Counts.{IsPrefixLen};
+ghost use Rattle.std.specs.Prelude.{◌≤◌, length, IfOk, IfSome};
 ghost use Rattle.report.specs.Delivery.{Saves, Prints};
 
 use arrayvec::ArrayString;
@@ -19,60 +19,45 @@ const EACCES: i32 = 13;
 
 const EINVAL: i32 = 22;
 
-// How many octets of a file stand at the front of the buffer, and whether they are the whole file: false where it can't be
-// opened, where a read fails at any point, and where the file is longer than the buffer.
-#[derive(Clone, Copy)]
-pub struct Input {
-    pub octets: usize,
-    pub whole: bool,
-}
+// What a line on standard error says of each failure: what is not done, and what to do.
+const NOT_SAVED: &str =
+    "report: out.bin is not written, so there is no report; make room and permission for out.bin and out.bin.part in this folder, then run again";
 
-// Reads the file of this name.
-pub fn read_file(rt: &impl Files, name: &str, buf: &mut [u8]) -> Input
-    ensures { IsPrefixLen result.octets buf.new }
+const NOT_FLUSHED: &str =
+    "report: out.bin is written, but its folder is not flushed to the disk, so there is no report; see to the disk, then run again";
+
+const NOT_PRINTED: &str =
+    "report: standard output can't be written; make room for it, then run again";
+
+// Reads the file of this name into the buffer and hands over its octets: nothing where they are not the whole file, since it can't be
+// opened, a read fails at any point, or the file is longer than the buffer.
+pub fn read_file<'a>(rt: &impl Files, name: &str, buf: &'a mut [u8]) -> Option<&'a [u8]>
+    ensures { IfSome result (λ octets. length octets.now ≤ length buf.old) }
 {
-    match fs::open(rt, name) {
-        Ok(mut file) => read_open(&mut file, buf),
-        Err(_) => Input {
-            octets: 0,
-            whole: false,
-        },
-    }
+    let mut file = fs::open(rt, name).ok()?;
+    read_open(&mut file, buf).ok()?
 }
 
 // Reads until the file ends, a read fails or the buffer is full. A read's failure is told from its end, since a folder can be
 // opened and only its read fails.
-fn read_open(file: &mut impl Read, buf: &mut [u8]) -> Input
-    ensures { IsPrefixLen result.octets buf.new }
+// stays: a loop over places; `io::copy` into the buffer says nothing of how many octets came, and std has no other read to a file's end.
+fn read_open<'a>(file: &mut impl Read, buf: &'a mut [u8]) -> io::Result<Option<&'a [u8]>>
+    ensures { IfOk result (λ read. IfSome read (λ octets. length octets.now ≤ length buf.old)) }
 {
     let mut at = 0;
     while at < buf.len() {
-        match file.read(&mut buf[at..]) {
-            Ok(0) => {
-                return Input {
-                    octets: at,
-                    whole: true,
-                };
-            }
-            Ok(n) => at += n,
-            Err(_) => {
-                return Input {
-                    octets: at,
-                    whole: false,
-                };
-            }
+        match file.read(&mut buf[at..])? {
+            0 => return Ok(Some(&buf[..at])),
+            n => at += n,
         }
     }
-    Input {
-        octets: at,
-        whole: at_end(file),
-    }
+    Ok(at_end(file)?.then_some(&*buf))
 }
 
 // Whether nothing is left to read.
-fn at_end(file: &mut impl Read) -> bool {
+fn at_end(file: &mut impl Read) -> io::Result<bool> {
     let mut spare = [0u8; 1];
-    matches!(file.read(&mut spare), Ok(0))
+    Ok(file.read(&mut spare)? == 0)
 }
 
 // Writes out.bin whole, flushes it, and its folder where that has a flush, and answers true. Where that fails, answers false:
@@ -83,16 +68,12 @@ pub fn save(rt: &(impl Files + Eprint), told: Summary, octets: &[u8]) -> bool
 {
     let part = match fs::create(rt, "out.bin.part") {
         Ok(part) => part,
-        Err(error) => return not_saved(rt, error),
+        Err(error) => return fail(rt, NOT_SAVED, error),
     };
-    let renamed = match write_and_close(part, octets) {
-        Ok(()) => fs::rename(rt, "out.bin.part", "out.bin"),
-        Err(error) => Err(error),
-    };
-    match renamed {
+    match write_and_close(part, octets).and_then(|()| fs::rename(rt, "out.bin.part", "out.bin")) {
         Ok(()) => flush_folder(rt),
         Err(error) => {
-            not_saved(rt, error);
+            fail(rt, NOT_SAVED, error);
             let _ = fs::remove_file(rt, "out.bin.part");
             false
         }
@@ -113,35 +94,10 @@ fn flush_folder(rt: &(impl Files + Eprint)) -> bool {
     match fs::open(rt, ".") {
         Ok(folder) => match folder.sync_all() {
             Ok(()) => true,
-            Err(error) => is_os_error(&error, EINVAL) || not_flushed(rt, error),
+            Err(error) => error.raw_os_error() == Some(EINVAL) || fail(rt, NOT_FLUSHED, error),
         },
-        Err(error) => is_os_error(&error, EACCES) || not_flushed(rt, error),
+        Err(error) => error.raw_os_error() == Some(EACCES) || fail(rt, NOT_FLUSHED, error),
     }
-}
-
-fn is_os_error(error: &io::Error, code: i32) -> bool {
-    match error.raw_os_error() {
-        Some(number) => number == code,
-        None => false,
-    }
-}
-
-fn not_saved(rt: &impl Eprint, error: io::Error) -> bool {
-    fail(
-        rt,
-        "report: out.bin is not written, so there is no report; make room and permission for out.bin and out.bin.part in this folder, then run again",
-        error,
-    );
-    false
-}
-
-fn not_flushed(rt: &impl Eprint, error: io::Error) -> bool {
-    fail(
-        rt,
-        "report: out.bin is written, but its folder is not flushed to the disk, so there is no report; see to the disk, then run again",
-        error,
-    );
-    false
 }
 
 // Prints a text, or says on standard error that it could not be printed.
@@ -149,23 +105,19 @@ pub fn print(rt: &(impl Print + Eprint), told: Summary, letters: &[u8])
     requires { Prints told letters.now }
 {
     if let Err(error) = rt.write_all(letters) {
-        fail(
-            rt,
-            "report: standard output can't be written; make room for it, then run again",
-            error,
-        );
+        fail(rt, NOT_PRINTED, error);
     }
 }
 
 // Writes a line to standard error: what failed, a colon and the system's words for why, without the number that std puts
-// behind them. Where standard error can't be written, nobody can be told.
-fn fail(rt: &impl Eprint, what: &str, error: io::Error) {
+// behind them. Where standard error can't be written, nobody can be told. Answers false, as what failed does.
+fn fail(rt: &impl Eprint, what: &str, error: io::Error) -> bool {
     let mut words = ArrayString::<256>::new();
     let _ = write!(words, "{error}");
     let words = words.as_str();
-    let why = match words.rsplit_once(" (os error ") {
-        Some((why, _)) => why,
-        None => words,
-    };
+    let why = words
+        .rsplit_once(" (os error ")
+        .map_or(words, |(why, _)| why);
     let _ = eprintln!(rt; "{what}: {why}");
+    false
 }

@@ -9,12 +9,11 @@
 mod files;
 
 ghost use Rattle.std.specs.Prelude.{◌≤◌, ◌≡◌, length};
-ghost use Rattle.report.specs.Counts.{IsPrefixLen};
 ghost use Rattle.report_spec.specs.Report.{report_of, text_most};
 ghost use Rattle.report_spec.specs.Promises.{is_clean};
 ghost use Rattle.report.specs.Delivery.{known, Tells, Delivers};
 
-use files::Input;
+use refusal::Refusal;
 use report_spec::{Summary, Verdict};
 use std::rt::Files;
 
@@ -31,57 +30,35 @@ fn main(rt: HostRuntime) {
     let mut output = [0u8; 65536];
     let setup = files::read_file(&rt, "setup.txt", &mut sheet);
     let capture = files::read_file(&rt, "take.bin", &mut take);
-    let told = report_on(setup, &sheet, capture, &take, &mut output, &mut text);
+    let told = report_on(setup, capture, &mut output, &mut text);
     deliver(&rt, told, &output, &text);
 }
 
 // The report on what was read of the two files.
 fn report_on(
-    setup: Input,
-    sheet: &[u8],
-    capture: Input,
-    take: &[u8],
+    sheet: Option<&[u8]>,
+    capture: Option<&[u8]>,
     output: &mut [u8],
     text: &mut [u8],
 ) -> Summary
-    requires prefix_len { IsPrefixLen setup.octets sheet.now }
-    requires prefix_len_2 { IsPrefixLen capture.octets take.now }
-    requires text_most_in_bounds { text_most ≤ length text.old }
-    ensures { Tells (report_of (known setup sheet.now) (known capture take.now) (length output.old)) result output.new text.new }
+    requires { text_most ≤ length text.old }
+    ensures { Tells (report_of (known sheet.entry) (known capture.entry) (length output.old)) result output.new text.new }
 {
-    let n = setup.octets;
-    let m = capture.octets;
-    report_call::report(
-        &sheet[..n],
-        setup.whole,
-        &take[..m],
-        capture.whole,
-        output,
-        text,
-    )
+    report_call::report(sheet, capture, output, text)
 }
 
 // The result first, and the text only after it: a clean report that is printed has its out.bin, on the disk.
 fn deliver(rt: &(impl Files + Print + Eprint), told: Summary, output: &[u8], text: &[u8])
     requires { Delivers told output.now text.now }
 {
-    let verdict = told.verdict;
-    if is_clean(verdict) {
-        let octets = told.octets;
-        if !files::save(rt, told, &output[..octets]) {
-            return;
-        }
+    if is_clean(told.verdict) && !files::save(rt, told, &output[..told.octets]) {
+        return;
     }
-    let letters = told.text;
-    files::print(rt, told, &text[..letters]);
+    files::print(rt, told, &text[..told.text]);
 }
 
-fn is_clean(verdict: Verdict) -> bool
+fn is_clean(verdict: Result<Verdict, Refusal>) -> bool
     ensures { result ≡ is_clean verdict }
 {
-    match verdict {
-        Verdict::Clean(_) => true,
-        Verdict::Broken(_, _) => false,
-        Verdict::Refused(_) => false,
-    }
+    matches!(verdict, Ok(Verdict::Clean(_)))
 }

@@ -1,9 +1,8 @@
--- Laws of the report's code: its text, its tests, packets, a clean take, and its steps; and what shows that the contracts of the steps
--- say something. The laws of the report itself are in report_spec.
+-- Laws of the code of the report: its text, packets, a clean take, converting and the other steps; and what shows that the contracts of
+-- the steps say something. The laws of the report itself are in report_spec.
 pub mod Told
-pub mod Passed
-pub mod Convert
 pub mod Packets
-pub mod Sound
 pub mod Steps
+pub mod Convert
+pub mod Sound
 pub mod Once

@@ -1,141 +1,85 @@
--- Laws of the verdict's text: lines put one after the other fit into 128 octets, and a text goes to the front of lent memory
--- or, where it does not fit, nowhere. Assumes nothing.
+-- Laws of the verdict's text: its lines, put one after the other. Assumes nothing.
+use Rattle.std.specs.Prelude.{Result, Ok, Err}
 use mathlib.Core.Path.{◌≡◌, refl, sym, ap, ap₂, ◌∙◌, subst}
-use mathlib.Core.List.{List, ◌++◌}
+use mathlib.Core.List.{List, [], ◌∷◌, ◌++◌, append_assoc, append-nil}
 use Prim.Native.Nat.{ℕ, ◌+◌, ◌^◌, ◌≤◌, ◌<◌}
 use native.Mathlib.Nat.{zero-add}
+use native.Mathlib.Numerals.{add-one}
 use native.Mathlib.Omega.{arith}
 use borrow.Author.Tests.{lt-ltb, le-ltb}
-use lib.ListN.{length, take, drop, length-append}
-use lib.Seq.{take-append_seam}
-use Rattle.report_setup_spec.specs.Grammar.{text as ascii}
+use denote.Ref.{Bor}
+use lib.ListN.{length, take, drop, get_or, length-append, take-append-drop}
+use lib.Seq.{take_all, take-suc, take-append_seam}
 use Rattle.stream_spec.specs.Memory.{in_front}
 use Rattle.text.specs.Text.{line, Put}
 use Rattle.text.proofs.Laws.{put_long, put_put}
-use Rattle.refusal.specs.Code.{code_of}
-use Rattle.refusal.specs.declared.Refusal.{Refusal}
-use Rattle.report_spec.specs.declared.Verdict.{Verdict}
-use Rattle.report_spec.specs.declared.Verdict.TheVariants.{Refused}
-use Rattle.report_spec.specs.Report.{refused_text, text_of, text_most}
-use Rattle.report_spec.proofs.Short.{line-short, two-short}
-use Rattle.report_call.specs.Steps.{two_lines, TwoFit, Rendered}
+use Rattle.report_spec.specs.Report.{text_most}
+use Rattle.report_spec.proofs.Short.{line-short}
+use Rattle.report_call.specs.Steps.{lines_of, lines_most, Rendered}
 
--- ---- lines one after the other
+abbrev Line : Type 0
+Line = Bor (List ℕ) × ℕ
 
-module _ (head k₁ k₂ out : List ℕ) (fit : TwoFit head k₁ k₂ out) (n₁ n₂ : ℕ) (f₁ : n₁ < 2 ^ 64) (f₂ : n₂ < 2 ^ 64) where
-  short_1 : length (line k₁ n₁) ≤ 31
-  short_1 = omega (arith, line-short k₁ n₁ f₁, fit.short_key)
+lines-append : (a b : List Line) → lines_of (a ++ b) ≡ lines_of a ++ lines_of b
+lines-append [] b = refl
+lines-append (l ∷ a) b =
+    ap (λ (xs : List ℕ). line l.0.now l.1 ++ xs) (lines-append a b) ∙ sym (append_assoc (line l.0.now l.1) (lines_of a) (lines_of b))
 
-  short_2 : length (line k₂ n₂) ≤ 31
-  short_2 = omega (arith, line-short k₂ n₂ f₂, fit.short_next)
+lines_most-append : (a b : List Line) → lines_most (a ++ b) ≡ lines_most a + lines_most b
+lines_most-append [] b = omega arith
+lines_most-append (l ∷ a) b = omega (arith, lines_most-append a b)
 
-  pub head-room : 0 + length head ≤ length out
-  head-room = omega (arith, fit.short_head, fit.room)
+-- what is known before each line: those before line i stand behind the head
+pub record Lines (head : List ℕ) (ls : List Line) (out o : List ℕ) (t i : ℕ) : Type 0 where
+  pub put : Put 0 (head ++ lines_of (take i ls)) out o t
+  pub short : length (lines_of (take i ls)) ≤ lines_most (take i ls)
 
-  module _ (o₁ : List ℕ) (t₁ : ℕ) (p₁ : Put 0 head out o₁ t₁) where
-    pub room_1 : t₁ + length (line k₁ n₁) ≤ length o₁
-    room_1 = omega (arith, p₁.next, put_long 0 head out o₁ t₁ p₁ head-room, short_1, fit.short_head, fit.room)
+module _ (head : List ℕ) (ls : List Line) (d : Line) (out : List ℕ) (room : length head + lines_most ls ≤ length out)
+    (i : ℕ) (l : i < length ls) (o : List ℕ) (t : ℕ) (p : Lines head ls out o t i) (f : (get_or ls i d).1 < 2 ^ 64)
+    (key : List ℕ) (e : key ≡ (get_or ls i d).0.now) where
+  abbrev told : List ℕ
+  told = head ++ lines_of (take i ls)
 
-    module _ (o₂ : List ℕ) (t₂ : ℕ) (p₂ : Put t₁ (line k₁ n₁) o₁ o₂ t₂) where
-      both : Put 0 (head ++ line k₁ n₁) out o₂ t₂
-      both = put_put 0 head (line k₁ n₁) out o₁ o₂ t₁ t₂ (omega (arith, short_1, fit.short_head, fit.room)) p₁ p₂
+  abbrev next : List ℕ
+  next = line key (get_or ls i d).1
 
-      long_2 : length (head ++ line k₁ n₁) ≤ 47
-      long_2 = omega (arith, length-append head (line k₁ n₁), short_1, fit.short_head)
+  one-more : take (i + 1) ls ≡ take i ls ++ (get_or ls i d ∷ [])
+  one-more = rw (add-one i) (take-suc ls i d l)
 
-      pub room_2 : t₂ + length (line k₂ n₂) ≤ length o₂
-      room_2 =
-          omega (
-            arith,
-            both.next,
-            put_long 0 (head ++ line k₁ n₁) out o₂ t₂ both (omega (arith, long_2, fit.room)),
-            long_2,
-            short_2,
-            fit.room,
-          )
+  lines-more : lines_of (take (i + 1) ls) ≡ lines_of (take i ls) ++ next
+  lines-more =
+      ap lines_of one-more
+      ∙ lines-append (take i ls) (get_or ls i d ∷ [])
+      ∙ rw (append-nil (line (get_or ls i d).0.now (get_or ls i d).1), e) refl
 
-      pub two_put : (o₃ : List ℕ) (t₃ : ℕ) → Put t₂ (line k₂ n₂) o₂ o₃ t₃ → Put 0 (two_lines head k₁ n₁ k₂ n₂) out o₃ t₃
-      two_put o₃ t₃ p₃ =
-          put_put 0 (head ++ line k₁ n₁) (line k₂ n₂) out o₂ o₃ t₂ t₃ (omega (arith, long_2, short_2, fit.room)) both p₃
+  more : head ++ lines_of (take (i + 1) ls) ≡ told ++ next
+  more = ap (λ (xs : List ℕ). head ++ xs) lines-more ∙ sym (append_assoc head (lines_of (take i ls)) next)
 
-  -- and one line more
-  module _ (o : List ℕ) (t : ℕ) (p : Put 0 (two_lines head k₁ n₁ k₂ n₂) out o t) (key : List ℕ) (n : ℕ) (small : length key ≤ 10) (f : n < 2 ^ 64) where
-    long_3 : length (two_lines head k₁ n₁ k₂ n₂) ≤ 78
-    long_3 = omega (arith, two-short head k₁ k₂ n₁ n₂ f₁ f₂, fit.short_head, fit.short_key, fit.short_next)
+  most-more : lines_most (take (i + 1) ls) ≡ lines_most (take i ls) + (length key + 21)
+  most-more = omega (arith, ap lines_most one-more, lines_most-append (take i ls) (get_or ls i d ∷ []), ap length e)
 
-    pub room_3 : t + length (line key n) ≤ length o
-    room_3 =
-        omega (
-          arith,
-          p.next,
-          put_long 0 (two_lines head k₁ n₁ k₂ n₂) out o t p (omega (arith, long_3, fit.room)),
-          long_3,
-          line-short key n f,
-          small,
-          fit.room,
-        )
+  next-short : length next ≤ length key + 21
+  next-short = line-short key (get_or ls i d).1 f
 
-    pub three_put : (o' : List ℕ) (t' : ℕ) → Put t (line key n) o o' t' → Put 0 (two_lines head k₁ n₁ k₂ n₂ ++ line key n) out o' t'
-    three_put o' t' q =
-        put_put 0 (two_lines head k₁ n₁ k₂ n₂) (line key n) out o o' t t' (omega (arith, long_3, line-short key n f, small, fit.room)) p q
+  fits : length told + length next ≤ length out
+  fits =
+      omega (
+        arith,
+        room,
+        p.short,
+        next-short,
+        most-more,
+        length-append head (lines_of (take i ls)),
+        ap lines_most (take-append-drop (i + 1) ls),
+        lines_most-append (take (i + 1) ls) (drop (i + 1) ls),
+      )
 
-pub clean_fit : (out : List ℕ) → text_most ≤ length out → TwoFit (ascii "verdict=clean\n") (ascii "transfers=") (ascii "packets=") out
-clean_fit out h = record { short_head = omega arith; short_key = omega arith; short_next = omega arith; room = h }
+  pub next_room : t + length next ≤ length o
+  next_room = omega (arith, fits, p.put.next, put_long 0 told out o t p.put (omega (arith, fits)))
 
--- ---- a text of its own array, and the lent slice
-
-module _ (xs before after : List ℕ) (r : ℕ) (p : Put 0 xs before after r) where
-  put_is : after ≡ in_front xs before
-  put_is = p.leaves ∙ ap (λ (k : ℕ). xs ++ drop k before) (zero-add (length xs))
-
-  count-is : r ≡ length xs
-  count-is = omega (arith, p.next)
-
-  pub prefix_fits : r ≤ length after
-  prefix_fits = omega (arith, count-is, ap length put_is, length-append xs (drop (length xs) before))
-
-  pub prefix_is : take r after ≡ xs
-  prefix_is = ap₂ take count-is put_is ∙ take-append_seam xs (drop (length xs) before)
-
-  pub prefix_long : r ≡ length (take r after)
-  prefix_long = count-is ∙ sym (ap length prefix_is)
-
-  -- `after` is an array of `text_most` octets, and so is `before`
-  module _ (array : length after ≡ text_most) (text : List ℕ) where
-    short : length xs ≤ text_most
-    short = omega (arith, count-is, prefix_fits, array)
-
-    pub told-nothing : length text < r → Rendered xs text text 0
-    told-nothing h =
-        let long : length text < length xs = omega (arith, count-is, h) in
-        record {
-          leaves = rw (lt-ltb (length text) (length xs) long) refl;
-          count = rw (lt-ltb (length text) (length xs) long) refl;
-          short = short;
-        }
-
-    pub told-room : r ≤ length text → 0 + length (take r after) ≤ length text
-    told-room h = omega (arith, prefix_long, h)
-
-    pub told-all : r ≤ length text → (text' : List ℕ) (k : ℕ) → Put 0 (take r after) text text' k → Rendered xs text text' k
-    told-all h text' k q =
-        let fits : length xs ≤ length text = omega (arith, count-is, h) in
-        record {
-          leaves =
-              rw (le-ltb (length text) (length xs) fits)
-              (q.leaves
-              ∙ ap (λ (n : ℕ). take r after ++ drop n text) (zero-add (length (take r after)))
-              ∙ ap (λ (ys : List ℕ). in_front ys text) prefix_is);
-          count = rw (le-ltb (length text) (length xs) fits) (omega (arith, q.next, prefix_long, count-is));
-          short = short;
-        }
-
--- ---- the text of each verdict
-
-pub text-of : (v : Verdict) {w : Verdict} → v ≡ w → (before after : List ℕ) (r : ℕ) → Put 0 (text_of w) before after r → Put 0 (text_of v) before after r
-text-of v e before after r p = subst (λ (x : Verdict). Put 0 (text_of x) before after r) (sym e) p
-
-pub text_of_refused : (v : Verdict) (why : Refusal) → v ≡ Refused why → (number place : ℕ) → number ≡ (code_of why).0 → place ≡ (code_of why).1
-    → (before after : List ℕ) (r : ℕ) → Put 0 (refused_text number place) before after r → Put 0 (text_of v) before after r
-text_of_refused v why e number place a b before after r p =
-    text-of v e before after r (subst (λ (x : ℕ). Put 0 (refused_text x (code_of why).1) before after r) a (subst (λ (x : ℕ). Put 0 (refused_text number x) before after r) b p))
+  pub next_put : (o' : List ℕ) (t' : ℕ) → Put t next o o' t' → Lines head ls out o' t' (i + 1)
+  next_put o' t' q =
+      record {
+        put = rw more (put_put 0 told next out o o' t t' (omega (arith, fits)) p.put q);
+        short = omega (arith, p.short, next-short, most-more, ap length lines-more, length-append (lines_of (take i ls)) next);
+      }

@@ -6,29 +6,27 @@
 mod lines;
 mod outcome;
 
+ghost use Rattle.std.specs.Prelude.{option_copied};
 ghost use Rattle.report_spec.specs.Report.{ReportedOn};
 
 use report_spec::Summary;
 
-// The report on a take of cycle records. `sheet_read` and `capture_read` tell whether the file was read whole: false where
-// it can't be read, and for a take also where it is over-long. Unless the verdict is clean, `out` keeps its content; where
-// `text` is too short for the text, it keeps its content.
+// The report on a take of cycle records. A file that was not read whole is `None`: one that can't be read, and for a take also one
+// that is over-long. Unless the verdict is clean, `out` keeps its content; where `text` is too short for the text, it keeps its
+// content.
 pub fn report(
-    sheet: &[u8],
-    sheet_read: bool,
-    capture: &[u8],
-    capture_read: bool,
+    sheet: Option<&[u8]>,
+    capture: Option<&[u8]>,
     out: &mut [u8],
     text: &mut [u8],
 ) -> Summary
-    ensures { ReportedOn sheet_read sheet.now capture_read capture.now out.old out.new text.old text.new result }
+    ensures { ReportedOn (option_copied sheet.entry) (option_copied capture.entry) out.old out.new text.old text.new result }
 {
-    let ending = outcome::of_sheet(sheet, sheet_read, capture, capture_read, out);
-    let verdict = ending.verdict;
-    let told = lines::render(verdict, text);
+    let ending = outcome::of_sheet(sheet, capture, out);
+    let verdict = ending.map(|end| end.verdict);
     Summary {
-        verdict: verdict,
-        text: told,
-        octets: ending.octets,
+        verdict,
+        text: lines::render(verdict, text),
+        octets: ending.map_or(0, |end| end.octets),
     }
 }

@@ -214,7 +214,6 @@ pub record Reported (w : Whole) (out out' text text' : List ℕ) (r : Summary) :
   pub result_length : r.octets ≡ length w.result
   pub short : length w.text ≤ text_most
 
--- the same, on what the call is handed: octets, and whether they are the whole file
-abbrev pub ReportedOn : Bool → List ℕ → Bool → List ℕ → List ℕ → List ℕ → List ℕ → List ℕ → Summary → Type 0
-ReportedOn sheetRead sheet captureRead capture out out' text text' r =
-    Reported (report_of (contents sheetRead sheet) (contents captureRead capture) (length out)) out out' text text' r
+-- the same, on what the call is handed: the octets of either file, or nothing
+abbrev pub ReportedOn : Option (List ℕ) → Option (List ℕ) → List ℕ → List ℕ → List ℕ → List ℕ → Summary → Type 0
+ReportedOn sheet capture out out' text text' r = Reported (report_of sheet capture (length out)) out out' text text' r

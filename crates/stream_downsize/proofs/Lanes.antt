@@ -5,12 +5,14 @@ use mathlib.Core.Path.{◌≡◌, refl, sym, ap, ap₂, ◌∙◌}
 use mathlib.Core.Bool.{Bool, true, false, cond}
 use mathlib.Core.List.{List, [], ◌∷◌, ◌++◌, map}
 use Prim.Native.Nat.{ℕ, zero, suc, ◌+◌, ◌*◌, ◌/◌, ◌%◌, ◌^◌, ◌≤◌, ◌<◌}
-use native.Mathlib.Nat.{add-zero, add-suc, zero-mul, suc-mul, mul_comm, mul-le-mul, div-one, div-div-eq-div-mul, pow-suc, pow-succ', mod-eq_of_lt}
+use native.Mathlib.Nat.{add-zero, add-suc, zero-mul, suc-mul, one-mul, mul_comm, mul-le-mul, div-one, div-div-eq-div-mul, pow-suc, pow-succ', mod-eq_of_lt}
 use native.Mathlib.Omega.{arith}
 use lib.Arith.{mod-mul}
 use lib.Pow.{pow_pos, pow_mono, shr-shr}
-use lib.ListN.{length, get_or, take, drop, length-map, length-drop, length-append}
-use lib.Seq.{drop-nil, drop-cons, drop_at, drop-length, length-take-le}
+use borrow.Rule.Slice.PartMut.{put_mid}
+use lib.ListN.{length, get_or, take, drop, set, length-map, length-drop, length-append, length-set}
+use Rattle.std.proofs.lemmas.List.{take_all, take_more, take_more_set}
+use lib.Seq.{drop-nil, drop-drop, drop_at, drop-length, length-take-le}
 use Rattle.words.specs.Splice.{splice}
 use Rattle.words.specs.Words.{octets_of_word}
 use Rattle.words.proofs.Splice.{splice-splice}
@@ -25,7 +27,7 @@ use Rattle.stream_spec.proofs.Pack.{length-fitted}
 use Rattle.stream_spec.proofs.Users.{lanes-tagged, users_fit}
 use Rattle.stream_record.specs.declared.Header.{Header}
 use Rattle.stream_write.specs.Write.{header_octets}
-use Rattle.stream_downsize.specs.Slices.{octet_if, user_if, lanes_in, data_in, Unreserved, slice_of, above}
+use Rattle.stream_downsize.specs.Slices.{lanes_in, data_in, Unreserved, slice_of, above}
 
 -- ---- the lowest lanes, and those above them
 
@@ -169,7 +171,7 @@ data_same m k (t ∷ ts) u w [] = ap₂ {C = List ℕ} (λ x xs. x ∷ xs) (octe
 data_same m k (t ∷ ts) u w (d ∷ ds) = ap₂ {C = List ℕ} (λ x xs. x ∷ xs) (octet-same t d (u % 2 ^ m) (w % 2 ^ k)) (data_same m k ts (u / 2 ^ m) (w / 2 ^ k) ds)
 
 lane-at : (m v j keep strb u : ℕ) (ds : List ℕ) → j < v → any_reserved (types_of v keep strb) ≡ false
-    → get_or (map lane_octet (lanes_of m (types_of v keep strb) u ds)) j 0 ≡ octet_if (get_or ds j 0) (strb / 2 ^ j)
+    → get_or (map lane_octet (lanes_of m (types_of v keep strb) u ds)) j 0 ≡ cond (odd (strb / 2 ^ j)) (get_or ds j 0) 0
 lane-at m zero j keep strb u ds h e = absurd (omega arith)
 lane-at m (suc v) zero keep strb u [] h e =
     rw (div-one strb) (lane-octet (odd keep) (odd strb) 0 (u % 2 ^ m) (neither (is_reserved (lane_type (odd keep) (odd strb))) (any_reserved (types_of v (keep / 2) (strb / 2))) e).0)
@@ -186,29 +188,36 @@ module _ (v : ℕ) (h : Header) (ds : List ℕ) where
   pub data_long : length (data_in v h ds) ≡ v
   data_long = length-map (lanes_in 0 v h 0 ds) lane_octet ∙ lanes-long 0 v h.keep h.strb 0 ds
 
-  pub data_none : drop v (data_in v h ds) ≡ []
-  data_none = go v (data_in v h ds) data_long
-    where
-      go : (n : ℕ) (xs : List ℕ) → length xs ≡ n → drop n xs ≡ []
-      go zero [] e = refl
-      go zero (x ∷ xs) e = absurd (omega arith)
-      go (suc n) [] e = refl
-      go (suc n) (x ∷ xs) e = go n xs (omega arith)
+  -- of v octets behind a header those of the first j lanes are written
+  pub record Filling (octets : List ℕ) (j : ℕ) : Type 0 where
+    pub long : length octets ≡ v
+    pub same : take j octets ≡ take j (data_in v h ds)
 
-  -- one octet more, from the last lane down
-  pub data_down : (i j y : ℕ) → i + 1 ≡ j → j ≤ v → Unreserved v h → y ≡ octet_if (get_or ds i 0) (h.strb / 2 ^ i)
-      → y ∷ drop j (data_in v h ds) ≡ drop i (data_in v h ds)
-  data_down i j y e l u f =
-      let next : suc i ≡ j = omega arith in
-      sym
-      (drop-cons (data_in v h ds) i 0 (rw data_long (omega arith))
-      ∙ rw (next, lane-at 0 v i h.keep h.strb 0 ds (omega arith) u, f) refl)
+  module _ (octets : List ℕ) where
+    pub filling_starts : length octets ≡ v → Filling octets 0
+    filling_starts e = record { long = e; same = refl }
+
+    module _ (j : ℕ) (f : Filling octets j) where
+      pub filling_lane : (y : ℕ) → j < v → Unreserved v h → y ≡ cond (odd (h.strb / 2 ^ j)) (get_or ds j 0) 0 → Filling (set octets j y) (j + 1)
+      filling_lane y l u e =
+          record {
+            long = length-set octets j y ∙ f.long;
+            same =
+                take_more_set octets j y (omega (arith, f.long))
+                ∙ rw (f.same, e, ← lane-at 0 v j h.keep h.strb 0 ds l u) (sym (take_more (data_in v h ds) j 0 (rw data_long l)));
+          }
+
+      -- all are written: they stand behind the header
+      pub filling_done : (out : List ℕ) (n : ℕ) → n ≡ v → v ≤ j → put_mid 7 n out octets ≡ take 7 out ++ (data_in v h ds ++ drop (7 + v) out)
+      filling_done out n e l =
+          let all : octets ≡ data_in v h ds = sym (take_all j octets (omega (arith, f.long))) ∙ f.same ∙ take_all j (data_in v h ds) (rw data_long l) in
+          rw (all, e, drop-drop v 7 out) refl
 
 -- ---- the user bits, lane by lane
 
 users_at : (m v i keep strb u : ℕ) (ds : List ℕ) → i < v
     → users_of m (drop i (lanes_of m (types_of v keep strb) u ds))
-    ≡ user_if m (u / 2 ^ (i * m)) (keep / 2 ^ i) + 2 ^ m * users_of m (drop (suc i) (lanes_of m (types_of v keep strb) u ds))
+    ≡ cond (odd (keep / 2 ^ i)) (u / 2 ^ (i * m) % 2 ^ m) 0 + 2 ^ m * users_of m (drop (suc i) (lanes_of m (types_of v keep strb) u ds))
 users_at m zero i keep strb u ds h = absurd (omega arith)
 users_at m (suc v) zero keep strb u [] h = rw (← no-lane_less u m, div-one keep, lane-user (odd keep) (odd strb) 0 (u % 2 ^ m)) refl
 users_at m (suc v) zero keep strb u (d ∷ ds) h = rw (← no-lane_less u m, div-one keep, lane-user (odd keep) (odd strb) d (u % 2 ^ m)) refl
@@ -216,6 +225,10 @@ users_at m (suc v) (suc i) keep strb u [] h =
     users_at m v i (keep / 2) (strb / 2) (u / 2 ^ m) [] (omega arith) ∙ rw (lane_less u m i, halved keep i) refl
 users_at m (suc v) (suc i) keep strb u (d ∷ ds) h =
     users_at m v i (keep / 2) (strb / 2) (u / 2 ^ m) ds (omega arith) ∙ rw (lane_less u m i, halved keep i) refl
+
+-- a one shifted by the user bits of a lane, in 64 bits
+pub shifted_lane : (m : ℕ) → m ≤ 4 → 1 * 2 ^ m % 0x10000000000000000 ≡ 2 ^ m
+shifted_lane m h = rw (one-mul (2 ^ m)) (mod-eq_of_lt (omega (arith, pow_mono h)))
 
 -- those of the lanes from lane j on are a number, whatever TSTRB and the data are
 pub record Tagging (m v keep user bits j : ℕ) : Type 0 where
@@ -235,7 +248,7 @@ module _ (m v keep user : ℕ) where
             ∙ drop-length (lanes_of m (types_of v keep strb) user ds)));
       }
 
-  module _ (bits j i y : ℕ) (g : Tagging m v keep user bits j) (next : i + 1 ≡ j) (e : y ≡ user_if m (user / 2 ^ (i * m)) (keep / 2 ^ i)) where
+  module _ (bits j i y : ℕ) (g : Tagging m v keep user bits j) (next : i + 1 ≡ j) (e : y ≡ cond (odd (keep / 2 ^ i)) (user / 2 ^ (i * m) % 2 ^ m) 0) where
     down : (strb : ℕ) (ds : List ℕ) → bits * 2 ^ m + y ≡ users_of m (drop i (lanes_of m (types_of v keep strb) user ds))
     down strb ds =
         let past : suc i ≡ j = omega arith in

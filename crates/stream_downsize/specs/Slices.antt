@@ -35,14 +35,6 @@ pub record Cuts (s t : Shape) : Type 0 where
 
 -- ---- one slice
 
--- a data octet where the lowest bit of strb is high
-abbrev pub octet_if : ℕ → ℕ → ℕ
-octet_if x strb = cond (odd strb) x 0
-
--- the m lowest user bits where the lowest bit of keep is high: "null lanes get zero bits"
-abbrev pub user_if : ℕ → ℕ → ℕ → ℕ
-user_if m user keep = cond (odd keep) (user % 2 ^ m) 0
-
 abbrev pub pair_in : Header → Pair
 pair_in h = record { tid = h.tid; tdest = h.tdest }
 
@@ -65,6 +57,10 @@ slice_of t h user ds last = record { pair = pair_in h; lanes = lanes_in t.user t
 -- the header without its v lowest lanes
 abbrev pub above : ℕ → Header → Header
 above v h = record { flags = h.flags; tid = h.tid; tdest = h.tdest; keep = h.keep / 2 ^ v; strb = h.strb / 2 ^ v }
+
+-- the header of the slice from lane `from` on: TLAST is on the last one only
+abbrev pub slice_header : ℕ → Bool → Header → Header
+slice_header from last h = record { flags = cond last (h.flags % 2) 0; tid = h.tid; tdest = h.tdest; keep = h.keep / 2 ^ from; strb = h.strb / 2 ^ from }
 
 -- the user bits without those of the lowest lanes, as many as the output has
 abbrev pub user_above : Shape → ℕ → ℕ

@@ -1,6 +1,6 @@
 -- Harvest's answer from judge's verdict: a refused take is refused alike, a broken one is unclean, and of a clean one only
 -- the room is left to be seen. Assumes nothing.
-use Rattle.std.specs.Prelude.{Option, None, Some}
+use Rattle.std.specs.Prelude.{Option, None, Some, Result, Ok, Err}
 use mathlib.Core.Path.{◌≡◌, refl, sym, ap, ap₂, ◌∙◌}
 use mathlib.Core.Bool.{Bool, true, false}
 use mathlib.Core.List.{List, [], ◌∷◌, ◌++◌, map}
@@ -12,9 +12,7 @@ use Rattle.refusal.specs.declared.Refusal.{Refusal}
 use Rattle.refusal.specs.declared.Refusal.TheVariants.{Unclean, Room}
 use Rattle.stream_spec.specs.declared.Shape.{Shape}
 use Rattle.stream_spec.specs.declared.Verdict.{Verdict}
-use Rattle.stream_spec.specs.declared.Verdict.TheVariants.{Clean, Broken, Refused}
-use Rattle.stream_spec.specs.declared.Written.{Written}
-use Rattle.stream_spec.specs.declared.Written.TheVariants.{Records, Refused as NotWritten}
+use Rattle.stream_spec.specs.declared.Verdict.TheVariants.{Clean, Broken}
 use Rattle.stream_spec.specs.Layout.{size, records}
 use Rattle.refusal.specs.Checks.{Check, first}
 use Rattle.stream_spec.specs.Checks.{capture_most, room_check}
@@ -25,7 +23,6 @@ use Rattle.stream_spec.specs.Walk.{Narrow, Passed}
 use Rattle.stream_spec.proofs.Harvest.{harvested-long, harvested-short}
 use Rattle.stream_spec.proofs.Passed.{passed_narrow}
 use Rattle.stream_spec.proofs.Clean.{clean-count, clean-passed}
-use Rattle.stream_harvest.specs.Filling.{TakeFits}
 
 -- ---- the first refusal, from the verdict
 
@@ -54,10 +51,10 @@ unclean_first (f ∷ fs) = go f.found refl (unclean_first fs)
     go false e ih = rw e ih
 
 -- what a verdict leaves: a refusal, or else what follows
-abbrev refusal_of : Verdict → Option Refusal → Option Refusal
-refusal_of (Refused r) o = Some r
-refusal_of (Broken cycle rule) o = Some (Unclean cycle rule)
-refusal_of (Clean n) o = o
+abbrev refusal_of : Result Verdict Refusal → Option Refusal → Option Refusal
+refusal_of (Err r) o = Some r
+refusal_of (Ok (Broken cycle rule)) o = Some (Unclean cycle rule)
+refusal_of (Ok (Clean n)) o = o
 
 left_of : (j : Option Refusal) (f : Option Finding) (n : ℕ) (o : Option Refusal) → or_else j (or_else (unclean_of f) o) ≡ refusal_of (verdict j f n) o
 left_of (Some r) f n o = refl
@@ -66,7 +63,7 @@ left_of None None n o = refl
 
 -- ---- the answers
 
-module _ (s : Shape) (xs : List ℕ) (v : Verdict) (judged : v ≡ judge_answer s xs) where
+module _ (s : Shape) (xs : List ℕ) (v : Result Verdict Refusal) (judged : v ≡ judge_answer s xs) where
   left : (room : ℕ) → harvest_refusal s xs room ≡ refusal_of v (first (room_check (harvested s xs) room ∷ []))
   unfolding judge_answer
   left room =
@@ -76,25 +73,25 @@ module _ (s : Shape) (xs : List ℕ) (v : Verdict) (judged : v ≡ judge_answer 
       ∙ ap (or_else (first (judge_checks s xs)))
       (first-append rules roomy ∙ ap (λ (o : Option Refusal). or_else o (first roomy)) (unclean_first (findings s 0 None (records s xs))))
       ∙ left_of (first (judge_checks s xs)) (first_finding s xs) (transfer_count s xs) (first roomy)
-      ∙ sym (ap (λ (x : Verdict). refusal_of x (first roomy)) judged)
+      ∙ sym (ap (λ (x : Result Verdict Refusal). refusal_of x (first roomy)) judged)
 
   module _ (before : List ℕ) where
-    refused_by : (r : Refusal) → harvest_refusal s xs (length before) ≡ Some r → Harvested s xs before before (NotWritten r)
+    refused_by : (r : Refusal) → harvest_refusal s xs (length before) ≡ Some r → Harvested s xs before before (Err r)
     unfolding harvest_answer harvest_after
     refused_by r e = record { is = rw e refl; shows = rw e refl; leaves = rw e refl }
 
-    pub harvest-refused : (r : Refusal) → v ≡ Refused r → Harvested s xs before before (NotWritten r)
-    harvest-refused r e = refused_by r (left (length before) ∙ ap (λ (x : Verdict). refusal_of x (first (room_check (harvested s xs) (length before) ∷ []))) e)
+    pub harvest-refused : (r : Refusal) → v ≡ Err r → Harvested s xs before before (Err r)
+    harvest-refused r e = refused_by r (left (length before) ∙ ap (λ (x : Result Verdict Refusal). refusal_of x (first (room_check (harvested s xs) (length before) ∷ []))) e)
 
-    pub harvest-broken : (cycle rule : ℕ) → v ≡ Broken cycle rule → Harvested s xs before before (NotWritten (Unclean cycle rule))
+    pub harvest-broken : (cycle rule : ℕ) → v ≡ Ok (Broken cycle rule) → Harvested s xs before before (Err (Unclean cycle rule))
     harvest-broken cycle rule e =
-        refused_by (Unclean cycle rule) (left (length before) ∙ ap (λ (x : Verdict). refusal_of x (first (room_check (harvested s xs) (length before) ∷ []))) e)
+        refused_by (Unclean cycle rule) (left (length before) ∙ ap (λ (x : Result Verdict Refusal). refusal_of x (first (room_check (harvested s xs) (length before) ∷ []))) e)
 
-  module _ (n : ℕ) (clean : v ≡ Clean n) where
-    sound : judge_answer s xs ≡ Clean n
+  module _ (n : ℕ) (clean : v ≡ Ok (Clean n)) where
+    sound : judge_answer s xs ≡ Ok (Clean n)
     sound = sym judged ∙ clean
 
-    tests : Passed s xs
+    pub tests : Passed s xs
     tests = clean-passed s xs n sound
 
     counted : n ≡ transfer_count s xs
@@ -113,21 +110,21 @@ module _ (s : Shape) (xs : List ℕ) (v : Verdict) (judged : v ≡ judge_answer 
 
       module _ (before : List ℕ) where
         by_room : harvest_refusal s xs (length before) ≡ first (room_check (harvested s xs) (length before) ∷ [])
-        by_room = left (length before) ∙ ap (λ (x : Verdict). refusal_of x (first (room_check (harvested s xs) (length before) ∷ []))) clean
+        by_room = left (length before) ∙ ap (λ (x : Result Verdict Refusal). refusal_of x (first (room_check (harvested s xs) (length before) ∷ []))) clean
 
-        pub harvest-room : length before < n * z → Harvested s xs before before (NotWritten Room)
+        pub harvest-room : length before < n * z → Harvested s xs before before (Err Room)
         harvest-room l =
             let short : length before < length (harvested s xs) = omega (arith, long-is) in
             refused_by before Room (by_room ∙ rw (lt-ltb (length before) (length (harvested s xs)) short) refl)
 
-        pub harvest-fits : n * z ≤ length before → TakeFits s xs before
-        harvest-fits l = record { passed = tests; room = omega (arith, long-is) }
+        pub harvest-fits : n * z ≤ length before → length (harvested s xs) ≤ length before
+        harvest-fits l = omega (arith, long-is)
 
         pub harvest-written : n * z ≤ length before → (after : List ℕ) → after ≡ in_front (harvested s xs) before
-            → Harvested s xs before after (Records n)
+            → Harvested s xs before after (Ok n)
         unfolding harvest_answer harvest_after
         harvest-written l after e =
             let fits : length (harvested s xs) ≤ length before = omega (arith, long-is) in
             let taken : harvest_refusal s xs (length before) ≡ None = by_room ∙ rw (le-ltb (length before) (length (harvested s xs)) fits) refl in
-            let told = ap {B = Written} Records counted in
+            let told = ap (λ (m : ℕ). Ok m) counted in
             record { is = rw taken told; shows = rw taken (ap written_values told); leaves = rw taken e }

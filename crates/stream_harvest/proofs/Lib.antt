@@ -1,4 +1,3 @@
 pub mod Copied
-pub mod Cycle
 pub mod Fill
 pub mod Answer

@@ -1,11 +1,10 @@
 -- Harvesting as one pass over the cycles, against stream_spec's Handshake: what a cycle adds to the output, and what is known
 -- between two cycles.
-use Rattle.std.specs.Prelude.{◌≡◌, cond, List, [], ℕ, ◌≤◌, length, drop}
+use Rattle.std.specs.Prelude.{◌≡◌, cond, List, [], ℕ, ◌%◌, ◌≤◌, length}
 use Rattle.stream_spec.specs.declared.Shape.{Shape}
-use Rattle.stream_spec.specs.Layout.{size_least, size_most}
+use Rattle.stream_spec.specs.Layout.{size_least, size_most, size}
 use Rattle.stream_spec.specs.Handshake.{transferred, as_transfer, harvested}
 use Rattle.stream_spec.specs.Memory.{in_front, Writing}
-use Rattle.stream_spec.specs.Walk.{Passed, Left}
 
 -- a record whose octets find room at the front of `out`
 pub record RecordFits (rec out : List ℕ) : Type 0 where
@@ -28,13 +27,7 @@ pub record CyclePut (c before after : List ℕ) (n : ℕ) : Type 0 where
   pub is : n ≡ length (added c)
   pub leaves : after ≡ in_front (added c) before
 
--- a take that has passed its tests and whose transfers find room
-pub record TakeFits (s : Shape) (xs out : List ℕ) : Type 0 where
-  pub passed : Passed s xs
-  pub room : length (harvested s xs) ≤ length out
-
--- what is known at the start of each turn: a record begins at `at`, and the output is written up to `to`, all but what the
--- cycles left will add
-pub record Filling (s : Shape) (xs before out : List ℕ) (at to : ℕ) : Type 0 where
-  pub left : Left s xs at
-  pub writing : Writing before out to (harvested s xs) (harvested s (drop at xs))
+-- what is known at the start of each turn: the output is written up to `to`, all but what the cycles left, `rest`, will add
+pub record Filling (s : Shape) (xs rest before out : List ℕ) (to : ℕ) : Type 0 where
+  pub whole : length rest % size s ≡ 0
+  pub writing : Writing before out to (harvested s xs) (harvested s rest)

@@ -2,26 +2,24 @@
 // the rules that a take must keep are judged by the crate stream_judge. No rule is read here, and nothing is repacked.
 #![tactic(auto)]
 
-ghost use Rattle.std.specs.Prelude.{◌≡◌, ◌+◌, ◌≤◌, ◌<◌};
+ghost use Rattle.std.specs.Prelude.{◌≡◌, ◌+◌, ◌≤◌, ◌<◌, length};
 ghost use Rattle.stream_spec.specs.Layout.{size_least};
 ghost use Rattle.stream_spec.specs.Handshake.{as_transfer, harvested};
 ghost use Rattle.stream_spec.specs.Memory.{in_front};
 ghost use Rattle.stream_spec.specs.Answers.{Harvested};
-ghost use Rattle.stream_harvest.specs.Filling.{RecordFits, CycleFits, CyclePut, TakeFits};
+ghost use Rattle.stream_harvest.specs.Filling.{RecordFits, CycleFits, CyclePut};
 
 use refusal::Refusal;
+use stream_record::Take;
 use stream_record::layout::{FLAGS, SIZE_LEAST, TID};
-use stream_spec::{Shape, Verdict, Written};
+use stream_spec::{Shape, Verdict};
 
 // How many octets behind the eighth are moved in one group: all of them, but sixteen at most.
 fn grouped(n: usize) -> usize
     requires { size_least < n }
     ensures { (1 ≤ result) × (result ≤ 16) × (8 + result ≤ n) × (n ≤ 24 → 8 + result ≡ n) × (24 < n → result ≡ 16) }
 {
-    if n <= 24 {
-        return n - 8;
-    }
-    16
+    (n - 8).min(16)
 }
 
 // Writes the cycle record `rec` as a transfer record at the front of `out`: octet 0 has TLAST alone, and the others are
@@ -48,43 +46,42 @@ fn put_cycle(rec: &[u8], out: &mut [u8]) -> usize
     requires { CycleFits rec.now out.old }
     ensures { CyclePut rec.now out.old out.new result }
 {
-    if stream_judge::transfers(rec[FLAGS] as u32) == 0 {
+    if !stream_judge::is_transfer(u32::from(rec[FLAGS])) {
         return 0;
     }
     put_transfer(rec, out);
     rec.len()
 }
 
-// Writes the transfers of a clean take for which there is room. Each is written by a helper lent `out` from its offset on.
-fn put_cycles(s: Shape, capture: &[u8], out: &mut [u8])
-    requires { TakeFits s capture.now out.old }
-    ensures { out.new ≡ in_front (harvested s capture.now) out.old }
+// Writes the transfers of a clean take for which there is room.
+fn put_cycles(take: &Take<'_>, out: &mut [u8])
+    requires { length (harvested take.now.shape take.now.octets.now) ≤ length out.old }
+    ensures { out.new ≡ in_front (harvested take.now.shape take.now.octets.now) out.old }
 {
-    let size = stream_record::record_size(s);
-    let mut at = 0;
+    // stays: each is lent `out` from its place on, since a proof knows nothing of what is written through chunks_exact_mut
     let mut to = 0;
-    while at < capture.len() {
-        let next = at + size;
-        to += put_cycle(&capture[at..next], &mut out[to..]);
-        at = next;
+    for rec in take.records() {
+        to += put_cycle(rec, &mut out[to..]);
     }
 }
 
 // Harvests a take of cycle records: the number of transfers, which stand at the front of `out` as transfer records; or a
 // refusal, and nothing is written.
-pub fn harvest(s: Shape, capture: &[u8], out: &mut [u8]) -> Written
+pub fn harvest(s: Shape, capture: &[u8], out: &mut [u8]) -> Result<usize, Refusal>
     ensures { Harvested s capture.now out.old out.new result }
 {
-    let verdict = stream_judge::judge(s, capture);
-    match verdict {
-        Verdict::Refused(why) => Written::Refused(why),
-        Verdict::Broken(cycle, rule) => Written::Refused(Refusal::Unclean(cycle, rule)),
+    match stream_judge::judge(s, capture)? {
+        Verdict::Broken(cycle, rule) => Err(Refusal::Unclean(cycle, rule)),
         Verdict::Clean(count) => {
+            let take = Take {
+                shape: s,
+                octets: capture,
+            };
             if out.len() < count * stream_record::record_size(s) {
-                return Written::Refused(Refusal::Room);
+                return Err(Refusal::Room);
             }
-            put_cycles(s, capture, out);
-            Written::Records(count)
+            put_cycles(&take, out);
+            Ok(count)
         }
     }
 }

@@ -1,3 +1,3 @@
-pub mod Differ
+pub mod Groups
 pub mod Rules
 pub mod Turns

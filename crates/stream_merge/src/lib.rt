@@ -3,100 +3,124 @@
 // which octet of a record is what is in stream_record. Nothing is repacked here.
 #![tactic(auto)]
 
-ghost use Rattle.std.specs.Prelude.{◌≡◌, true, ◌+◌, ◌≤◌, ◌<◌, length, take, drop};
+ghost use Rattle.std.specs.Prelude.{◌≡◌, true, false, ◌+◌, ◌≤◌, ◌<◌, length, take, drop};
+ghost use Rattle.std.specs.Option.{option_map};
+ghost use Rattle.std.specs.Result.{result_err, result_ok};
 ghost use Rattle.refusal.specs.Checks.{first};
 ghost use Rattle.words.specs.Splice.{splice};
 ghost use Rattle.stream_spec.specs.Layout.{size};
 ghost use Rattle.stream_spec.specs.Memory.{in_front};
-ghost use Rattle.stream_spec.specs.Walk.{Narrow, Passed};
-ghost use Rattle.stream_record.specs.Checked.{checked_of};
+ghost use Rattle.stream_spec.specs.Walk.{Narrow};
 ghost use Rattle.merge_spec.specs.Merge.{tid, merged};
-ghost use Rattle.merge_spec.specs.Answers.{port_faults, port_checks, PortsMerged};
-ghost use Rattle.stream_merge.specs.Merging.{Copies, sent_as, Picks, picked_from, last_of, whose_turn, TurnFits, turn_behind, Ready, Passes, ListsFit};
+ghost use Rattle.merge_spec.specs.Answers.{named, port_faults, port_checks, PortsMerged};
+ghost use Rattle.stream_merge.specs.Merging.{Copies, sent_as, last_of, Ready, Passes, ListsFit};
 
-use merge_spec::Merged;
+use merge_spec::PortRefusal;
 use refusal::Refusal;
-use stream_record::Checked;
+use stream_record::Take;
 use stream_record::layout::{FLAGS, TID, tlast};
 use stream_spec::Shape;
 
 // So much is added to port 1's TIDs. A TID from here on is refused.
 const TID_ADDED: u8 = 0x80;
 
-// Whether port 1 has the turn, and where the next record of port 0 and of port 1 starts. A port with nothing left has no turn, unless
+// What is left of port 0's take and of port 1's, and whether port 1 has the turn. A port with nothing left has no turn, unless
 // neither has anything.
 #[derive(Clone, Copy)]
-struct Turn {
+struct Turn<'a> {
     port1: bool,
-    at0: usize,
-    at1: usize,
+    left0: &'a [u8],
+    left1: &'a [u8],
+}
+
+impl<'a> Turn<'a> {
+    ghost use Rattle.stream_merge.specs.Merging.{IsTurn, IsTurnBehind, TurnFits, picked_from};
+
+    // Where `wanted` says that the turn comes to port 1: a port with nothing left is skipped.
+    fn new(wanted: bool, left0: &'a [u8], left1: &'a [u8]) -> Turn<'a>
+        ensures { IsTurn wanted left0.now left1.now result }
+    {
+        Turn {
+            port1: if wanted {
+                !left1.is_empty()
+            } else {
+                left0.is_empty()
+            },
+            left0,
+            left1,
+        }
+    }
+
+    // The next record, of z octets, as a part of whichever take holds it.
+    fn pick(self, z: usize) -> &'a [u8]
+        requires { TurnFits z self }
+        ensures { result.now ≡ picked_from z self.entry }
+    {
+        if self.port1 {
+            return &self.left1[..z];
+        }
+        &self.left0[..z]
+    }
+
+    // The turn behind that record; after TLAST it goes over.
+    fn behind(self, z: usize, last: bool) -> Turn<'a>
+        requires { TurnFits z self }
+        ensures { IsTurnBehind z last self.entry result }
+    {
+        if self.port1 {
+            Turn::new(!last, self.left0, &self.left1[z..])
+        } else {
+            Turn::new(last, &self.left0[z..], self.left1)
+        }
+    }
 }
 
 // The refusal for the transfer record k of its list: 3, 4, then 17.
-fn port_fault(s: Shape, rec: &[u8], k: usize) -> Checked
+fn port_fault(s: Shape, rec: &[u8], k: usize) -> Result<(), Refusal>
     requires { Narrow s × (length rec.now ≡ size s) }
-    ensures { checked_of result ≡ first (port_faults s k rec.now) }
+    ensures { result_err result ≡ first (port_faults s k rec.now) }
 {
-    match stream_record::record_fault(s, rec, k) {
-        Checked::Refused(why) => {
-            return Checked::Refused(why);
-        }
-        Checked::Passed => {}
-    }
+    stream_record::record_fault(s, rec, k)?;
     if TID_ADDED <= rec[TID] {
-        return Checked::Refused(Refusal::Tags(k));
+        return Err(Refusal::Tags(k));
     }
-    Checked::Passed
+    Ok(())
 }
 
-// The first refusal for the records of a port's list.
-fn find_port_fault(s: Shape, transfers: &[u8]) -> Checked
-    requires { Passed s transfers.now }
-    ensures { checked_of result ≡ first (port_checks s transfers.now) }
+// The first refusal for the records of a port's take.
+fn find_port_fault(take: &Take<'_>) -> Result<(), Refusal>
+    ensures { result_err result ≡ first (port_checks take.now.shape take.now.octets.now) }
 {
-    let z = stream_record::record_size(s);
-    let mut at = 0;
-    let mut k = 0;
-    while at < transfers.len() {
-        let e = at + z;
-        match port_fault(s, &transfers[at..e], k) {
-            Checked::Refused(why) => {
-                return Checked::Refused(why);
-            }
-            Checked::Passed => {}
-        }
-        at = e;
-        k += 1;
-    }
-    Checked::Passed
+    let s = take.shape;
+    take.first_fault(|k, rec| port_fault(s, rec, k))
 }
+
+// The octets that are copied at a time.
+const WORD: usize = 8;
 
 // Eight octets of a record, to the same place of `out`.
-fn move8(rec: &[u8], out: &mut [u8], at: usize)
+fn move_word(rec: &[u8], out: &mut [u8], at: usize)
     requires { (at + 8 ≤ length rec.now) × (at + 8 ≤ length out.old) }
     ensures { out.new ≡ splice at (take 8 (drop at rec.now)) out.old }
 {
-    words::store::<u64>(out, at, words::load::<u64>(rec, at));
+    words::store(out, at, words::load::<u64>(rec, at));
 }
 
 // A record at the front of `out`, eight octets at a time; the last eight may overlap those before them.
+// stays: tried, `copy_from_slice` and a loop over the words both miss the times of docs/PERFORMANCE.md, 'Merging' (D72).
 fn copy_record(rec: &[u8], out: &mut [u8])
     requires { Copies rec.now out.old }
     ensures { out.new ≡ in_front rec.now out.old }
 {
     let n = rec.len();
-    move8(rec, out, 0);
-    if n <= 16 {
-        move8(rec, out, n - 8);
-        return;
+    move_word(rec, out, 0);
+    if 2 * WORD < n {
+        move_word(rec, out, WORD);
     }
-    move8(rec, out, 8);
-    if n <= 24 {
-        move8(rec, out, n - 8);
-        return;
+    if 3 * WORD < n {
+        move_word(rec, out, 2 * WORD);
     }
-    move8(rec, out, 16);
-    move8(rec, out, n - 8);
+    move_word(rec, out, n - WORD);
 }
 
 // The picked record at the front of `out`, which is lent from its offset on. Port 1's TID goes out with 128 added.
@@ -110,21 +134,6 @@ fn put_picked(rec: &[u8], out: &mut [u8], port1: bool)
     }
 }
 
-// The next record, of z octets, as a part of whichever take holds it.
-fn pick<'a>(z: usize, first: &'a [u8], second: &'a [u8], t: Turn) -> &'a [u8]
-    requires { Picks z first.now second.now t }
-    ensures { result.now ≡ picked_from z first.now second.now t }
-{
-    if t.port1 {
-        let from = t.at1;
-        let end = from + z;
-        return &second[from..end];
-    }
-    let from = t.at0;
-    let end = from + z;
-    &first[from..end]
-}
-
 // Whether a record is the last of its turn.
 fn ends_turn(rec: &[u8]) -> bool
     requires { 1 ≤ length rec.now }
@@ -133,106 +142,54 @@ fn ends_turn(rec: &[u8]) -> bool
     tlast(u32::from(rec[FLAGS])) == 1
 }
 
-// Whether port 1 has the turn where `wanted` says that it comes to it: a port with nothing left is skipped.
-fn whose_turn(wanted: bool, left0: bool, left1: bool) -> bool
-    ensures { result ≡ whose_turn wanted left0 left1 }
-{
-    if wanted {
-        return left1;
-    }
-    !left0
-}
-
-// The turn behind the record of turn t, whose z octets were passed on; after TLAST the turn goes over. n0 and n1 are the octets of the lists.
-fn turn_behind(t: Turn, z: usize, last: bool, n0: usize, n1: usize) -> Turn
-    requires { TurnFits z n0 n1 t }
-    ensures { result ≡ turn_behind z last n0 n1 t }
-{
-    if t.port1 {
-        let at1 = t.at1 + z;
-        return Turn {
-            port1: whose_turn(!last, t.at0 < n0, at1 < n1),
-            at0: t.at0,
-            at1: at1,
-        };
-    }
-    let at0 = t.at0 + z;
-    Turn {
-        port1: whose_turn(last, at0 < n0, t.at1 < n1),
-        at0: at0,
-        at1: t.at1,
-    }
-}
-
 // One record: it is picked, and only then copied to place `to`. Answers the turn behind it.
-fn pass_on<'a>(
-    z: usize,
-    first: &'a [u8],
-    second: &'a [u8],
-    t: Turn,
-    out: &mut [u8],
-    to: usize,
-) -> Turn
-    requires { Ready z first.now second.now t out.old to }
-    ensures { Passes z first.now second.now t out.old to out.new result }
+fn pass_on<'a>(t: Turn<'a>, z: usize, out: &mut [u8], to: usize) -> Turn<'a>
+    requires { Ready z t out.old to }
+    ensures { Passes z t.entry out.old to out.new result }
 {
-    let rec = pick(z, first, second, t);
+    let rec = t.pick(z);
     put_picked(rec, &mut out[to..], t.port1);
-    turn_behind(t, z, ends_turn(rec), first.len(), second.len())
+    t.behind(z, ends_turn(rec))
 }
 
-// All records of both lists, which are sound and find room.
-fn put_all<'a>(s: Shape, first: &'a [u8], second: &'a [u8], out: &mut [u8])
-    requires { ListsFit s first.now second.now out.old }
-    ensures { out.new ≡ in_front (merged s first.now second.now) out.old }
+// All records of both takes, which are sound and find room. Port 0 has the first turn.
+fn put_all(first: &Take<'_>, second: &Take<'_>, out: &mut [u8])
+    requires { ListsFit first.now second.now out.old }
+    ensures { out.new ≡ in_front (merged first.now.shape first.now.octets.now second.now.octets.now) out.old }
 {
-    let z = stream_record::record_size(s);
-    let total = first.len() + second.len();
-    let mut t = Turn {
-        port1: whose_turn(false, 0 < first.len(), 0 < second.len()),
-        at0: 0,
-        at1: 0,
-    };
-    let mut to = 0;
-    while to < total {
-        t = pass_on(z, first, second, t, out, to);
-        to += z;
+    let z = stream_record::record_size(first.shape);
+    let total = first.octets.len() + second.octets.len();
+    let mut t = Turn::new(false, first.octets, second.octets);
+    for to in (0..total).step_by(z) {
+        t = pass_on(t, z, out, to);
     }
+}
+
+// What a test of a port's take answers, with the port that is named where it refuses.
+fn at_port<T>(port: u32, tested: Result<T, Refusal>) -> Result<T, PortRefusal>
+    ensures refused { result_err result ≡ option_map (named port) (result_err tested) }
+    ensures passed { result_ok result ≡ result_ok tested }
+{
+    tested.map_err(|refusal| PortRefusal { port, refusal })
 }
 
 // Merges the takes `first` of port 0 and `second` of port 1, of shape s both, into `out`. Answers the number of records written, or
 // refuses with the port: 1 and 16 (port 0), 2 for `first` and for `second`, then record by record of `first` and then of `second` 3, 4
 // and 17, then 5 (port 0). Refused, `out` keeps its content.
-pub fn merge<'a>(s: Shape, first: &'a [u8], second: &'a [u8], out: &mut [u8]) -> Merged
+pub fn merge(s: Shape, first: &[u8], second: &[u8], out: &mut [u8]) -> Result<usize, PortRefusal>
     ensures { PortsMerged s first.now second.now out.old out.new result }
 {
-    match stream_record::check_take(s, first) {
-        Checked::Refused(why) => {
-            return Merged::Refused(0, why);
-        }
-        Checked::Passed => {}
+    let take0 = at_port(0, Take::new(s, first))?;
+    let take1 = at_port(1, Take::new(s, second))?;
+    at_port(0, find_port_fault(&take0))?;
+    at_port(1, find_port_fault(&take1))?;
+    let total = first.len() + second.len();
+    if out.len() < total {
+        return Err(PortRefusal {
+            port: 0,
+            refusal: Refusal::Room,
+        });
     }
-    match stream_record::check_length(s, second) {
-        Checked::Refused(why) => {
-            return Merged::Refused(1, why);
-        }
-        Checked::Passed => {}
-    }
-    match find_port_fault(s, first) {
-        Checked::Refused(why) => {
-            return Merged::Refused(0, why);
-        }
-        Checked::Passed => {}
-    }
-    match find_port_fault(s, second) {
-        Checked::Refused(why) => {
-            return Merged::Refused(1, why);
-        }
-        Checked::Passed => {}
-    }
-    if out.len() < first.len() + second.len() {
-        return Merged::Refused(0, Refusal::Room);
-    }
-    put_all(s, first, second, out);
-    Merged::Records((first.len() + second.len()) / stream_record::record_size(s))
+    put_all(&take0, &take1, out);
+    Ok(total / stream_record::record_size(s))
 }

@@ -3,3 +3,4 @@ pub mod Padding
 pub mod RecordFaults
 pub mod Tests
 pub mod Users
+pub mod Walking

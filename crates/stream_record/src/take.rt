@@ -1,12 +1,12 @@
 // A take whose shape and length have passed their tests. What a call asks of its input is asked here once; the functions behind the
 // tests are handed a Take, and test nothing again. A record of it stays a plain slice beside its shape: of a slice behind a struct's
 // reference the check does not know that its octets are below 256, which padding and user bits need.
-ghost use Rattle.std.specs.Prelude.{◌≡◌, [], ◌∷◌, ◌++◌, IfOk};
+ghost use Rattle.std.specs.Prelude.{◌≡◌, [], ◌∷◌, ◌++◌, ◌*◌, ◌≤◌, drop, IfOk};
 ghost use Rattle.std.specs.Result.{result_err};
 ghost use Rattle.std.specs.Slice.Iter.{chunks_exact_rest, chunks_exact_size};
 ghost use Rattle.refusal.specs.Checks.{first};
 ghost use Rattle.stream_spec.specs.Checks.{shape_checks, length_check, take_checks, transfer_checks};
-ghost use Rattle.stream_spec.specs.Layout.{size, records};
+ghost use Rattle.stream_spec.specs.Layout.{size, record_count, records};
 ghost use Rattle.stream_spec.specs.Walk.{Passed};
 
 use crate::{check_length, check_shape, check_shapes, record_fault, record_size};
@@ -54,12 +54,23 @@ impl<'a> Take<'a> {
         self.octets.chunks_exact(record_size(self.shape))
     }
 
+    // The take of the records from the record k on.
+    pub fn behind(&self, k: usize) -> Take<'a>
+        requires { k ≤ record_count self.now.shape self.now.octets.now }
+        ensures { IsTakeOf self.now.shape (drop (k * size self.now.shape) self.now.octets.now) result }
+    {
+        Take {
+            shape: self.shape,
+            octets: &self.octets[k * record_size(self.shape)..],
+        }
+    }
+
     // The first refusal for the records by a fault of one record, told at its place.
     pub fn first_fault<F: Fn(usize, &[u8]) -> Result<(), Refusal>>(
         &self,
         fault: F,
     ) -> Result<(), Refusal>
-        requires { TakesRecords (F.pre fault) self.now.shape }
+        requires { TakesRecords (F.pre fault) self.now.shape self.now.octets.now }
         ensures { FindsFirst (F.post fault) self.now.shape self.now.octets.now result }
     {
         for (k, rec) in self.records().enumerate() {

@@ -4,4 +4,3 @@ pub mod Fields
 pub mod Lanes
 pub mod Rules
 pub mod Turns
-pub mod Taken

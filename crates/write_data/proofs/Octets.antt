@@ -1,4 +1,5 @@
 -- The strobes of one octet: which of its bits are high, told by its remainder and its size. Assumes nothing.
+use Rattle.std.specs.Int.RustNames.{count_ones}
 use mathlib.Core.Bool.{Bool, true, false, not, ◌&&◌, and-false}
 use mathlib.Core.Path.{◌≡◌, refl, sym, ap, ◌∙◌}
 use Prim.Native.Nat.{ℕ, zero, suc, ◌+◌, ◌-◌, ◌*◌, ◌/◌, ◌%◌, ◌^◌, ◌≤◌, ◌<◌, min}
@@ -7,13 +8,12 @@ use native.Mathlib.Nat.{pow-suc}
 use native.Mathlib.Omega.{arith}
 use borrow.Author.Tests.{eqb-true, eqb-false, ne_eqb, le-leb, lt-leb, leb-true, leb-false, not-false}
 use lib.Arith.{mod-mul}
-use lib.Bits.{bit_and, and_le_l, and_le_r}
 use lib.Dec.{leb, eqb}
 use lib.Pow.{pow_pos}
 use Rattle.stream_spec.specs.Layout.{bit, odd}
 use Rattle.stream_spec.specs.Promises.{SetAbove}
 use Rattle.stream_spec.proofs.Bits.{bit-zero, bit-suc}
-use Rattle.stream_spec.proofs.Bools.{no_such, and_left, and_right}
+use Rattle.stream_spec.proofs.Bools.{no_such}
 use Rattle.stream_spec.proofs.Promises.{field_bits}
 use Rattle.stream_record.proofs.Field.{shifted}
 use Rattle.burst_spec.specs.Checks.{between, some_below}
@@ -99,11 +99,8 @@ module _ (octet lane lower upper : ℕ) where
   stray_zero e = none_below 8 strays (λ x l. low_bit x (low-none 8 octet (rw e refl) x l))
 
   -- all lanes are inside
-  pub stray_inside : (leb lower lane && leb (lane + 8) (upper + 1)) ≡ true → octet_stray octet lane lower upper ≡ false
-  stray_inside e =
-      let h = leb-true lower lane (and_left (leb lower lane) (leb (lane + 8) (upper + 1)) e) in
-      let l = leb-true (lane + 8) (upper + 1) (and_right (leb lower lane) (leb (lane + 8) (upper + 1)) e) in
-      none_below 8 strays (λ x m. inside x (omega arith) (omega arith))
+  pub stray_inside : lower ≤ lane → lane + 8 ≤ upper + 1 → octet_stray octet lane lower upper ≡ false
+  stray_inside h l = none_below 8 strays (λ x m. inside x (omega arith) (omega arith))
 
   -- neither
   pub stray_none : (n m : ℕ) → n ≡ min 8 (lower - lane) → m ≡ min 8 (upper + 1 - lane) → octet % 2 ^ n ≡ 0 → octet < 2 ^ m
@@ -137,28 +134,11 @@ module _ (octet lane lower upper x n : ℕ) (e : x ≡ octet) (small : x < 256) 
 
 -- ---- an octet's high strobes
 
--- two bits, four bits and eight bits at a time, as the code adds them up
-abbrev pub twos : ℕ → ℕ
-twos o = o - bit_and (o / 2) 0x55
-
-abbrev pub fours : ℕ → ℕ
-fours o = bit_and (twos o) 0x33 + bit_and (twos o / 4) 0x33
-
-abbrev pub added : ℕ → ℕ
-added o = bit_and (fours o + fours o / 16) 0xF
-
 -- all 256 octets, by computing
-every_octet : some_below 256 (λ o. not (eqb (added o) (octet_high o))) ≡ false
-unfolding some_below count_below
+every_octet : some_below 256 (λ o. not (eqb (count_ones o) (octet_high o))) ≡ false
+unfolding some_below count_below count_ones
 every_octet = refl
 
-pub high-added : (o : ℕ) → o < 256 → added o ≡ octet_high o
-high-added o l =
-    eqb-true (added o) (octet_high o) (not-false (eqb (added o) (octet_high o)) (each_below 256 (λ x. not (eqb (added x) (octet_high x))) every_octet o l))
-
--- what is subtracted is there, and no sum is large
-pub half_fits : (o : ℕ) → bit_and (o / 2) 0x55 ≤ o
-half_fits o = omega (arith, and_le_l (o / 2) 0x55)
-
-pub fours_few : (o : ℕ) → fours o ≤ 0x66
-fours_few o = omega (arith, and_le_r (twos o) 0x33, and_le_r (twos o / 4) 0x33)
+pub high-ones : (o : ℕ) → o < 256 → count_ones o ≡ octet_high o
+high-ones o l =
+    eqb-true (count_ones o) (octet_high o) (not-false (eqb (count_ones o) (octet_high o)) (each_below 256 (λ x. not (eqb (count_ones x) (octet_high x))) every_octet o l))

@@ -1,11 +1,10 @@
 -- Judging write beats as two passes over the take, against write_data_spec: what is known of a beat where it is judged, and what is
 -- known between two beats. Each is said by what is left: the verdict on the beats left is the verdict on all.
-use Rattle.std.specs.Prelude.{Bool, true, false, not, ◌&&◌, cond, List, [], ◌∷◌, ◌++◌, ◌≡◌, ℕ, ◌+◌, ◌*◌, ◌%◌, ◌≤◌, length, drop, Option, None}
+use Rattle.std.specs.Prelude.{Bool, true, false, not, ◌&&◌, cond, List, [], ◌∷◌, ◌++◌, ◌≡◌, ℕ, ◌+◌, ◌*◌, ◌%◌, ◌≤◌, length, Option, None, Some, Result}
 use Rattle.refusal.specs.declared.Refusal.{Refusal}
 use Rattle.refusal.specs.Checks.{first}
 use Rattle.stream_spec.specs.Checks.{capture_most, each}
 use Rattle.stream_spec.specs.Layout.{bit}
-use Rattle.stream_spec.specs.Walk.{LeftBy}
 use Rattle.burst_spec.specs.declared.Burst.{Burst}
 use Rattle.burst_spec.specs.Checks.{bus_most, bus_allowed, between, some_below}
 use Rattle.burst_spec.specs.Legal.{Accepted}
@@ -38,9 +37,9 @@ stray_below n r lower upper = some_below n (λ x. strobe r x && not (between low
 abbrev pub octet_high : ℕ → ℕ
 octet_high octet = count_below lanes_each (λ x. bit x octet)
 
--- the lowest rule that a beat breaks, or 0
-abbrev pub lowest_rule : Burst → ℕ → List ℕ → ℕ
-lowest_rule b k r = cond (w1 b k r) 1 (cond (w2 b k r) 2 (cond (w3 b k r) 3 (cond (w4 b k) 4 0)))
+-- the lowest rule that a beat breaks, if it breaks one
+abbrev pub lowest_rule : Burst → ℕ → List ℕ → Option ℕ
+lowest_rule b k r = cond (w1 b k r) (Some 1) (cond (w2 b k r) (Some 2) (cond (w3 b k r) (Some 3) (cond (w4 b k) (Some 4) None)))
 
 -- ---- the passes
 
@@ -54,11 +53,10 @@ pub record Whole (bus : ℕ) (xs : List ℕ) : Type 0 where
 abbrev pub fault_from : ℕ → ℕ → List (List ℕ) → Option Refusal
 fault_from bus k rs = first (each (field_checks bus) k rs)
 
--- the first pass: k beats, up to octet `at`, have no fault
-pub record Looking (bus : ℕ) (xs : List ℕ) (at k : ℕ) : Type 0 where
-  pub left : LeftBy (beat_size bus) xs at
-  pub few : k ≤ at
-  pub same : fault_from bus k (write_beats bus (drop at xs)) ≡ fault_from bus 0 (write_beats bus xs)
+-- the first pass: k beats stand in front of the octets left, and none of them has a fault
+pub record Looking (bus : ℕ) (xs rest : List ℕ) (k : ℕ) : Type 0 where
+  pub whole : length rest % beat_size bus ≡ 0
+  pub same : fault_from bus k (write_beats bus rest) ≡ fault_from bus 0 (write_beats bus xs)
 
 -- nothing is refused
 pub record Judgeable (b : Burst) (xs : List ℕ) : Type 0 where
@@ -67,13 +65,13 @@ pub record Judgeable (b : Burst) (xs : List ℕ) : Type 0 where
   pub sound : fault_from b.bus 0 (write_beats b.bus xs) ≡ None
 
 -- the verdict on the beats from beat k on, where n high strobes are counted so far
-abbrev pub verdict_from : Burst → ℕ → List (List ℕ) → ℕ → WriteVerdict
+abbrev pub verdict_from : Burst → ℕ → List (List ℕ) → ℕ → Result WriteVerdict Refusal
 verdict_from b k rs n = verdict None (first (each (rule_checks b) k rs ++ count_check b (k + length rs) ∷ [])) (n + all_strobes b.bus rs)
 
--- the second pass: k beats, up to octet `at`, break no rule and have so many high strobes
-pub record Turning (b : Burst) (xs : List ℕ) (at k high : ℕ) : Type 0 where
-  pub left : LeftBy (beat_size b.bus) xs at
-  pub few : k ≤ at
+-- the second pass: k beats stand in front of the octets left, break no rule and have so many high strobes
+pub record Turning (b : Burst) (xs rest : List ℕ) (k high : ℕ) : Type 0 where
+  pub whole : length rest % beat_size b.bus ≡ 0
+  pub front : length xs ≡ length rest + k * beat_size b.bus
   pub counted : high ≤ bus_most * k
-  pub sound : fault_from b.bus k (write_beats b.bus (drop at xs)) ≡ None
-  pub same : verdict_from b k (write_beats b.bus (drop at xs)) high ≡ verdict_from b 0 (write_beats b.bus xs) 0
+  pub sound : fault_from b.bus k (write_beats b.bus rest) ≡ None
+  pub same : verdict_from b k (write_beats b.bus rest) high ≡ verdict_from b 0 (write_beats b.bus xs) 0

@@ -4,4 +4,4 @@ use Rattle.axi3.proofs.cut.Given as goal
 
 -- the first j bursts of the cut stand in front
 abbrev pub invariant-loop-j : goal.invariant-loop-j
-invariant-loop-j l = l.place-items ≡ filled l.b l.j l.initial.place-items
+invariant-loop-j l = l.place-items ≡ filled l.accepted.burst l.j l.initial.place-items

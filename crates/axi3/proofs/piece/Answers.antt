@@ -11,33 +11,33 @@ use Rattle.axi3_spec.proofs.Pieces.{first-beat, beats-most}
 use Rattle.axi3.proofs.piece.Goals as goal
 
 -- beat 16*j is there, and no burst has more than 256
-there : (x : Burst) (j : ℕ) → Accepted x × (j < piece_count x) → (beats_most * j < beats x) × (beats x ≤ 256)
-there x j h = (first-beat x h.0.legal j h.1, beats-most x h.0.legal)
+there : (x : Burst) → Accepted x → (j : ℕ) → j < piece_count x → (beats_most * j < beats x) × (beats x ≤ 256)
+there x a j h = (first-beat x a.legal j h, beats-most x a.legal)
 
 -- the beats from beat k on, of which 16 are taken, less one
 left : (len k : ℕ) → k < len + 1 → min (len - k) 15 ≡ min 16 (len + 1 - k) - 1
 left len k h = omega arith
 
 pub overflow_cast-from : goal.overflow_cast-from
-overflow_cast-from c = record { fits = omega (arith, there c.args.b c.args.j c.requires) }
+overflow_cast-from c = record { fits = omega (arith, there c.args.accepted.burst c.args.accepted.accepted c.args.j c.requires) }
 
 pub overflow_mul-from : goal.overflow_mul-from
-overflow_mul-from c = record { fits = omega (arith, there c.args.b c.args.j c.requires) }
+overflow_mul-from c = record { fits = omega (arith, there c.args.accepted.burst c.args.accepted.accepted c.args.j c.requires) }
 
-pub beat_address-requires : goal.beat_address-requires
-beat_address-requires c = (c.requires.0, (there c.args.b c.args.j c.requires).0)
+pub address_of-requires : goal.address_of-requires
+address_of-requires c = (there c.args.accepted.burst c.args.accepted.accepted c.args.j c.requires).0
 
 pub overflow_sub-b : goal.overflow_sub-b
-overflow_sub-b c = omega (arith, there c.args.b c.args.j c.requires)
+overflow_sub-b c = omega (arith, there c.args.accepted.burst c.args.accepted.accepted c.args.j c.requires)
 
 pub returns : goal.returns
 unfolding piece
 returns c =
-    let len = c.min.ensures ∙ left c.args.b.len (beats_most * c.args.j) (there c.args.b c.args.j c.requires).0 in
+    let len = c.min.ensures ∙ left c.args.accepted.burst.len (beats_most * c.args.j) (there c.args.accepted.burst c.args.accepted.accepted c.args.j c.requires).0 in
     λ i. record {
-      start = c.beat_address.ensures i;
+      start = c.address_of.ensures i;
       len = len i;
-      size = c.args.b.size;
-      kind = c.args.b.kind;
-      bus = c.args.b.bus;
+      size = c.args.accepted.burst.size;
+      kind = c.args.accepted.burst.kind;
+      bus = c.args.accepted.burst.bus;
     }

@@ -5,4 +5,4 @@ use Rattle.axi3_spec.proofs.Pieces.{count-is}
 use Rattle.axi3.proofs.piece_count.Goals as goal
 
 pub returns : goal.returns
-returns c = omega (arith, count-is c.args.b c.requires.legal)
+returns c = omega (arith, count-is c.args.accepted.burst c.args.accepted.accepted.legal)

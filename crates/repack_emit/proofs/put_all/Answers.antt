@@ -1,40 +1,43 @@
 -- `repack_emit::put_all` meets its contract: stretch by stretch, what is left to write gets less. Assumes nothing.
-use native.Mathlib.Omega.{arith}
-use Rattle.repack_scratch.specs.Codes.{codes_in}
-use Rattle.repack_emit.proofs.Tables.{packing_starts, total-step, packing_fits, packing_next, packing_done}
+use Prim.Native.Nat.{◌+◌}
+use Rattle.repack_scratch.specs.Codes.{total}
+use Rattle.repack_emit.proofs.Tables.{entry_at, packing_starts, packing_held, packing_fits, packing_next, packing_done}
 use Rattle.repack_emit.proofs.put_all.Goals as goal
 
-pub loop-entry-init : goal.loop-entry-init
-loop-entry-init c =
-    let a = c.args in
-    packing_starts 0 a.v (codes_in a.octets.now a.marks.now) a.table.now a.out.now c.requires.1
+pub loop-e-init : goal.loop-e-init
+loop-e-init g c = packing_starts _ c.args.v _ c.args.table.now c.args.out.now c.requires.room
 
 pub put_stretch-to-requires : goal.put_stretch-to-requires
-put_stretch-to-requires c =
-    let l = c.loop-entry in
+put_stretch-to-requires g c =
     let a = c.args in
-    let p = c.requires.0 in
-    (p.held, rw c.entry_count-n.ensures (packing_fits 0 a.v (codes_in a.octets.now a.marks.now) a.table.now a.out.now l.out l.to l.from l.entry l.invariant c.loop-entry-test.true a.octets.now p.low p.high p.room))
+    let l = c.loop-e in
+    let n = c.count-left in
+    let cut = entry_at a.table.now l.e-index c.loop-e-test.true in
+    let held = packing_held _ a.v _ a.table.now a.out.now l.out l.to l.from l.e-index l.invariant _ c.head_of.result n.result cut c.head_of.ensures n.ensures in (
+      g.met.I.Items.fewer a.items.now (total a.table.now) (l.from + n.result) held c.requires.held,
+      packing_fits _ a.v _ a.table.now a.out.now l.out l.to l.from l.e-index l.invariant _ c.head_of.result n.result cut c.head_of.ensures n.ensures c.requires.few.0 c.requires.few.1 c.requires.few.2,
+    )
 
 pub overflow_add-from : goal.overflow_add-from
-overflow_add-from c =
-    let l = c.loop-entry in
+overflow_add-from g c =
     let a = c.args in
-    omega (arith, c.entry_count-n.ensures, l.invariant.sum, total-step 0 a.v (codes_in a.octets.now a.marks.now) a.table.now a.out.now l.out l.to l.from l.entry l.invariant c.loop-entry-test.true, c.requires.0.room, c.well_formed)
+    let l = c.loop-e in
+    let n = c.count-left in
+    let cut = entry_at a.table.now l.e-index c.loop-e-test.true in
+    let fits = packing_fits _ a.v _ a.table.now a.out.now l.out l.to l.from l.e-index l.invariant _ c.head_of.result n.result cut c.head_of.ensures n.ensures c.requires.few.0 c.requires.few.1 c.requires.few.2 in
+    record { fits = fits.counted }
 
-pub loop-entry-preserved : goal.loop-entry-preserved
-loop-entry-preserved c =
-    let count = c.entry_count-n.ensures in
-    let l = c.loop-entry in
+pub loop-e-preserved : goal.loop-e-preserved
+loop-e-preserved g c =
     let a = c.args in
+    let l = c.loop-e in
+    let n = c.count-left in
     let put = c.put_stretch-to in
-    rw count (packing_next 0 a.v (codes_in a.octets.now a.marks.now) a.table.now a.out.now l.out l.to l.from l.entry l.invariant c.loop-entry-test.true put.new.out put.result (rw count at put.ensures))
-
-pub shape_of-out : goal.shape_of-out
-shape_of-out c = c.loop-entry.invariant.writing.same
+    let cut = entry_at a.table.now l.e-index c.loop-e-test.true in
+    packing_next _ a.v _ a.table.now a.out.now l.out l.to l.from l.e-index l.invariant _ c.head_of.result n.result cut c.head_of.ensures n.ensures put.new.out put.result put.ensures
 
 pub returns : goal.returns
-returns c =
-    let l = c.loop-entry in
+returns g c =
     let a = c.args in
-    packing_done 0 a.v (codes_in a.octets.now a.marks.now) a.table.now a.out.now l.out l.to l.from l.entry l.invariant c.loop-entry-test.false
+    let l = c.loop-e in
+    packing_done _ a.v _ a.table.now a.out.now l.out l.to l.from l.e-index l.invariant c.loop-e-test.false

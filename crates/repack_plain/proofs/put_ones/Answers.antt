@@ -13,7 +13,7 @@ write_one-requires c =
     let l = c.loop-c in
     let held = data_held a.octets.now (a.c.from + a.c.left) c.requires.0 in
     let room = full-room 0 1 a.head _ _ a.c c.requires.1 held l.out l.c l.invariant c.loop-c-test.true in
-    (lent-room l.out l.c.to 8 (omega (arith, room, size_bare 1)), c.requires.1.headed.pair)
+    (lent-room l.out l.c.to 8 (omega (arith, room, size_bare 1)), a.head.fits)
 
 pub loop-c-preserved : goal.loop-c-preserved
 loop-c-preserved c =
@@ -22,5 +22,5 @@ loop-c-preserved c =
     let held = data_held a.octets.now (a.c.from + a.c.left) c.requires.0 in
     full-written 0 1 a.head _ _ a.c c.requires.1 held l.out l.c l.invariant c.loop-c-test.true 8 (sym (size_bare 1)) c.write_one.new.out
     (c.write_one.ensures
-    ∙ one_written a.head.pair (get_or a.octets.now l.c.from 0) a.octets.now (drop 8 (take (length l.out - l.c.to) (drop l.c.to l.out))) l.c.from
+    ∙ one_written a.head (get_or a.octets.now l.c.from 0) a.octets.now (drop 8 (take (length l.out - l.c.to) (drop l.c.to l.out))) l.c.from
     (omega (arith, c.requires.0, l.invariant.end, c.loop-c-test.true)) refl (omega (arith, c.type_inv.octets l.c.from)))

@@ -1,175 +1,50 @@
 -- `repack_tagged_parse::parse` meets its contract: record by record, and at last the open stretch. Assumes nothing.
-use mathlib.Core.Path.{◌≡◌, sym, ◌∙◌}
-use mathlib.Core.List.{List}
-use Prim.Native.Nat.{ℕ, ◌<◌}
-use native.Mathlib.Omega.{arith}
-use lib.ListN.{length}
-use Rattle.stream_spec.specs.declared.Shape.{Shape}
-use Rattle.stream_spec.specs.Layout.{size}
+use Rattle.std.proofs.Common.{rules, Err, ◌≡◌, ap, ◌∙◌}
+use Rattle.std.specs.Slice.Iter.{chunks_exact_rest, chunks_exact_size}
 use Rattle.stream_spec.proofs.Size.{size_pos}
-use Rattle.stream_spec.proofs.Passed.{passed_narrow}
-use Rattle.repack_scratch.specs.declared.Open.{Open}
-use Rattle.repack_parse.proofs.Take.{reading-closes}
-use Rattle.repack_tagged_parse.proofs.Parsing.{Parsing, parsing_starts, parsing_done, parsing_fits, parsing_needs, parsing_refused, parsing_next}
+use Rattle.repack_tagged_parse.proofs.Parsing.{parsing_starts, parsing_refused, parsing_next, parsing_done}
 use Rattle.repack_tagged_parse.proofs.parse.Goals as goal
 
-pub record_size-z-requires : goal.record_size-z-requires
-record_size-z-requires c =
-    passed_narrow c.args.s c.args.transfers.now c.requires.0
-
-pub loop-at-init : goal.loop-at-init
-loop-at-init c =
+pub loop-k-init : goal.loop-k-init
+loop-k-init c =
     let a = c.args in
-    parsing_starts a.s a.transfers.now a.items.now a.table.now c.requires.0 c.requires.1 c.requires.2
+    let t = a.take.now in
+    let e = c.enumerate-k-items.ensures in
+    let i = c.into_iter-k-iterator.ensures.into_iter_gives in
+    let sized = ap (λ x. chunks_exact_size x.iter) i ∙ ap chunks_exact_size e.source ∙ c.records.ensures.size in
+    let pos = size_pos t.shape in
+    let starts =
+    parsing_starts t.shape t.octets.now _ a.items.now a.table.now _ t.passed c.requires.0 c.requires.1
+    (ap (λ x. chunks_exact_rest x.iter) i ∙ ap chunks_exact_rest e.source ∙ c.records.ensures.rest) (ap (λ x. x.count) i ∙ e.count) in
+    (search rules, tt, sized, rw c.new-state.ensures starts)
 
-pub overflow_add-e : goal.overflow_add-e
-overflow_add-e c =
-    let shape : Shape = c.args.s in
-    let transfers : List ℕ = c.args.transfers.now in
-    let items : List ℕ = c.loop-at.items in
-    let table : List ℕ = c.loop-at.table in
-    let st : Open = c.loop-at.st in
-    let at : ℕ = c.loop-at.at in
-    let record-size : ℕ = c.record_size-z.result in
-    let sized : record-size ≡ size shape = c.record_size-z.ensures in
-    let parsed : Parsing shape transfers items table st at = c.loop-at.invariant in
-    omega (arith, parsing_fits shape transfers items table st at parsed c.loop-at-test.true record-size sized)
+pub loop-k-preserved : goal.loop-k-preserved
+loop-k-preserved c =
+    let t = c.args.take.now in
+    let l = c.loop-k in
+    let st = c.in-Some.ensures.steps in
+    let r = c.read_record in (
+      search rules,
+      tt,
+      st.0.0 ∙ l.invariant.2,
+      parsing_next t.shape t.octets.now _ l.items l.table l.state _ l.invariant.3 _ _ st.0.1.0 (st.0.1.1 ∙ l.invariant.2)
+          c.in-Some.k st.1 r.new.items r.new.table r.new.state _ st.2 r.auto.items c.in_ok-read_record.ensures,
+    )
 
-pub slice_bounds-read_record-end : goal.slice_bounds-read_record-end
-slice_bounds-read_record-end c =
-    let shape : Shape = c.args.s in
-    let transfers : List ℕ = c.args.transfers.now in
-    let items : List ℕ = c.loop-at.items in
-    let table : List ℕ = c.loop-at.table in
-    let st : Open = c.loop-at.st in
-    let at : ℕ = c.loop-at.at in
-    let record-size : ℕ = c.record_size-z.result in
-    let sized : record-size ≡ size shape = c.record_size-z.ensures in
-    let parsed : Parsing shape transfers items table st at = c.loop-at.invariant in
-    parsing_fits shape transfers items table st at parsed c.loop-at-test.true record-size sized
-
-pub read_record-requires : goal.read_record-requires
-read_record-requires c =
-    let shape : Shape = c.args.s in
-    let transfers : List ℕ = c.args.transfers.now in
-    let items : List ℕ = c.loop-at.items in
-    let table : List ℕ = c.loop-at.table in
-    let st : Open = c.loop-at.st in
-    let at : ℕ = c.loop-at.at in
-    let record-size : ℕ = c.record_size-z.result in
-    let sized : record-size ≡ size shape = c.record_size-z.ensures in
-    let parsed : Parsing shape transfers items table st at = c.loop-at.invariant in
-    let rules = parsing_needs shape transfers items table st at parsed c.loop-at-test.true record-size sized in
-    (passed_narrow shape transfers c.requires.0, rules.0, rules.1)
-
-pub shape_of-items-in-Refused : goal.shape_of-items-in-Refused
-shape_of-items-in-Refused c =
-    let shape : Shape = c.args.s in
-    let transfers : List ℕ = c.args.transfers.now in
-    let items : List ℕ = c.loop-at.items in
-    let table : List ℕ = c.loop-at.table in
-    let st : Open = c.loop-at.st in
-    let at : ℕ = c.loop-at.at in
-    let parsed : Parsing shape transfers items table st at = c.loop-at.invariant in
-    c.read_record.auto.items ∙ parsed.reading.same_items ∙ sym c.requires.1
-
-pub shape_of-table-in-Refused : goal.shape_of-table-in-Refused
-shape_of-table-in-Refused c =
-    let shape : Shape = c.args.s in
-    let transfers : List ℕ = c.args.transfers.now in
-    let items : List ℕ = c.loop-at.items in
-    let table : List ℕ = c.loop-at.table in
-    let st : Open = c.loop-at.st in
-    let at : ℕ = c.loop-at.at in
-    let parsed : Parsing shape transfers items table st at = c.loop-at.invariant in
-    c.read_record.auto.table ∙ parsed.reading.same_table ∙ sym c.requires.2
-
-pub returns-in-Refused : goal.returns-in-Refused
-returns-in-Refused c =
-    let shape : Shape = c.args.s in
-    let transfers : List ℕ = c.args.transfers.now in
-    let items : List ℕ = c.loop-at.items in
-    let table : List ℕ = c.loop-at.table in
-    let st : Open = c.loop-at.st in
-    let at : ℕ = c.loop-at.at in
-    let record-size : ℕ = c.record_size-z.result in
-    let sized : record-size ≡ size shape = c.record_size-z.ensures in
-    let parsed : Parsing shape transfers items table st at = c.loop-at.invariant in
-    let more : at < length transfers = c.loop-at-test.true in
-    parsing_refused shape transfers items table st at parsed more record-size sized c.in-Refused.r
-    (rw c.in-Refused.is at c.read_record.ensures)
-
-pub loop-at-smaller : goal.loop-at-smaller
-loop-at-smaller c =
-    let shape : Shape = c.args.s in
-    let transfers : List ℕ = c.args.transfers.now in
-    let items : List ℕ = c.loop-at.items in
-    let table : List ℕ = c.loop-at.table in
-    let st : Open = c.loop-at.st in
-    let at : ℕ = c.loop-at.at in
-    let record-size : ℕ = c.record_size-z.result in
-    let sized : record-size ≡ size shape = c.record_size-z.ensures in
-    let parsed : Parsing shape transfers items table st at = c.loop-at.invariant in
-    let more : at < length transfers = c.loop-at-test.true in
-    omega (arith, sized, size_pos shape, parsing_fits shape transfers items table st at parsed more record-size sized)
-
-pub loop-at-preserved : goal.loop-at-preserved
-loop-at-preserved c =
-    let shape : Shape = c.args.s in
-    let transfers : List ℕ = c.args.transfers.now in
-    let items : List ℕ = c.loop-at.items in
-    let table : List ℕ = c.loop-at.table in
-    let st : Open = c.loop-at.st in
-    let at : ℕ = c.loop-at.at in
-    let record-size : ℕ = c.record_size-z.result in
-    let sized : record-size ≡ size shape = c.record_size-z.ensures in
-    let parsed : Parsing shape transfers items table st at = c.loop-at.invariant in
-    let more : at < length transfers = c.loop-at-test.true in
-    parsing_next shape transfers items table st at parsed more record-size sized c.read_record.new.items
-    c.read_record.new.table c.in-Read.o c.read_record.auto.items (rw c.in-Read.is at c.read_record.ensures)
-
-pub finish-requires : goal.finish-requires
-finish-requires c =
-    let shape : Shape = c.args.s in
-    let transfers : List ℕ = c.args.transfers.now in
-    let items : List ℕ = c.loop-at.items in
-    let table : List ℕ = c.loop-at.table in
-    let st : Open = c.loop-at.st in
-    let at : ℕ = c.loop-at.at in
-    let parsed : Parsing shape transfers items table st at = c.loop-at.invariant in
-    reading-closes shape transfers items table st at parsed.reading c.loop-at-test.false
-
-pub shape_of-items : goal.shape_of-items
-shape_of-items c =
-    let shape : Shape = c.args.s in
-    let transfers : List ℕ = c.args.transfers.now in
-    let items : List ℕ = c.loop-at.items in
-    let table : List ℕ = c.loop-at.table in
-    let st : Open = c.loop-at.st in
-    let at : ℕ = c.loop-at.at in
-    let parsed : Parsing shape transfers items table st at = c.loop-at.invariant in
-    parsed.reading.same_items ∙ sym c.requires.1
-
-pub shape_of-table : goal.shape_of-table
-shape_of-table c =
-    let shape : Shape = c.args.s in
-    let transfers : List ℕ = c.args.transfers.now in
-    let items : List ℕ = c.loop-at.items in
-    let table : List ℕ = c.loop-at.table in
-    let st : Open = c.loop-at.st in
-    let at : ℕ = c.loop-at.at in
-    let parsed : Parsing shape transfers items table st at = c.loop-at.invariant in
-    c.finish.auto.table ∙ parsed.reading.same_table ∙ sym c.requires.2
+pub returns-in_err-read_record : goal.returns-in_err-read_record
+returns-in_err-read_record c =
+    let t = c.args.take.now in
+    let l = c.loop-k in
+    let st = c.in-Some.ensures.steps in
+    let f = c.in_err-read_record in
+    let given : c.from_residual.result ≡ Err f.field-0.0 = search rules in
+    rw given
+    (parsing_refused t.shape t.octets.now _ l.items l.table l.state _ l.invariant.3 _ _ st.0.1.0 (st.0.1.1 ∙ l.invariant.2)
+    c.in-Some.k st.1 f.field-0.0 f.ensures)
 
 pub returns : goal.returns
 returns c =
-    let shape : Shape = c.args.s in
-    let transfers : List ℕ = c.args.transfers.now in
-    let items : List ℕ = c.loop-at.items in
-    let table : List ℕ = c.loop-at.table in
-    let st : Open = c.loop-at.st in
-    let at : ℕ = c.loop-at.at in
-    let parsed : Parsing shape transfers items table st at = c.loop-at.invariant in
-    let finish = c.finish in
-    parsing_done shape transfers items table st at parsed c.loop-at-test.false finish.new.table finish.result
-    finish.ensures
+    let t = c.args.take.now in
+    let l = c.loop-k in
+    parsing_done t.shape t.octets.now _ l.items l.table l.state _ l.invariant.3 (rw (← l.invariant.2) c.in-None.ensures.steps.0.1.0)
+    c.finish.new.table c.finish.result c.finish.ensures

@@ -6,8 +6,8 @@ use lib.Pow.{pow_pos}
 use Rattle.repack_tags.proofs.Sifting.{shifted, lane-bits, sifting_starts, sifting_lane, sifting_done}
 use Rattle.repack_tags.proofs.sift_tagged.Goals as goal
 
-pub loop-j-init : goal.loop-j-init
-loop-j-init c =
+pub loop-lane-init : goal.loop-lane-init
+loop-lane-init c =
     let a = c.args in
     sifting_starts a.m a.keep a.strb a.user a.lanes.now a.items.now a.at
 
@@ -17,24 +17,21 @@ nonzero_rem-u c =
 
 pub keep_tagged-n-requires : goal.keep_tagged-n-requires
 keep_tagged-n-requires c =
-    let l = c.loop-j in (
-      omega (arith, l.invariant.near, l.invariant.same, c.requires.1, c.loop-j-test.true),
+    let l = c.loop-lane in (
+      omega (arith, l.invariant.near, l.invariant.same, c.requires.1, c.loop-lane-test.true),
       rw (shifted c.args.m c.requires.0) (lane-bits c.args.m l.u c.requires.0),
     )
 
-pub loop-j-preserved : goal.loop-j-preserved
-loop-j-preserved c =
+pub loop-lane-preserved : goal.loop-lane-preserved
+loop-lane-preserved c =
     let keeps = c.keep_tagged-n in
     let a = c.args in
-    let l = c.loop-j in
-    sifting_lane a.m a.keep a.strb a.user a.lanes.now a.items.now a.at l.items l.n l.k l.t l.u l.j l.invariant
-    c.requires.1 c.loop-j-test.true _ (ap (λ (x : ℕ). l.u % x) (shifted a.m c.requires.0)) keeps.new.items keeps.result keeps.ensures.value keeps.ensures.after
-
-pub shape_of-items : goal.shape_of-items
-shape_of-items c = c.loop-j.invariant.same
+    let l = c.loop-lane in
+    sifting_lane a.m a.keep a.strb a.user a.lanes.now a.items.now a.at l.items l.n l.k l.t l.u l.lane-index l.invariant
+    c.requires.1 c.loop-lane-test.true _ (ap (λ (x : ℕ). l.u % x) (shifted a.m c.requires.0)) keeps.new.items keeps.result keeps.ensures.value keeps.ensures.after
 
 pub returns : goal.returns
 returns c =
     let a = c.args in
-    let l = c.loop-j in
-    sifting_done a.m a.keep a.strb a.user a.lanes.now a.items.now a.at l.items l.n l.k l.t l.u l.j l.invariant c.loop-j-test.false
+    let l = c.loop-lane in
+    sifting_done a.m a.keep a.strb a.user a.lanes.now a.items.now a.at l.items l.n l.k l.t l.u l.lane-index l.invariant c.loop-lane-test.false

@@ -1,82 +1,33 @@
--- `stream_downsize::put_all` meets its contract. The loop's invariant: what is written and the slices of the records left are
--- the slices of all. Assumes nothing.
-use mathlib.Core.List.{List}
-use Prim.Native.Nat.{ℕ, ◌+◌, ◌≤◌}
-use native.Mathlib.Omega.{arith}
-use lib.ListN.{length}
+-- `stream_downsize::put_all` meets its contract: what is written and the slices of the records that are left are the slices of all.
+-- Assumes nothing.
+use Rattle.std.proofs.Common.{rules, ap, ◌∙◌}
+use Rattle.std.specs.Slice.Iter.{chunks_exact_rest, chunks_exact_size}
 use Rattle.stream_spec.proofs.Size.{size_pos}
-use Rattle.stream_spec.proofs.Walk.{record_fits}
-use Rattle.stream_downsize.proofs.Slices.{input_narrow}
 use Rattle.stream_downsize.proofs.Take.{sliding_starts, sliding_asks, sliding_next, sliding_done}
 use Rattle.stream_downsize.proofs.put_all.Goals as goal
 
-pub record_size-z-requires : goal.record_size-z-requires
-record_size-z-requires c = input_narrow c.requires.cuts
-
-pub loop-at-init : goal.loop-at-init
-loop-at-init c =
-    sliding_starts c.args.s c.args.t c.args.transfers.now c.args.out.now c.requires
-
-pub overflow_add-next : goal.overflow_add-next
-overflow_add-next c =
-    let octets : List ℕ = c.args.transfers.now in
-    let fits : c.loop-at.at + c.record_size-z.result ≤ length octets = let z = c.record_size-z in
-    record_fits c.args.s octets c.loop-at.at c.loop-at.invariant.left c.loop-at-test.true z.result z.ensures in
-    omega (arith, fits)
-
-pub slice_bounds-put_slices-count : goal.slice_bounds-put_slices-count
-slice_bounds-put_slices-count c =
-    let octets : List ℕ = c.args.transfers.now in
-    let fits : c.loop-at.at + c.record_size-z.result ≤ length octets = let z = c.record_size-z in
-    record_fits c.args.s octets c.loop-at.at c.loop-at.invariant.left c.loop-at-test.true z.result z.ensures in
-    omega (arith, fits)
-
-pub slice_bounds-put_slices-start : goal.slice_bounds-put_slices-start
-slice_bounds-put_slices-start c =
-    let octets : List ℕ = c.args.transfers.now in
-    let fits : c.loop-at.at + c.record_size-z.result ≤ length octets = let z = c.record_size-z in
-    record_fits c.args.s octets c.loop-at.at c.loop-at.invariant.left c.loop-at-test.true z.result z.ensures in
-    omega (arith, fits)
-
-pub slice_bounds-put_slices-end : goal.slice_bounds-put_slices-end
-slice_bounds-put_slices-end c =
-    let octets : List ℕ = c.args.transfers.now in
-    let fits : c.loop-at.at + c.record_size-z.result ≤ length octets = let z = c.record_size-z in
-    record_fits c.args.s octets c.loop-at.at c.loop-at.invariant.left c.loop-at-test.true z.result z.ensures in
-    omega (arith, fits)
+pub loop-rec-init : goal.loop-rec-init
+loop-rec-init c =
+    let a = c.args in
+    let i = c.into_iter-rec-iterator.ensures.into_iter_gives in
+    let e = c.records-rec-items.ensures in
+    let sized = ap chunks_exact_size i ∙ e.size in
+    let pos = size_pos a.take.now.shape in
+    (search rules, tt, sized, sliding_starts a.take.now.shape a.t a.take.now.octets.now a.out.now _ c.requires (ap chunks_exact_rest i ∙ e.rest))
 
 pub put_slices-to-requires : goal.put_slices-to-requires
 put_slices-to-requires c =
-    let octets : List ℕ = c.args.transfers.now in
-    let lent : List ℕ = c.args.out.now in
-    let a = c.args in
-    let z = c.record_size-z in
-    sliding_asks a.s a.t octets lent c.loop-at.out c.loop-at.to c.loop-at.at c.loop-at.invariant c.loop-at-test.true z.result z.ensures
-    lent c.requires
+    let st = c.in-Some.ensures.steps in
+    let l = c.loop-rec.invariant in
+    sliding_asks _ _ _ _ _ _ _ l.3 _ _ st.1.0 (st.1.1 ∙ l.2) c.args.out.now c.requires
 
-pub loop-at-smaller : goal.loop-at-smaller
-loop-at-smaller c =
-    let octets : List ℕ = c.args.transfers.now in
-    let fits : c.loop-at.at + c.record_size-z.result ≤ length octets = let z = c.record_size-z in
-    record_fits c.args.s octets c.loop-at.at c.loop-at.invariant.left c.loop-at-test.true z.result z.ensures in
-    omega (arith, fits, c.record_size-z.ensures, size_pos c.args.s)
-
-pub loop-at-preserved : goal.loop-at-preserved
-loop-at-preserved c =
-    let octets : List ℕ = c.args.transfers.now in
-    let lent : List ℕ = c.args.out.now in
-    let a = c.args in
-    let z = c.record_size-z in
-    let put = c.put_slices-to in
-    sliding_next a.s a.t octets lent c.loop-at.out c.loop-at.to c.loop-at.at c.loop-at.invariant c.loop-at-test.true z.result z.ensures
-    put.new.out put.result put.ensures.writes
-
-pub shape_of-out : goal.shape_of-out
-shape_of-out c = c.loop-at.invariant.writing.same
+pub loop-rec-preserved : goal.loop-rec-preserved
+loop-rec-preserved c =
+    let st = c.in-Some.ensures.steps in
+    let l = c.loop-rec.invariant in
+    (search rules, tt, st.0 ∙ l.2, sliding_next _ _ _ _ _ _ _ l.3 _ _ st.1.0 (st.1.1 ∙ l.2) _ _ c.put_slices-to.ensures.writes)
 
 pub returns : goal.returns
 returns c =
-    let octets : List ℕ = c.args.transfers.now in
-    let lent : List ℕ = c.args.out.now in
-    let a = c.args in
-    sliding_done a.s a.t octets lent c.loop-at.out c.loop-at.to c.loop-at.at c.loop-at.invariant c.loop-at-test.false
+    let l = c.loop-rec.invariant in
+    sliding_done _ _ _ _ _ _ _ l.3 (rw (← l.2) c.in-None.ensures.steps.1.0)

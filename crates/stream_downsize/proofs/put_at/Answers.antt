@@ -11,8 +11,8 @@ use Rattle.stream_downsize.proofs.put_at.Goals as goal
 pub returns : goal.returns
 returns c =
     let a = c.args in
-    let slice = octets_of a.t.user (slice_of a.t a.h a.user a.lanes.now (odd a.last)) in
-    let long = slice_long a.t a.h a.user a.lanes.now (odd a.last) in
+    let slice = octets_of a.t.user (slice_of a.t a.h a.user a.lanes.now (odd a.h.flags)) in
+    let long = slice_long a.t a.h a.user a.lanes.now (odd a.h.flags) in
     let lent = length a.out.now - a.to in
     rw (c.put_record.ensures, c.record_size.ensures) (
       refl,

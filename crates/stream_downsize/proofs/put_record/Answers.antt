@@ -10,41 +10,29 @@ use Rattle.stream_downsize.proofs.Lanes.{slice_written}
 use Rattle.stream_downsize.proofs.put_record.Goals as goal
 
 pub put_lanes-requires : goal.put_lanes-requires
-put_lanes-requires c =
-    (c.requires.0.width, c.requires.1, omega (arith, size_holds c.args.t, c.requires.2), c.requires.3)
+put_lanes-requires c = (c.requires.0.width, c.requires.1, omega (arith, size_holds c.args.t, c.requires.2), c.requires.3)
 
 pub write_user-requires : goal.write_user-requires
-write_user-requires c =
-    omega (arith, size_is c.args.t, c.requires.2, c.put_lanes.auto.out, c.user_octets-k.ensures.0)
-
-pub nonzero_rem-h : goal.nonzero_rem-h
-nonzero_rem-h c =
-    let masks : 1 * 2 ^ c.args.t.width % 4294967296 ≡ 2 ^ c.args.t.width = shifted c.args.t.width c.requires.0.width in
-    omega (arith, masks, pow_pos c.args.t.width)
-
-pub nonzero_rem-h-2 : goal.nonzero_rem-h-2
-nonzero_rem-h-2 c =
-    let masks : 1 * 2 ^ c.args.t.width % 4294967296 ≡ 2 ^ c.args.t.width = shifted c.args.t.width c.requires.0.width in
-    omega (arith, masks, pow_pos c.args.t.width)
+write_user-requires c = omega (arith, size_is c.args.t, c.requires.2, c.put_lanes.auto.out, c.user_octets-k.ensures.0)
 
 pub write_header-requires : goal.write_header-requires
 write_header-requires c =
-    let masks : 1 * 2 ^ c.args.t.width % 4294967296 ≡ 2 ^ c.args.t.width = shifted c.args.t.width c.requires.0.width in
     let a = c.args in
-    rw masks (
+    let wide = c.requires.0.width in
+    rw (shifted a.t.width wide) (
       omega (arith, size_holds a.t, c.requires.2, c.put_lanes.auto.out, c.write_user.auto.out),
-      omega (arith, mod-lt a.h.keep (pow_pos a.t.width), pow_mono c.requires.0.width),
-      omega (arith, mod-lt a.h.strb (pow_pos a.t.width), pow_mono c.requires.0.width),
+      omega (arith, c.requires.4),
+      omega (arith, mod-lt a.h.keep (pow_pos a.t.width), pow_mono wide),
+      omega (arith, mod-lt a.h.strb (pow_pos a.t.width), pow_mono wide),
     )
 
 pub returns : goal.returns
 returns c =
-    let masks : 1 * 2 ^ c.args.t.width % 4294967296 ≡ 2 ^ c.args.t.width = shifted c.args.t.width c.requires.0.width in
+    let a = c.args in
+    let masks : 1 * 2 ^ a.t.width % 4294967296 ≡ 2 ^ a.t.width = shifted a.t.width c.requires.0.width in
+    let lanes = c.put_lanes in
     let user = c.write_user in
     let bits = c.slice_user-bits in
-    let lanes = c.put_lanes in
-    let a = c.args in
-    let m = 1 * 2 ^ a.t.width % 4294967296 in
-    slice_written a.t a.h a.user a.lanes.now a.out.now lanes.new.out user.new.out c.write_header.new.out a.last
-    (a.h.keep % m) (a.h.strb % m) bits.result c.user_octets-k.result c.requires.2 c.requires.3 c.requires.4 (rw masks refl) (rw masks refl)
+    slice_written a.t a.h a.user a.lanes.now a.out.now lanes.new.out user.new.out c.write_header.new.out a.h.flags
+    _ _ bits.result c.user_octets-k.result c.requires.2 c.requires.3 c.requires.4 (rw masks refl) (rw masks refl)
     (bits.ensures a.h.strb a.lanes.now) c.user_octets-k.ensures.0 lanes.ensures user.ensures c.write_header.ensures

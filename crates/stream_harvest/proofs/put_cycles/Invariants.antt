@@ -1,13 +1,12 @@
-use mathlib.Core.Path.{◌≡◌}
-use Prim.Native.Nat.{◌-◌}
-use lib.ListN.{length}
-use Rattle.stream_spec.specs.declared.Shape.{Shape}
-use Rattle.stream_spec.specs.Layout.{size as size_of}
+use Rattle.std.specs.Slice.Iter.{chunks_exact_rest, chunks_exact_size}
+use Rattle.std.proofs.Common.{◌≡◌}
+use Rattle.stream_spec.specs.Layout.{size}
 use Rattle.stream_harvest.specs.Filling.{Filling}
 use Rattle.stream_harvest.proofs.put_cycles.Given as goal
 
-abbrev pub invariant-loop-at : goal.invariant-loop-at
-invariant-loop-at l = (s : Shape) → l.size ≡ size_of s → Filling s l.capture l.initial.out l.out l.at l.to
-
-abbrev pub decreases-loop-at : goal.decreases-loop-at
-decreases-loop-at l = length l.capture - l.at
+abbrev pub invariant-loop-rec : goal.invariant-loop-rec
+invariant-loop-rec l =
+    (goal.iterator-loop-rec).can_next l.rec-iterator
+    × (goal.iterator-loop-rec).is_finite l.rec-iterator
+    × (chunks_exact_size l.rec-iterator ≡ size l.take.shape)
+    × Filling l.take.shape l.take.octets.now (chunks_exact_rest l.rec-iterator) l.initial.out l.out l.to

@@ -1,87 +1,44 @@
 -- `stream_judge::changed` meets its contract: a group that differs tells, and the groups cover all octets from 1 on. Assumes nothing.
-use mathlib.Core.List.{List}
-use Prim.Native.Nat.{ℕ, ◌-◌}
 use native.Mathlib.Omega.{arith}
-use lib.ListN.{length}
-use Rattle.stream_judge.proofs.Differ.{Same, joined, group_same, differs-last, differs_group, ends_8, ends_same, ends_more}
+use Rattle.std.proofs.Common.{◌∙◌, refl}
+use Rattle.stream_judge.proofs.Groups.{Told, told_as, Ends, More, first_differs, ends-told, more-told, more_none, more_differs, all_same, last-told}
+use Rattle.stream_judge.proofs.changed.Goals.{Joined-differ-3, then-differ-2, else-differ-2, then-differ-3, else-differ-3+then-n-gt17, else-differ-3+else-n-gt17}
 use Rattle.stream_judge.proofs.changed.Goals as goal
 
-pub returns-then-prev-rec : goal.returns-then-prev-rec
-returns-then-prev-rec c =
-    let old : List ℕ = c.args.prev.now in
-    let new : List ℕ = c.args.rec.now in
-    differs-last old new c.if-prev-rec.true
+seen : (c : Joined-differ-3) → Told c.args.prev.now c.args.rec.now c.if-differ-3.value (More c.args.prev.now c.args.rec.now)
+seen c =
+    let p = c.args.prev.now in
+    let r = c.args.rec.now in
+    let ends : Told p r c.if-differ-2.value (Ends p r) = elim c.if-differ-2.branch [
+      | then-differ-2 w ↦
+          told_as p r (Ends p r) _ _ w.value-is
+          (first_differs p r (Ends p r) 8 1 c.differ-2.result (omega arith) c.differ-2.ensures w.if-differ-2.true)
+      | else-differ-2 w ↦
+          told_as p r (Ends p r) _ _ w.value-is
+          (ends-told p r (omega (arith, c.requires.low, c.if-n-eq-SIZE_LEAST.false)) c.differ-2.result w.differ-else-differ-2.result
+          c.differ-2.ensures w.differ-else-differ-2.ensures w.if-differ-2.false)
+    ] in
+    elim c.if-differ-3.branch [
+      | then-differ-3 w ↦ told_as p r (More p r) _ _ w.value-is (more_differs p r c.if-differ-2.value ends w.if-differ-3.true)
+      | else-differ-3+then-n-gt17 w ↦
+          told_as p r (More p r) _ _ w.value-is
+          (more-told p r c.if-differ-2.value ends w.if-differ-3.false w.differ-then-n-gt17.result w.differ-then-n-gt17.ensures)
+      | else-differ-3+else-n-gt17 w ↦
+          told_as p r (More p r) _ _ w.value-is (more_none p r c.if-differ-2.value ends w.if-differ-3.false w.if-n-gt17.false _ refl)
+    ]
 
-pub returns-then-differ4 : goal.returns-then-differ4
-returns-then-differ4 c =
-    let old : List ℕ = c.args.prev.now in
-    let new : List ℕ = c.args.rec.now in
-    let d = c.differ4 in
-    differs_group old new 4 1 d.result (omega arith) d.ensures c.if-differ4.true
+pub returns-then-differ-4 : goal.returns-then-differ-4
+returns-then-differ-4 c =
+    let h = c.if-differ-4.true in
+    h ∙ (seen (goal.at.returns-then-differ-4 c).Joined-differ-3).yes' h
 
-pub returns-then-n-eq-SIZE_LEAST : goal.returns-then-n-eq-SIZE_LEAST
-returns-then-n-eq-SIZE_LEAST c =
-    let old : List ℕ = c.args.prev.now in
-    let new : List ℕ = c.args.rec.now in
-    let d = c.differ4 in
-    ends_8 old new c.requires.long c.if-prev-rec.false c.if-n-eq-SIZE_LEAST.true
-    (group_same old new 4 1 d.result d.ensures c.if-differ4.false) c.differ4-then-n-eq-SIZE_LEAST.result c.differ4-then-n-eq-SIZE_LEAST.ensures
+pub returns-then-n-gt25 : goal.returns-then-n-gt25
+returns-then-n-gt25 c =
+    let more = (seen (goal.at.returns-then-n-gt25 c).Joined-differ-3).no c.if-differ-4.false in
+    last-told c.args.prev.now c.args.rec.now c.requires.long c.if-prev-rec.false more c.if-n-gt25.true c.requires.high
+    c.differ-then-n-gt25.result c.differ-then-n-gt25.ensures
 
-pub returns-then-differ8 : goal.returns-then-differ8
-returns-then-differ8 c =
-    let old : List ℕ = c.args.prev.now in
-    let new : List ℕ = c.args.rec.now in
-    let d = c.differ8 in
-    differs_group old new 8 1 d.result (omega arith) d.ensures c.if-differ8.true
-
-pub returns-then-differ8-2 : goal.returns-then-differ8-2
-returns-then-differ8-2 c =
-    let old : List ℕ = c.args.prev.now in
-    let new : List ℕ = c.args.rec.now in
-    let d = c.differ8-2 in
-    differs_group old new 8 (length new - 8) d.result (omega (arith, c.requires.low, c.if-n-eq-SIZE_LEAST.false)) d.ensures c.if-differ8-2.true
-
-pub returns-then-n-le17 : goal.returns-then-n-le17
-returns-then-n-le17 c =
-    let old : List ℕ = c.args.prev.now in
-    let new : List ℕ = c.args.rec.now in
-    let front : Same old new 1 9 = let d = c.differ8 in
-    group_same old new 8 1 d.result d.ensures c.if-differ8.false in
-    let end : Same old new (length new - 8) (length new) = λ j a b. let d = c.differ8-2 in
-    group_same old new 8 (length new - 8) d.result d.ensures c.if-differ8-2.false j a
-    (omega (arith, c.requires.low)) in
-    ends_same old new c.requires.long c.if-prev-rec.false 9 front end c.if-n-le17.true
-
-pub returns-then-differ8-3 : goal.returns-then-differ8-3
-returns-then-differ8-3 c =
-    let old : List ℕ = c.args.prev.now in
-    let new : List ℕ = c.args.rec.now in
-    let d = c.differ8-3 in
-    differs_group old new 8 9 d.result (omega arith) d.ensures c.if-differ8-3.true
-
-pub returns-then-n-le25 : goal.returns-then-n-le25
-returns-then-n-le25 c =
-    let old : List ℕ = c.args.prev.now in
-    let new : List ℕ = c.args.rec.now in
-    let front : Same old new 1 9 = let d = c.differ8 in
-    group_same old new 8 1 d.result d.ensures c.if-differ8.false in
-    let end : Same old new (length new - 8) (length new) = λ j a b. let d = c.differ8-2 in
-    group_same old new 8 (length new - 8) d.result d.ensures c.if-differ8-2.false j a
-    (omega (arith, c.requires.low)) in
-    let middle : Same old new 1 17 = let d = c.differ8-3 in
-    joined old new 1 9 9 17 front (group_same old new 8 9 d.result d.ensures c.if-differ8-3.false) (omega arith) in
-    ends_same old new c.requires.long c.if-prev-rec.false 17 middle end c.if-n-le25.true
-
-pub returns : goal.returns
-returns c =
-    let old : List ℕ = c.args.prev.now in
-    let new : List ℕ = c.args.rec.now in
-    let front : Same old new 1 9 = let d = c.differ8 in
-    group_same old new 8 1 d.result d.ensures c.if-differ8.false in
-    let end : Same old new (length new - 8) (length new) = λ j a b. let d = c.differ8-2 in
-    group_same old new 8 (length new - 8) d.result d.ensures c.if-differ8-2.false j a
-    (omega (arith, c.requires.low)) in
-    let middle : Same old new 1 17 = let d = c.differ8-3 in
-    joined old new 1 9 9 17 front (group_same old new 8 9 d.result d.ensures c.if-differ8-3.false) (omega arith) in
-    ends_more old new c.requires.long c.if-prev-rec.false 17 (omega arith) middle end
-    (omega (arith, c.requires.high)) c.differ8-4.result c.differ8-4.ensures
+pub returns-else-n-gt25 : goal.returns-else-n-gt25
+returns-else-n-gt25 c =
+    let more = (seen (goal.at.returns-else-n-gt25 c).Joined-differ-3).no c.if-differ-4.false in
+    all_same c.args.prev.now c.args.rec.now c.requires.long c.if-prev-rec.false more c.if-n-gt25.false _ refl

@@ -1,235 +1,118 @@
 -- `stream_judge::judge_cycles` meets its contract. The loop's invariant: the verdict on the cycles left is the verdict on all.
 -- Assumes nothing.
-use mathlib.Core.Path.{◌≡◌}
-use mathlib.Core.Bool.{Bool, true, false}
-use mathlib.Core.List.{List}
-use Prim.Native.Nat.{ℕ, ◌+◌, ◌≤◌}
 use native.Mathlib.Omega.{arith}
-use lib.ListN.{length}
-use Rattle.stream_spec.specs.declared.Shape.{Shape}
-use Rattle.stream_spec.specs.Layout.{head_octets}
-use Rattle.stream_spec.specs.Checks.{capture_most, field_fault, cycle_flags}
-use Rattle.stream_spec.specs.Walk.{record_at}
-use Rattle.stream_spec.proofs.Passed.{passed_narrow}
+use Rattle.std.proofs.Common.{rules, sym, ap, ◌∙◌}
+use Rattle.std.proofs.lemmas.Result.{err_from_is_err_and}
+use Rattle.std.specs.Slice.Iter.{chunks_exact_rest, chunks_exact_size}
+use Rattle.stream_spec.specs.Layout.{bit_of}
 use Rattle.stream_spec.proofs.Size.{size_pos, size_holds}
-use Rattle.stream_spec.proofs.Walk.{record_fits, record_long}
-use Rattle.stream_judge.proofs.Turns.{fault_is, turn-clear, at_most_one, turning_start, turn-bad, asks, asks_behind, finds, goes_on, turns-end}
+use Rattle.stream_record.proofs.Walking.{walking_starts, walking_next}
+use Rattle.stream_judge.proofs.Turns.{walking_as, turning_as, turning_start, turns-end, turn-clear, turn-bad, few_more, counts, head_sound, head_bad, asks, asks_behind, finds, goes_on}
 use Rattle.stream_judge.proofs.judge_cycles.Goals as goal
 
-pub record_size-size-requires : goal.record_size-size-requires
-record_size-size-requires c = passed_narrow c.args.s c.args.capture.now c.requires.0
+pub loop-k-init : goal.loop-k-init
+loop-k-init c =
+    let t = c.args.take.now in
+    let e = c.enumerate-k-items.ensures in
+    let i = c.into_iter-k-iterator.ensures.into_iter_gives in
+    let sized = ap (λ x. chunks_exact_size x.iter) i ∙ ap chunks_exact_size e.source ∙ c.records.ensures.size in
+    let all = ap (λ x. chunks_exact_rest x.iter) i ∙ ap chunks_exact_rest e.source ∙ c.records.ensures.rest in
+    let none = ap (λ x. x.count) i ∙ e.count in
+    let pos = size_pos t.shape in (
+      search rules,
+      tt,
+      sized,
+      walking_starts t.shape t.octets.now _ _ t.passed.whole all none,
+      turning_start t.shape t.octets.now _ _ all none c.requires,
+    )
 
-pub must_be_zero-z-requires : goal.must_be_zero-z-requires
-must_be_zero-z-requires c = (c.requires.0.high, omega arith)
+pub head_fault-requires : goal.head_fault-requires
+head_fault-requires c = omega (arith, c.in-Some.ensures.steps.0.1.1, c.loop-k.invariant.2, size_holds c.args.take.now.shape)
 
-pub loop-at-init : goal.loop-at-init
-loop-at-init c = turning_start c.args.s c.args.capture.now c.requires.0 c.requires.1
-
-pub overflow_add-next : goal.overflow_add-next
-overflow_add-next c =
-    let shape : Shape = c.args.s in
-    let octets : List ℕ = c.args.capture.now in
-    let long : ℕ = c.record_size-size.result in
-    let fits : c.loop-at.at + long ≤ length octets = record_fits shape octets c.loop-at.at c.loop-at.invariant.left c.loop-at-test.true long c.record_size-size.ensures in
-    omega (arith, fits)
-
-pub slice_bounds-breaks-count : goal.slice_bounds-breaks-count
-slice_bounds-breaks-count c =
-    let shape : Shape = c.args.s in
-    let octets : List ℕ = c.args.capture.now in
-    let long : ℕ = c.record_size-size.result in
-    let fits : c.loop-at.at + long ≤ length octets = record_fits shape octets c.loop-at.at c.loop-at.invariant.left c.loop-at-test.true long c.record_size-size.ensures in
-    omega (arith, fits)
-
-pub slice_bounds-breaks-start : goal.slice_bounds-breaks-start
-slice_bounds-breaks-start c =
-    let shape : Shape = c.args.s in
-    let octets : List ℕ = c.args.capture.now in
-    let long : ℕ = c.record_size-size.result in
-    let fits : c.loop-at.at + long ≤ length octets = record_fits shape octets c.loop-at.at c.loop-at.invariant.left c.loop-at-test.true long c.record_size-size.ensures in
-    omega (arith, fits)
-
-pub slice_bounds-breaks-end : goal.slice_bounds-breaks-end
-slice_bounds-breaks-end c =
-    let shape : Shape = c.args.s in
-    let octets : List ℕ = c.args.capture.now in
-    let long : ℕ = c.record_size-size.result in
-    let fits : c.loop-at.at + long ≤ length octets = record_fits shape octets c.loop-at.at c.loop-at.invariant.left c.loop-at-test.true long c.record_size-size.ensures in
-    omega (arith, fits)
-
-pub breaks-requires : goal.breaks-requires
-breaks-requires c =
-    let shape : Shape = c.args.s in
-    let octets : List ℕ = c.args.capture.now in
-    let long : ℕ = c.record_size-size.result in
-    let rec : List ℕ = record_at octets c.loop-at.at long in
-    let header-fits : head_octets ≤ length rec = let whole = record_long shape octets c.loop-at.at c.loop-at.invariant.left c.loop-at-test.true long c.record_size-size.ensures in
-    omega (arith, whole, size_holds shape) in
-    header-fits
-
-pub returns-then-breaks : goal.returns-then-breaks
-returns-then-breaks c =
-    let shape : Shape = c.args.s in
-    let octets : List ℕ = c.args.capture.now in
-    let long : ℕ = c.record_size-size.result in
-    let rec : List ℕ = record_at octets c.loop-at.at long in
-    let fault-told : (r : Bool) → c.breaks.result ≡ r
-    → field_fault cycle_flags shape rec ≡ r = λ r e. let clear = turn-clear shape octets c.loop-at.from c.loop-at.at c.loop-at.k c.loop-at.count c.loop-at.prev_flags c.loop-at.invariant
-    c.loop-at-test.true long c.record_size-size.ensures in
-    fault_is shape rec c.must_be_zero-z.result c.breaks.result r c.requires.0.high
-    c.must_be_zero-z.ensures clear.0 c.breaks.ensures e in
-    turn-bad shape octets c.loop-at.from c.loop-at.at c.loop-at.k c.loop-at.count c.loop-at.prev_flags c.loop-at.invariant
-    c.loop-at-test.true long c.record_size-size.ensures (fault-told true c.if-breaks.true)
-
-pub slice_bounds-read_header-count : goal.slice_bounds-read_header-count
-slice_bounds-read_header-count c =
-    let shape : Shape = c.args.s in
-    let octets : List ℕ = c.args.capture.now in
-    let long : ℕ = c.record_size-size.result in
-    let fits : c.loop-at.at + long ≤ length octets = record_fits shape octets c.loop-at.at c.loop-at.invariant.left c.loop-at-test.true long c.record_size-size.ensures in
-    omega (arith, fits)
-
-pub slice_bounds-read_header-start : goal.slice_bounds-read_header-start
-slice_bounds-read_header-start c =
-    let shape : Shape = c.args.s in
-    let octets : List ℕ = c.args.capture.now in
-    let long : ℕ = c.record_size-size.result in
-    let fits : c.loop-at.at + long ≤ length octets = record_fits shape octets c.loop-at.at c.loop-at.invariant.left c.loop-at-test.true long c.record_size-size.ensures in
-    omega (arith, fits)
-
-pub slice_bounds-read_header-end : goal.slice_bounds-read_header-end
-slice_bounds-read_header-end c =
-    let shape : Shape = c.args.s in
-    let octets : List ℕ = c.args.capture.now in
-    let long : ℕ = c.record_size-size.result in
-    let fits : c.loop-at.at + long ≤ length octets = record_fits shape octets c.loop-at.at c.loop-at.invariant.left c.loop-at-test.true long c.record_size-size.ensures in
-    omega (arith, fits)
+pub returns-in_err-head_fault : goal.returns-in_err-head_fault
+returns-in_err-head_fault c =
+    let t = c.args.take.now in
+    let l = c.loop-k in
+    let st = c.in-Some.ensures.steps in
+    let long = st.0.1.1 ∙ l.invariant.2 in
+    let walk = walking_as t.shape t.octets.now _ _ _ st.1 l.invariant.3 in
+    let turn = turning_as t.shape t.octets.now _ l.prev.now _ _ l.count l.prev_flags st.1 l.invariant.4 in
+    let clear = turn-clear t.shape t.octets.now _ l.prev.now _ l.count l.prev_flags turn walk _ _ st.0.1.0 long in
+    let p = err_from_is_err_and c.from_residual.result c.from_residual.ensures.1 in
+    let bad = head_bad t.shape c.must_be_zero-z.result c.in-Some.k c.in-Some.rec.now c.head_fault.result t.passed.high c.must_be_zero-z.ensures clear.0
+    c.head_fault.ensures _ c.in_err-head_fault.was in
+    rw (p.1, p.2, bad.1) (turn-bad t.shape t.octets.now _ l.prev.now _ l.count l.prev_flags turn walk _ _ st.0.1.0 long bad.0)
 
 pub read_header-h-requires : goal.read_header-h-requires
-read_header-h-requires c =
-    let shape : Shape = c.args.s in
-    let octets : List ℕ = c.args.capture.now in
-    let long : ℕ = c.record_size-size.result in
-    let rec : List ℕ = record_at octets c.loop-at.at long in
-    let header-fits : head_octets ≤ length rec = let whole = record_long shape octets c.loop-at.at c.loop-at.invariant.left c.loop-at-test.true long c.record_size-size.ensures in
-    omega (arith, whole, size_holds shape) in
-    header-fits
+read_header-h-requires c = omega (arith, c.in-Some.ensures.steps.0.1.1, c.loop-k.invariant.2, size_holds c.args.take.now.shape)
 
-pub slice_bounds-rule_of-count : goal.slice_bounds-rule_of-count
-slice_bounds-rule_of-count c = omega (arith, c.loop-at.invariant.behind, c.loop-at.invariant.left.within)
-
-pub slice_bounds-rule_of-start : goal.slice_bounds-rule_of-start
-slice_bounds-rule_of-start c = omega (arith, c.loop-at.invariant.behind, c.loop-at.invariant.left.within)
-
-pub slice_bounds-rule_of-end : goal.slice_bounds-rule_of-end
-slice_bounds-rule_of-end c = omega (arith, c.loop-at.invariant.behind, c.loop-at.invariant.left.within)
-
-pub slice_bounds-rule_of-count-in-loop-at : goal.slice_bounds-rule_of-count-in-loop-at
-slice_bounds-rule_of-count-in-loop-at c =
-    let shape : Shape = c.args.s in
-    let octets : List ℕ = c.args.capture.now in
-    let long : ℕ = c.record_size-size.result in
-    let fits : c.loop-at.at + long ≤ length octets = record_fits shape octets c.loop-at.at c.loop-at.invariant.left c.loop-at-test.true long c.record_size-size.ensures in
-    omega (arith, fits)
-
-pub slice_bounds-rule_of-start-in-loop-at : goal.slice_bounds-rule_of-start-in-loop-at
-slice_bounds-rule_of-start-in-loop-at c =
-    let shape : Shape = c.args.s in
-    let octets : List ℕ = c.args.capture.now in
-    let long : ℕ = c.record_size-size.result in
-    let fits : c.loop-at.at + long ≤ length octets = record_fits shape octets c.loop-at.at c.loop-at.invariant.left c.loop-at-test.true long c.record_size-size.ensures in
-    omega (arith, fits)
-
-pub slice_bounds-rule_of-end-in-loop-at : goal.slice_bounds-rule_of-end-in-loop-at
-slice_bounds-rule_of-end-in-loop-at c =
-    let shape : Shape = c.args.s in
-    let octets : List ℕ = c.args.capture.now in
-    let long : ℕ = c.record_size-size.result in
-    let fits : c.loop-at.at + long ≤ length octets = record_fits shape octets c.loop-at.at c.loop-at.invariant.left c.loop-at-test.true long c.record_size-size.ensures in
-    omega (arith, fits)
-
-pub rule_of-rule-requires : goal.rule_of-rule-requires
-rule_of-rule-requires c =
-    let shape : Shape = c.args.s in
-    let octets : List ℕ = c.args.capture.now in
-    let long : ℕ = c.record_size-size.result in
-    let rec : List ℕ = record_at octets c.loop-at.at long in
-    let fault-told : (r : Bool) → c.breaks.result ≡ r
-    → field_fault cycle_flags shape rec ≡ r = λ r e. let clear = turn-clear shape octets c.loop-at.from c.loop-at.at c.loop-at.k c.loop-at.count c.loop-at.prev_flags c.loop-at.invariant
-    c.loop-at-test.true long c.record_size-size.ensures in
-    fault_is shape rec c.must_be_zero-z.result c.breaks.result r c.requires.0.high
-    c.must_be_zero-z.ensures clear.0 c.breaks.ensures e in
-    let sound : field_fault cycle_flags shape rec ≡ false = fault-told false c.if-breaks.false in
-    asks shape octets c.loop-at.from c.loop-at.at c.loop-at.k c.loop-at.count c.loop-at.prev_flags c.loop-at.invariant
-    c.loop-at-test.true long c.record_size-size.ensures
-    c.requires.0 c.read_header-h.result c.read_header-h.ensures sound
-
-pub overflow_add-k : goal.overflow_add-k
-overflow_add-k c =
-    let counts : c.loop-at.k ≤ capture_most = omega (arith, c.loop-at.invariant.few, c.loop-at.invariant.left.within, c.requires.0.short) in
-    omega (arith, counts)
+pub rule_of-requires : goal.rule_of-requires
+rule_of-requires c =
+    let t = c.args.take.now in
+    let l = c.loop-k in
+    let st = c.in-Some.ensures.steps in
+    let long = st.0.1.1 ∙ l.invariant.2 in
+    let clear = turn-clear t.shape t.octets.now _ l.prev.now _ l.count l.prev_flags l.invariant.4 l.invariant.3 _ _ st.0.1.0 long in
+    let sound = head_sound t.shape c.must_be_zero-z.result c.in-Some.k c.in-Some.rec.now c.head_fault.result t.passed.high c.must_be_zero-z.ensures clear.0
+    c.head_fault.ensures c.in_ok-head_fault.was in
+    asks t.shape t.octets.now _ l.prev.now _ l.count l.prev_flags l.invariant.4 l.invariant.3 _ _ st.0.1.0 long t.passed
+    c.read_header-h.result c.read_header-h.ensures sound
 
 pub broken-requires : goal.broken-requires
 broken-requires c =
-    let shape : Shape = c.args.s in
-    let octets : List ℕ = c.args.capture.now in
-    let long : ℕ = c.record_size-size.result in
-    asks_behind shape octets c.loop-at.from c.loop-at.at c.loop-at.k c.loop-at.count c.loop-at.prev_flags c.loop-at.invariant
-    c.loop-at-test.true long c.record_size-size.ensures c.requires.0 c.must_be_zero-z.result c.must_be_zero-z.ensures
+    let t = c.args.take.now in
+    let l = c.loop-k in
+    let st = c.in-Some.ensures.steps in
+    let long = st.0.1.1 ∙ l.invariant.2 in
+    let walk = walking_as t.shape t.octets.now _ _ _ st.1 l.invariant.3 in
+    let turn = turning_as t.shape t.octets.now _ l.prev.now _ _ l.count l.prev_flags st.1 l.invariant.4 in
+    asks_behind t.shape t.octets.now _ l.prev.now _ l.count l.prev_flags turn walk _ _ st.0.1.0 long c.must_be_zero-z.result c.must_be_zero-z.ensures
 
-pub returns-then-rule-ne0 : goal.returns-then-rule-ne0
-returns-then-rule-ne0 c =
-    let shape : Shape = c.args.s in
-    let octets : List ℕ = c.args.capture.now in
-    let long : ℕ = c.record_size-size.result in
-    let rec : List ℕ = record_at octets c.loop-at.at long in
-    let fault-told : (r : Bool) → c.breaks.result ≡ r
-    → field_fault cycle_flags shape rec ≡ r = λ r e. let clear = turn-clear shape octets c.loop-at.from c.loop-at.at c.loop-at.k c.loop-at.count c.loop-at.prev_flags c.loop-at.invariant
-    c.loop-at-test.true long c.record_size-size.ensures in
-    fault_is shape rec c.must_be_zero-z.result c.breaks.result r c.requires.0.high
-    c.must_be_zero-z.ensures clear.0 c.breaks.ensures e in
-    let sound : field_fault cycle_flags shape rec ≡ false = fault-told false c.if-breaks.false in
-    finds shape octets c.loop-at.from c.loop-at.at c.loop-at.k c.loop-at.count c.loop-at.prev_flags c.loop-at.invariant
-    c.loop-at-test.true long c.record_size-size.ensures sound
-    c.rule_of-rule.result c.rule_of-rule.ensures c.if-rule-ne0.true c.broken.result c.broken.ensures
+pub returns-in-Some-rule_of : goal.returns-in-Some-rule_of
+returns-in-Some-rule_of c =
+    let t = c.args.take.now in
+    let l = c.loop-k in
+    let st = c.in-Some.ensures.steps in
+    let long = st.0.1.1 ∙ l.invariant.2 in
+    let walk = walking_as t.shape t.octets.now _ _ _ st.1 l.invariant.3 in
+    let turn = turning_as t.shape t.octets.now _ l.prev.now _ _ l.count l.prev_flags st.1 l.invariant.4 in
+    let clear = turn-clear t.shape t.octets.now _ l.prev.now _ l.count l.prev_flags turn walk _ _ st.0.1.0 long in
+    let sound = head_sound t.shape c.must_be_zero-z.result c.in-Some.k c.in-Some.rec.now c.head_fault.result t.passed.high c.must_be_zero-z.ensures clear.0
+    c.head_fault.ensures c.in_ok-head_fault.was in
+    finds t.shape t.octets.now _ l.prev.now _ l.count l.prev_flags turn walk _ _ st.0.1.0 long sound c.in-Some-rule_of.rule
+    (sym c.rule_of.ensures ∙ c.in-Some-rule_of.is) c.broken.result c.broken.ensures
 
 pub overflow_add-count : goal.overflow_add-count
 overflow_add-count c =
-    let counts : c.loop-at.k ≤ capture_most = omega (arith, c.loop-at.invariant.few, c.loop-at.invariant.left.within, c.requires.0.short) in
-    omega (arith, c.loop-at.invariant.counted, counts, at_most_one c.transfers-count.result c.read_header-h.result.flags c.transfers-count.ensures)
+    let t = c.args.take.now in
+    let l = c.loop-k in
+    let st = c.in-Some.ensures.steps in
+    let long = st.0.1.1 ∙ l.invariant.2 in
+    let few = few_more t.shape t.octets.now _ l.prev.now _ l.count l.prev_flags l.invariant.4 l.invariant.3 _ _ st.0.1.0 long
+    c.is_transfer.result c.from-count.result c.from-count.ensures t.passed in
+    omega (arith, few)
 
-pub overflow_add-k-in-loop-at : goal.overflow_add-k-in-loop-at
-overflow_add-k-in-loop-at c =
-    let counts : c.loop-at.k ≤ capture_most = omega (arith, c.loop-at.invariant.few, c.loop-at.invariant.left.within, c.requires.0.short) in
-    omega (arith, counts)
-
-pub loop-at-smaller : goal.loop-at-smaller
-loop-at-smaller c =
-    let shape : Shape = c.args.s in
-    let octets : List ℕ = c.args.capture.now in
-    let long : ℕ = c.record_size-size.result in
-    let fits : c.loop-at.at + long ≤ length octets = record_fits shape octets c.loop-at.at c.loop-at.invariant.left c.loop-at-test.true long c.record_size-size.ensures in
-    omega (arith, fits, c.record_size-size.ensures, size_pos shape)
-
-pub loop-at-preserved : goal.loop-at-preserved
-loop-at-preserved c =
-    let shape : Shape = c.args.s in
-    let octets : List ℕ = c.args.capture.now in
-    let long : ℕ = c.record_size-size.result in
-    let rec : List ℕ = record_at octets c.loop-at.at long in
-    let fault-told : (r : Bool) → c.breaks.result ≡ r
-    → field_fault cycle_flags shape rec ≡ r = λ r e. let clear = turn-clear shape octets c.loop-at.from c.loop-at.at c.loop-at.k c.loop-at.count c.loop-at.prev_flags c.loop-at.invariant
-    c.loop-at-test.true long c.record_size-size.ensures in
-    fault_is shape rec c.must_be_zero-z.result c.breaks.result r c.requires.0.high
-    c.must_be_zero-z.ensures clear.0 c.breaks.ensures e in
-    let sound : field_fault cycle_flags shape rec ≡ false = fault-told false c.if-breaks.false in
-    goes_on shape octets c.loop-at.from c.loop-at.at c.loop-at.k c.loop-at.count c.loop-at.prev_flags c.loop-at.invariant
-    c.loop-at-test.true long c.record_size-size.ensures sound
-    c.rule_of-rule.result c.rule_of-rule.ensures c.if-rule-ne0.false c.read_header-h.result c.read_header-h.ensures
-    c.transfers-count.result c.transfers-count.ensures
+pub loop-k-preserved : goal.loop-k-preserved
+loop-k-preserved c =
+    let t = c.args.take.now in
+    let l = c.loop-k in
+    let st = c.in-Some.ensures.steps in
+    let long = st.0.1.1 ∙ l.invariant.2 in
+    let clear = turn-clear t.shape t.octets.now _ l.prev.now _ l.count l.prev_flags l.invariant.4 l.invariant.3 _ _ st.0.1.0 long in
+    let sound = head_sound t.shape c.must_be_zero-z.result c.in-Some.k c.in-Some.rec.now c.head_fault.result t.passed.high c.must_be_zero-z.ensures clear.0
+    c.head_fault.ensures c.in_ok-head_fault.was in
+    let none' = c.in_default.is in (
+      search rules,
+      tt,
+      st.0.0 ∙ l.invariant.2,
+      walking_next t.shape t.octets.now _ _ l.invariant.3 _ _ st.0.1.0 long _ st.2,
+      goes_on t.shape t.octets.now _ l.prev.now _ l.count l.prev_flags l.invariant.4 l.invariant.3 _ _ st.0.1.0 long sound
+          (sym c.rule_of.ensures ∙ none') c.read_header-h.result c.read_header-h.ensures c.from-count.result
+          (counts c.is_transfer.result c.from-count.result c.from-count.ensures ∙ ap bit_of c.is_transfer.ensures) _ st.2,
+    )
 
 pub returns : goal.returns
 returns c =
-    let shape : Shape = c.args.s in
-    let octets : List ℕ = c.args.capture.now in
-    turns-end shape octets c.loop-at.from c.loop-at.at c.loop-at.k c.loop-at.count c.loop-at.prev_flags c.loop-at.invariant c.loop-at-test.false
+    let t = c.args.take.now in
+    let l = c.loop-k in
+    turns-end t.shape t.octets.now _ l.prev.now _ l.count l.prev_flags l.invariant.4 (rw (← l.invariant.2) c.in-None.ensures.steps.0.1.0)

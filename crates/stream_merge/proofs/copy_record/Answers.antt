@@ -1,56 +1,24 @@
 -- `stream_merge::copy_record` meets its contract: eight octets at a time, the last eight over the end of those before them. Assumes
 -- nothing.
-use mathlib.Core.List.{List}
-use mathlib.Core.Path.{◌≡◌, ap, ◌∙◌}
-use Prim.Native.Nat.{ℕ, ◌+◌, ◌-◌, ◌≤◌, ◌<◌}
 use native.Mathlib.Omega.{arith}
-use lib.ListN.{length, take, drop}
-use Rattle.words.specs.Splice.{splice}
-use Rattle.stream_spec.specs.Memory.{in_front}
-use Rattle.stream_merge.proofs.Copy.{copied, copied_more, copied_all}
+use Rattle.stream_merge.proofs.Copy.{Copying, copying_starts, copying_more, copying_enough, copying_ends}
 use Rattle.stream_merge.proofs.copy_record.Goals as goal
-
-pub returns-then-n-le16 : goal.returns-then-n-le16
-returns-then-n-le16 c =
-    let rec : List ℕ = c.args.rec.now in
-    let out : List ℕ = c.args.out.now in
-    let one : c.move8.new.out ≡ copied rec out 8 = c.move8.ensures in
-    let ends : (j : ℕ) (now : List ℕ) → now ≡ copied rec out j → length rec - 8 ≤ j → j < length rec + 1
-    → splice (length rec - 8) (take 8 (drop (length rec - 8) rec)) now ≡ in_front rec out = λ j now is h k. let from = length rec - 8 in
-    ap (splice (length rec - 8) (take 8 (drop (length rec - 8) rec))) is
-    ∙ copied_more rec out c.requires.room from j h (omega (arith, c.requires.low)) (omega (arith, c.requires.low))
-    ∙ copied_all rec out c.requires.room (from + 8) (omega (arith, c.requires.low)) in
-    c.move8-then-n-le16.ensures
-    ∙ ends 8 c.move8.new.out one (omega (arith, c.if-n-le16.true)) (omega (arith, c.requires.low))
-
-pub returns-then-n-le24 : goal.returns-then-n-le24
-returns-then-n-le24 c =
-    let rec : List ℕ = c.args.rec.now in
-    let out : List ℕ = c.args.out.now in
-    let one : c.move8.new.out ≡ copied rec out 8 = c.move8.ensures in
-    let two : c.move8-2.new.out ≡ copied rec out 16 = c.move8-2.ensures ∙ ap (splice 8 (take 8 (drop 8 rec))) one
-    ∙ copied_more rec out c.requires.room 8 8 (omega arith) (omega arith) (omega (arith, c.if-n-le16.false)) in
-    let ends : (j : ℕ) (now : List ℕ) → now ≡ copied rec out j → length rec - 8 ≤ j → j < length rec + 1
-    → splice (length rec - 8) (take 8 (drop (length rec - 8) rec)) now ≡ in_front rec out = λ j now is h k. let from = length rec - 8 in
-    ap (splice (length rec - 8) (take 8 (drop (length rec - 8) rec))) is
-    ∙ copied_more rec out c.requires.room from j h (omega (arith, c.requires.low)) (omega (arith, c.requires.low))
-    ∙ copied_all rec out c.requires.room (from + 8) (omega (arith, c.requires.low)) in
-    c.move8-then-n-le24.ensures
-    ∙ ends 16 c.move8-2.new.out two (omega (arith, c.if-n-le24.true)) (omega (arith, c.if-n-le16.false))
+use Rattle.stream_merge.proofs.copy_record.Goals.{then-n, else-n, then-n-2, else-n-2}
 
 pub returns : goal.returns
 returns c =
-    let rec : List ℕ = c.args.rec.now in
-    let out : List ℕ = c.args.out.now in
-    let one : c.move8.new.out ≡ copied rec out 8 = c.move8.ensures in
-    let two : c.move8-2.new.out ≡ copied rec out 16 = c.move8-2.ensures ∙ ap (splice 8 (take 8 (drop 8 rec))) one
-    ∙ copied_more rec out c.requires.room 8 8 (omega arith) (omega arith) (omega (arith, c.if-n-le16.false)) in
-    let three : c.move8-3.new.out ≡ copied rec out 24 = c.move8-3.ensures ∙ ap (splice 16 (take 8 (drop 16 rec))) two
-    ∙ copied_more rec out c.requires.room 16 16 (omega arith) (omega arith) (omega (arith, c.if-n-le24.false)) in
-    let ends : (j : ℕ) (now : List ℕ) → now ≡ copied rec out j → length rec - 8 ≤ j → j < length rec + 1
-    → splice (length rec - 8) (take 8 (drop (length rec - 8) rec)) now ≡ in_front rec out = λ j now is h k. let from = length rec - 8 in
-    ap (splice (length rec - 8) (take 8 (drop (length rec - 8) rec))) is
-    ∙ copied_more rec out c.requires.room from j h (omega (arith, c.requires.low)) (omega (arith, c.requires.low))
-    ∙ copied_all rec out c.requires.room (from + 8) (omega (arith, c.requires.low)) in
-    c.move8-4.ensures
-    ∙ ends 24 c.move8-3.new.out three (omega (arith, c.requires.high)) (omega (arith, c.if-n-le24.false))
+    let rec = c.args.rec.now in
+    let out = c.args.out.now in
+    let p = c.requires in
+    let one : Copying rec out c.move_word.new.out 8 = copying_starts rec out _ p.room p.low c.move_word.ensures in
+    let two : Copying rec out c.if-n.out 16 =
+    elim c.if-n.branch [
+      | then-n w ↦ rw w.out-is (copying_more rec out _ p.room 8 one _ (omega (arith, w.if-n.true)) w.move_word-then-n.ensures)
+      | else-n w ↦ rw w.out-is (copying_enough rec out _ p.room 8 one (omega (arith, w.if-n.false)))
+    ] in
+    let three : Copying rec out c.if-n-2.out 24 =
+    elim c.if-n-2.branch [
+      | then-n-2 w ↦ rw w.out-is (copying_more rec out _ p.room 16 two _ (omega (arith, w.if-n-2.true)) w.move_word-then-n-2.ensures)
+      | else-n-2 w ↦ rw w.out-is (copying_enough rec out _ p.room 16 two (omega (arith, w.if-n-2.false)))
+    ] in
+    copying_ends rec out _ p.room 24 three _ p.low (omega (arith, p.high)) c.move_word-2.ensures

@@ -1,37 +1,65 @@
 -- `write_data::rule_of` meets its contract: one test after the other. Assumes nothing.
+use Rattle.std.proofs.Common.{rules}
+use mathlib.Core.Path.{sym, subst}
+use Prim.Native.Nat.{◌<◌}
 use native.Mathlib.Omega.{arith}
-use Rattle.write_data.proofs.Fields.{size_is}
+use Rattle.burst_spec.specs.declared.Beat.{Beat}
+use Rattle.burst_spec.specs.Checks.{bus_most}
+use Rattle.burst_spec.proofs.Lanes.{lanes_ordered}
+use Rattle.write_data.proofs.Fields.{bus-fits, size_is}
+use Rattle.write_data.proofs.Lanes.{stray-told}
 use Rattle.write_data.proofs.Rules.{rule_past, rule_stray, rule_early, rule-waits, rule-ends, rule_missing}
 use Rattle.write_data.proofs.rule_of.Goals as goal
 
 pub returns-then-last-k : goal.returns-then-last-k
 returns-then-last-k c =
-    rule_past c.args.b c.args.k c.args.rec.now c.if-last-k.true
+    rule_past c.args.accepted.burst c.args.k c.args.rec.now c.if-last-k.true
 
-pub returns-then-stray : goal.returns-then-stray
-returns-then-stray c =
-    rule_stray c.args.b c.args.k c.args.rec.now c.if-last-k.false c.stray.result c.stray.ensures c.if-stray.true
+pub any_outside-requires : goal.any_outside-requires
+any_outside-requires c =
+    let a = c.args.accepted in
+    let r = c.requires in
+    let most = (bus-fits a.burst.bus r.allowed).most in
+    let inside = (lanes_ordered a.burst a.accepted.legal c.args.k).1 in (
+      omega (arith, r.long, size_is a.burst.bus),
+      omega (arith, r.long, size_is a.burst.bus, most),
+      subst (λ (y : Beat). y.upper < bus_most) (sym c.beat-beat.ensures) (omega (arith, inside, most)),
+    )
 
-pub wlast-wlast-requires : goal.wlast-wlast-requires
-wlast-wlast-requires c =
-    omega (arith, c.requires.1.long, size_is c.args.b.bus)
+pub returns-then-any_outside : goal.returns-then-any_outside
+returns-then-any_outside c =
+    let b = c.args.accepted.burst in
+    let told = stray-told b c.args.k c.args.rec.now c.requires c.beat-beat.result c.beat-beat.ensures c.any_outside.result c.any_outside.ensures in
+    rule_stray b c.args.k c.args.rec.now c.if-last-k.false c.any_outside.result told c.if-any_outside.true
 
-pub returns-then-wlast : goal.returns-then-wlast
-returns-then-wlast c =
-    rule_early c.args.b c.args.k c.args.rec.now c.if-last-k.false c.stray.result c.stray.ensures
-    c.if-stray.false c.wlast-wlast.result c.wlast-wlast.ensures c.if-k-last.true c.if-wlast.true
+pub wlast-requires : goal.wlast-requires
+wlast-requires c =
+    omega (arith, c.requires.long, size_is c.args.accepted.burst.bus)
 
-pub returns-then-k-last : goal.returns-then-k-last
-returns-then-k-last c =
-    rule-waits c.args.b c.args.k c.args.rec.now c.if-last-k.false c.stray.result c.stray.ensures
-    c.if-stray.false c.wlast-wlast.result c.wlast-wlast.ensures c.if-k-last.true c.if-wlast.false
+pub returns-in-true-false : goal.returns-in-true-false
+returns-in-true-false c =
+    let b = c.args.accepted.burst in
+    let told = stray-told b c.args.k c.args.rec.now c.requires c.beat-beat.result c.beat-beat.ensures c.any_outside.result c.any_outside.ensures in
+    rule_missing b c.args.k c.args.rec.now c.if-last-k.false c.any_outside.result told
+    c.if-any_outside.false c.wlast.result c.wlast.ensures (omega arith) (search rules)
 
-pub returns-then-wlast-2 : goal.returns-then-wlast-2
-returns-then-wlast-2 c =
-    rule-ends c.args.b c.args.k c.args.rec.now c.if-last-k.false c.stray.result c.stray.ensures
-    c.if-stray.false c.wlast-wlast.result c.wlast-wlast.ensures c.if-k-last.false c.if-wlast-2.true
+pub returns-in-false-true : goal.returns-in-false-true
+returns-in-false-true c =
+    let b = c.args.accepted.burst in
+    let told = stray-told b c.args.k c.args.rec.now c.requires c.beat-beat.result c.beat-beat.ensures c.any_outside.result c.any_outside.ensures in
+    rule_early b c.args.k c.args.rec.now c.if-last-k.false c.any_outside.result told
+    c.if-any_outside.false c.wlast.result c.wlast.ensures (omega arith) (search rules)
 
-pub returns : goal.returns
-returns c =
-    rule_missing c.args.b c.args.k c.args.rec.now c.if-last-k.false c.stray.result c.stray.ensures
-    c.if-stray.false c.wlast-wlast.result c.wlast-wlast.ensures c.if-k-last.false c.if-wlast-2.false
+pub returns-in_default : goal.returns-in_default
+returns-in_default c =
+    let b = c.args.accepted.burst in
+    let told = stray-told b c.args.k c.args.rec.now c.requires c.beat-beat.result c.beat-beat.ensures c.any_outside.result c.any_outside.ensures in
+    rule-ends b c.args.k c.args.rec.now c.if-last-k.false c.any_outside.result told
+    c.if-any_outside.false c.wlast.result c.wlast.ensures (omega arith) (search rules)
+
+pub returns-in_default-2 : goal.returns-in_default-2
+returns-in_default-2 c =
+    let b = c.args.accepted.burst in
+    let told = stray-told b c.args.k c.args.rec.now c.requires c.beat-beat.result c.beat-beat.ensures c.any_outside.result c.any_outside.ensures in
+    rule-waits b c.args.k c.args.rec.now c.if-last-k.false c.any_outside.result told
+    c.if-any_outside.false c.wlast.result c.wlast.ensures (omega arith) (search rules)

@@ -13,11 +13,6 @@ put_record-requires g c =
       full_fits _ a.v a.head _ _ a.c c.requires.1 held l.out l.d l.invariant c.loop-d-test.true,
     )
 
-pub overflow_add-d-in-loop-d : goal.overflow_add-d-in-loop-d
-overflow_add-d-in-loop-d g c =
-    let l = c.loop-d in
-    record { fits = omega (arith, l.invariant.end, c.requires.1.counted, c.loop-d-test.true) }
-
 pub loop-d-preserved : goal.loop-d-preserved
 loop-d-preserved g c =
     let a = c.args in

@@ -1,9 +1,0 @@
-use Rattle.repack_plain.proofs.Going.{Going}
-use Rattle.repack_tagged_emit.proofs.put_stretch.Given as goal
-
-abbrev pub invariant-loop-left : goal.invariant-loop-left
-invariant-loop-left l =
-    Going l.t.user l.t.width l.head l.items l.initial.out (record { to = l.initial.to; from = l.initial.from; left = l.initial.left }) l.out l.to l.from l.left
-
-abbrev pub decreases-loop-left : goal.decreases-loop-left
-decreases-loop-left l = l.left
