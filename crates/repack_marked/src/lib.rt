@@ -3,7 +3,6 @@
 #![tactic(auto)]
 
 ghost use Rattle.std.specs.Prelude.{◌≡◌, true, ◌++◌, map, ℕ, ◌+◌, ◌*◌, ◌≤◌, ◌<◌, length, get_or, drop};
-ghost use Rattle.std.proofs.Common.{rules};
 ghost use Rattle.stream_spec.specs.Layout.{head_octets, size, bit_of, mask_of, of_width};
 ghost use Rattle.repack_scratch.specs.Codes.{codes_in, mark_bits};
 ghost use Rattle.repack_plain.specs.Write.{item_octet, item_strobe, record_at, RecordFits};
@@ -22,6 +21,15 @@ pub struct Marked<'a> {
 }
 
 impl<'a> Marked<'a> {
+    // Of two arrays, of which the second has a bit for each octet of the first.
+    pub fn new(octets: &'a [u8], marks: &'a [u8]) -> Marked<'a>
+        requires { length octets.now ≡ 8 * length marks.now }
+        ensures octets { result.octets.now ≡ octets.now }
+        ensures marks { result.marks.now ≡ marks.now }
+    {
+        Marked { octets, marks }
+    }
+
     // Whether item i is a position item.
     fn mark(&self, i: usize) -> bool
         requires { i < length self.now.octets.now }
@@ -65,8 +73,8 @@ impl<'a> Marked<'a> {
 }
 
 impl<'a> Items for Marked<'a> {
-    ghost use Rattle.repack_scratch.proofs.Held.{length-held};
-    ghost use Rattle.repack_scratch.proofs.Marks.{length-marks};
+    ghost use Rattle.repack_plain.specs.Holding.{bare_fewer};
+    ghost use Rattle.repack_marked.specs.Holding.{marked_held};
 
     ghost user = { λ _. 0 };
 
@@ -87,7 +95,7 @@ impl<'a> Items for Marked<'a> {
         }
     }
 
-    ghost held = { Prim.search (rules, length-held, length-marks) };
+    ghost held = { λ items n h. marked_held items.octets.now items.marks.now n items.same h };
 
-    ghost fewer = { Prim.search rules };
+    ghost fewer = { λ items n k l h. bare_fewer items.octets.now n k l h };
 }

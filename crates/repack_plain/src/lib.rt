@@ -7,8 +7,6 @@
 mod stretch;
 
 ghost use Rattle.std.specs.Prelude.{◌≡◌, List, ◌++◌, map, ℕ, ◌+◌, ◌≤◌, length, drop};
-ghost use Rattle.std.proofs.Common.{rules};
-ghost use Rattle.std.proofs.lemmas.Grind.{common_steps};
 ghost use Rattle.stream_spec.specs.Layout.{width_most, size, size_most, shaped, of_width};
 ghost use Rattle.repack_scratch.specs.Codes.{data_code};
 ghost use Rattle.repack_plain.specs.Write.{record_at, RecordFits, StretchFits, StretchPut, Advanced};
@@ -124,6 +122,8 @@ fn put_all_but_last(out: &mut [u8], octets: &[u8], c: Cursor, v: usize, head: He
 }
 
 impl<'a> Items for Plain<'a> {
+    ghost use Rattle.repack_plain.specs.Holding.{plain_held, bare_fewer};
+
     ghost user = { λ _. 0 };
 
     ghost codes = { λ items. map data_code items.octets.now };
@@ -145,7 +145,7 @@ impl<'a> Items for Plain<'a> {
         d.to + repack_scratch::record_size(v)
     }
 
-    ghost held = { Prim.search (rules, common_steps) };
+    ghost held = { λ items n h. plain_held items.octets.now n h };
 
-    ghost fewer = { Prim.search rules };
+    ghost fewer = { λ items n k l h. bare_fewer items.octets.now n k l h };
 }

@@ -12,19 +12,20 @@ ghost use Rattle.repack_sieve.specs.Sieve.{four_octets, sieve_rows, closing};
 // Four octets hold a number below this.
 const FOUR_OCTETS: u64 = 0x1_0000_0000;
 
-// Three masks of four octets, and a count.
+// Three masks of four octets, and a count. They are as wide as the words that they are used on: narrower ones made the loop over
+// records of 5 to 8 lanes a tenth slower.
 #[derive(Clone, Copy, Debug, PartialEq, Eq)]
 pub struct Row {
-    pub kept: u32,
-    pub odd: u32,
-    pub far: u32,
-    pub count: u8,
+    pub kept: u64,
+    pub odd: u64,
+    pub far: u64,
+    pub count: usize,
 }
 
 impl Row {
     ghost use Rattle.repack_sieve.specs.Sieve.{row_of};
 
-    fn new(kept: u32, odd: u32, far: u32, count: u8) -> Row
+    fn new(kept: u64, odd: u64, far: u64, count: usize) -> Row
         ensures { result ≡ row_of kept odd far count }
     {
         Row {
@@ -48,10 +49,11 @@ fn close(x: u64, kept: u64, odd: u64, far: u64) -> u64
 }
 
 // Two masks of four octets as one of eight.
-fn both(low: u32, high: u32) -> u64
+fn both(low: u64, high: u64) -> u64
+    requires { (low < four_octets) × (high < four_octets) }
     ensures { result ≡ low + four_octets * high }
 {
-    u64::from(low) + FOUR_OCTETS * u64::from(high)
+    low + FOUR_OCTETS * high
 }
 
 // The rows for TKEEP bits 0 to 15; specs/Sieve.antt has them too. It is made once for a take, and lent: it stands on the stack.
@@ -91,14 +93,9 @@ impl Sieve {
         ensures { Collected 4 keep (octets_of_word 4 x) octets.old at octets.new result }
     {
         let row = &self.rows[(keep % 16) as usize];
-        let y = close(
-            u64::from(x),
-            u64::from(row.kept),
-            u64::from(row.odd),
-            u64::from(row.far),
-        );
+        let y = close(u64::from(x), row.kept, row.odd, row.far);
         words::store::<u32>(octets, at, (y % FOUR_OCTETS) as u32);
-        at + usize::from(row.count)
+        at + row.count
     }
 
     // The same for eight lanes: each four of them are closed up for themselves, and the upper four are stored behind the lower.
@@ -116,9 +113,9 @@ impl Sieve {
             both(low.far, high.far),
         );
         words::store::<u32>(octets, at, (y % FOUR_OCTETS) as u32);
-        let n = at + usize::from(low.count);
+        let n = at + low.count;
         words::store::<u32>(octets, n, (y / FOUR_OCTETS) as u32);
-        n + usize::from(high.count)
+        n + high.count
     }
 
     // The kept ones of the w lanes at place `from` of a take. A record's header stands before them, so four or eight octets that

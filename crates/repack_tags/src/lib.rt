@@ -4,7 +4,6 @@
 #![tactic(auto)]
 
 ghost use Rattle.std.specs.Prelude.{◌≡◌, ◌++◌, map, ◌+◌, ◌%◌, ◌≤◌, ◌<◌, length, take, drop, set};
-ghost use Rattle.std.proofs.Common.{rules};
 ghost use Rattle.words.specs.Splice.{splice};
 ghost use Rattle.stream_spec.specs.Layout.{head_octets, user_most, lane_octet};
 ghost use Rattle.repack_scratch.specs.Codes.{tagged_code};
@@ -88,6 +87,8 @@ impl<'a> Tagged<'a> {
 }
 
 impl<'a> Items for Tagged<'a> {
+    ghost use Rattle.repack_tags.specs.Holding.{tagged_fewer};
+
     ghost user = { λ items. items.user };
 
     ghost codes = { λ items. items.items.now };
@@ -113,5 +114,5 @@ impl<'a> Items for Tagged<'a> {
 
     ghost held = { λ items n h. h.0 };
 
-    ghost fewer = { Prim.search rules };
+    ghost fewer = { λ items n k l h. tagged_fewer items.user items.items.now n k l h };
 }

@@ -57,19 +57,19 @@ slices-count w v d k (t ∷ ts) =
     (omega (arith, suc-mul (length ts) (w / v)))
 
 module _ (s : Shape) (v : ℕ) (xs : List ℕ) (c : Cuts s (at_width s v)) (z : ℕ) (q : z ≡ size s) where
-  pub sliced-count : length (sliced_transfers s v xs) ≡ length xs / z * (s.width / v)
+  sliced-count : length (sliced_transfers s v xs) ≡ length xs / z * (s.width / v)
   sliced-count =
       slices-count s.width v c.whole c.low (transfers s xs)
       ∙ ap (λ (n : ℕ). n * (s.width / v)) (length-map (records s xs) (transfer_of s) ∙ length-pieces (size s) (record_count s xs) xs)
       ∙ rw q refl
 
-  pub sliced-long : (y : ℕ) → y ≡ size (at_width s v) → length (sliced s v xs) ≡ length xs / z * (s.width / v) * y
+  sliced-long : (y : ℕ) → y ≡ size (at_width s v) → length (sliced s v xs) ≡ length xs / z * (s.width / v) * y
   sliced-long y e =
       length-octets (at_width s v) (sliced_transfers s v xs) (wide-slices s.width v (transfers s xs))
       ∙ rw (sliced-count, e) refl
 
   -- at most as many records as a take has octets, of at most 16 slices of at most 31 octets
-  pub count_fits : length xs ≤ capture_most → length xs / z * (s.width / v) ≤ capture_most * width_most
+  count_fits : length xs ≤ capture_most → length xs / z * (s.width / v) ≤ capture_most * width_most
   count_fits l =
       let few : length xs / z ≤ capture_most = omega (arith, div-le_self (length xs) z) in
       let parts : s.width / v ≤ width_most = omega (arith, div-le_self s.width v, c.high) in

@@ -62,7 +62,7 @@ lane_less u m v =
 no-lane_less : (u m : ℕ) → u ≡ u / 2 ^ (0 * m)
 no-lane_less u m = rw (zero-mul m) (sym (div-one u))
 
-pub drop_types : (v n keep strb : ℕ) → drop v (types_of (n + v) keep strb) ≡ types_of n (keep / 2 ^ v) (strb / 2 ^ v)
+drop_types : (v n keep strb : ℕ) → drop v (types_of (n + v) keep strb) ≡ types_of n (keep / 2 ^ v) (strb / 2 ^ v)
 drop_types zero n keep strb = rw (add-zero n, div-one keep, div-one strb) refl
 drop_types (suc v) n keep strb =
     rw (add-suc n v) (drop_types v n (keep / 2) (strb / 2) ∙ rw (halved keep v, halved strb v) refl)
@@ -135,7 +135,7 @@ low_bits x v m e =
 
 -- ---- the masks of the lowest lanes
 
-pub keep_low : (m v keep strb u : ℕ) (ds : List ℕ) → mask_of (map keep_bit (lanes_of m (types_of v keep strb) u ds)) ≡ keep % 2 ^ v
+keep_low : (m v keep strb u : ℕ) (ds : List ℕ) → mask_of (map keep_bit (lanes_of m (types_of v keep strb) u ds)) ≡ keep % 2 ^ v
 keep_low m zero keep strb u ds = omega arith
 keep_low m (suc v) keep strb u [] =
     rw (keep-bit (odd keep) (odd strb) 0 (u % 2 ^ m))
@@ -144,7 +144,7 @@ keep_low m (suc v) keep strb u (d ∷ ds) =
     rw (keep-bit (odd keep) (odd strb) d (u % 2 ^ m))
     (low_bits keep v (mask_of (map keep_bit (lanes_of m (types_of v (keep / 2) (strb / 2)) (u / 2 ^ m) ds))) (keep_low m v (keep / 2) (strb / 2) (u / 2 ^ m) ds))
 
-pub strb-low : (m v keep strb u : ℕ) (ds : List ℕ) → any_reserved (types_of v keep strb) ≡ false
+strb-low : (m v keep strb u : ℕ) (ds : List ℕ) → any_reserved (types_of v keep strb) ≡ false
     → mask_of (map strb_bit (lanes_of m (types_of v keep strb) u ds)) ≡ strb % 2 ^ v
 strb-low m zero keep strb u ds e = omega arith
 strb-low m (suc v) keep strb u [] e =

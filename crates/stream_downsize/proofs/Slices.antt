@@ -35,7 +35,7 @@ pub slice_long : (t : Shape) (h : Header) (u : ℕ) (ds : List ℕ) (last : Bool
 slice_long t h u ds last = length-octets_of t (slice_of t h u ds last) (lanes-long t.user t.width h.keep h.strb u ds)
 
 -- there is one slice or more
-pub slices-some : (w v : ℕ) → w % v ≡ 0 → 0 < w → 1 ≤ w / v
+slices-some : (w v : ℕ) → w % v ≡ 0 → 0 < w → 1 ≤ w / v
 slices-some w v d k = go (w / v) (div-add-mod' w v)
   where
     go : (q : ℕ) → q * v + w % v ≡ w → 1 ≤ q
@@ -46,7 +46,7 @@ pub slices_more : (w v : ℕ) → w % v ≡ 0 → 0 < w → suc (w / v - 1) ≡ 
 slices_more w v d k = omega (arith, slices-some w v d k)
 
 -- w/v slices have w lanes
-pub slices-whole : (w v : ℕ) → w % v ≡ 0 → 0 < w → suc (w / v - 1) * v ≡ w
+slices-whole : (w v : ℕ) → w % v ≡ 0 → 0 < w → suc (w / v - 1) * v ≡ w
 slices-whole w v d k = rw (slices_more w v d k) (omega (arith, div-add-mod' w v))
 
 -- ---- one slice, and the others
@@ -64,7 +64,7 @@ module _ (t : Shape) (h : Header) (u : ℕ) (ds : List ℕ) where
   slices_left (suc k) = slices_from k t h u ds
 
 -- the first of j and one more, and the others
-pub slices-next : (t : Shape) (h : Header) (u : ℕ) (ds : List ℕ) (j : ℕ) (last : Bool) → last ≡ cond (eqb j 0) (odd h.flags) false
+slices-next : (t : Shape) (h : Header) (u : ℕ) (ds : List ℕ) (j : ℕ) (last : Bool) → last ≡ cond (eqb j 0) (odd h.flags) false
     → slices_left t h u ds (suc j) ≡ octets_of t.user (slice_of t h u ds last) ++ slices_left t (above t.width h) (user_above t u) (drop t.width ds) j
 slices-next t h u ds zero last e = rw e (ap (λ (x : Transfer Kept). octets_of t.user x ++ []) (first_slice t h u ds 0 (odd h.flags)))
 slices-next t h u ds (suc k) last e =
@@ -74,7 +74,7 @@ slices-next t h u ds (suc k) last e =
     (ap (λ (n : ℕ). drop t.width (lanes_in t.user n h u ds)) (suc-mul (suc k) t.width) ∙ drop-lanes t.user t.width (suc k * t.width) h u ds))
 
 -- the slices of a record, from its header, its user bits and its data octets
-pub record-slices : (s t : Shape) (rec : List ℕ) → Cuts s t
+record-slices : (s t : Shape) (rec : List ℕ) → Cuts s t
     → record_slices s t rec ≡ slices_from (s.width / t.width - 1) t (header_of rec) (user_number s rec) (drop head_octets rec)
 record-slices s t rec c =
     let k = s.width / t.width - 1 in

@@ -20,7 +20,7 @@ use Rattle.merge_spec.proofs.Tags.{raised_long, raised-last}
 use Rattle.stream_merge.specs.declared.Turn.{Turn}
 use Rattle.stream_merge.specs.Merging.{sent_as, picked_from, whose_turn, some, IsTurn, IsTurnBehind, Ready, Passes, left_of}
 
-pub sent_long : (port1 : Bool) (r : List ℕ) → length (sent_as port1 r) ≡ length r
+sent_long : (port1 : Bool) (r : List ℕ) → length (sent_as port1 r) ≡ length r
 sent_long true r = raised_long r
 sent_long false r = refl
 
@@ -33,9 +33,6 @@ module _ (z : ℕ) (t : Turn) (out : List ℕ) (to : ℕ) (ready : Ready z t out
       go : (b : Bool) → t.port1 ≡ b → length (picked_from z t) ≡ z
       go true e = rw e (length-take-le z t.left1.now (ready.picks.list1 e))
       go false e = rw e (length-take-le z t.left0.now (ready.picks.list0 e))
-
-  pub picked_size : (rec : List ℕ) → rec ≡ picked_from z t → length rec ≡ z
-  picked_size rec e = rw e ready_long
 
   -- it stands at its place in what the output comes back as
   module _ (rec : List ℕ) (is : rec ≡ picked_from z t) (part : List ℕ)

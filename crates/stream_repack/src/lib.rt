@@ -1,73 +1,65 @@
 // The public call `repack`: a take of transfer records as its packed form at another width, or a refusal. A take without user bits
-// is read in repack_parse and written in repack_emit, which know a record by its width; one with user bits is read in
-// repack_tagged_parse and written in repack_tagged_emit.
+// is read in repack_parse, which knows a record by its width; one with user bits in repack_tagged_parse. Both are written in
+// repack_emit, by the type of their items.
 #![tactic(auto)]
 
 ghost use Rattle.std.specs.Prelude.{◌≡◌, None};
 ghost use Rattle.refusal.specs.Checks.{first};
-ghost use Rattle.stream_spec.specs.Layout.{of_width};
 ghost use Rattle.stream_spec.specs.Answers.{Repacked};
 ghost use Rattle.stream_repack.specs.Tests.{input_checks};
 
-use repack_parse::Parsed;
-use repack_scratch::{ITEM_ROOM, MARK_ROOM, STRETCH_ROOM};
-use stream_record::Checked;
-use stream_spec::{Shape, Written};
+use refusal::Refusal;
+use repack_marked::Marked;
+use repack_plain::Plain;
+use repack_scratch::{Entry, ITEM_ROOM, MARK_ROOM, STRETCH_ROOM};
+use repack_tags::Tagged;
+use stream_record::Take;
+use stream_spec::Shape;
 
-// Records of w lanes without user bits; the tests in front have passed. Three arrays hold what the take carries: an octet and a
-// mark for each item, an entry for each stretch; nothing is written to `out` before all records are read and the answer is
-// known to fit.
-fn convert_bare(w: usize, v: usize, transfers: &[u8], out: &mut [u8]) -> Written
-    requires { first (input_checks (of_width w) v transfers.now) ≡ None }
-    ensures { Repacked (of_width w) v transfers.now out.old out.new result }
+// Records without user bits. Three arrays hold what the take carries: an octet and a mark for each item, an entry for each
+// stretch; nothing is written to `out` before all records are read and the answer is known to fit.
+fn convert_bare(take: &Take<'_>, v: usize, out: &mut [u8]) -> Result<usize, Refusal>
+    requires bare { take.now.shape.user ≡ 0 }
+    requires tested { first (input_checks take.now.shape v take.now.octets.now) ≡ None }
+    ensures { Repacked take.now.shape v take.now.octets.now out.old out.new result }
 {
     let mut octets = [0u8; ITEM_ROOM];
     let mut marks = [0u8; MARK_ROOM];
-    let mut table = [0u32; STRETCH_ROOM];
-    let p = repack_parse::parse(w, transfers, &mut octets, &mut marks, &mut table);
-    match p {
-        Parsed::Refused(r) => Written::Refused(r),
-        Parsed::Stretches(n, plain) => {
-            repack_emit::emit(out, &octets, &marks, plain, &table[..n], v)
-        }
+    let mut table = [Entry(0); STRETCH_ROOM];
+    let parsed = repack_parse::parse(take, &mut octets, &mut marks, &mut table)?;
+    let stretches = &table[..parsed.stretches];
+    if parsed.plain {
+        repack_emit::emit(out, &Plain { octets: &octets }, stretches, v)
+    } else {
+        repack_emit::emit(out, &Marked::new(&octets, &marks), stretches, v)
     }
 }
 
-// Records with user bits; the tests in front have passed. Two arrays hold what the take carries: a code for each item, which has
-// its octet, its strobe and its user bits, and an entry for each stretch.
-fn convert_tagged(s: Shape, v: usize, transfers: &[u8], out: &mut [u8]) -> Written
-    requires { first (input_checks s v transfers.now) ≡ None }
-    ensures { Repacked s v transfers.now out.old out.new result }
+// Records with user bits. Two arrays hold what the take carries: a code for each item, which has its octet, its strobe and its
+// user bits, and an entry for each stretch.
+fn convert_tagged(take: &Take<'_>, v: usize, out: &mut [u8]) -> Result<usize, Refusal>
+    requires { first (input_checks take.now.shape v take.now.octets.now) ≡ None }
+    ensures { Repacked take.now.shape v take.now.octets.now out.old out.new result }
 {
-    let mut items = [0u16; ITEM_ROOM];
-    let mut table = [0u32; STRETCH_ROOM];
-    let p = repack_tagged_parse::parse(s, transfers, &mut items, &mut table);
-    match p {
-        repack_tagged_parse::Parsed::Refused(r) => Written::Refused(r),
-        repack_tagged_parse::Parsed::Stretches(n) => {
-            repack_tagged_emit::emit(out, &items, &table[..n], stream_record::at_width(s, v))
-        }
-    }
-}
-
-// The tests in front have passed: each kind of record has its own converter.
-fn convert(s: Shape, v: usize, transfers: &[u8], out: &mut [u8]) -> Written
-    requires { first (input_checks s v transfers.now) ≡ None }
-    ensures { Repacked s v transfers.now out.old out.new result }
-{
-    if s.user == 0 {
-        return convert_bare(s.width, v, transfers, out);
-    }
-    convert_tagged(s, v, transfers, out)
+    let mut codes = [0u16; ITEM_ROOM];
+    let mut table = [Entry(0); STRETCH_ROOM];
+    let n = repack_tagged_parse::parse(take, &mut codes, &mut table)?;
+    let items = Tagged {
+        items: &codes,
+        user: take.shape.user,
+    };
+    repack_emit::emit(out, &items, &table[..n], v)
 }
 
 // Repacks the take `transfers` of shape s to width v into `out`. Answers the number of records written, or refuses: 1 for
 // either width, 16, 2, then record by record 3 before 4, then 5. Refused, `out` keeps its content.
-pub fn repack(s: Shape, v: usize, transfers: &[u8], out: &mut [u8]) -> Written
+pub fn repack(s: Shape, v: usize, transfers: &[u8], out: &mut [u8]) -> Result<usize, Refusal>
     ensures { Repacked s v transfers.now out.old out.new result }
 {
-    match stream_record::check_input(s, v, transfers) {
-        Checked::Refused(f) => Written::Refused(f),
-        Checked::Passed => convert(s, v, transfers, out),
+    let take = Take::for_width(s, v, transfers)?;
+    if s.user == 0 {
+        convert_bare(&take, v, out)
+    } else {
+        convert_tagged(&take, v, out)
     }
 }

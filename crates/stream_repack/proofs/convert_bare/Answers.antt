@@ -1,71 +1,43 @@
 -- `stream_repack::convert_bare` meets its contract: a record's fault is the answer, or what writing the stretches answers. Assumes nothing.
-use mathlib.Core.Path.{◌∙◌}
-use Prim.Native.Nat.{ℕ}
-use lib.ListN.{length-replicate}
-use Rattle.stream_spec.specs.Layout.{of_width}
-use Rattle.repack_scratch.specs.Codes.{item_room, mark_room, stretch_room, codes_in}
-use Rattle.repack_scratch.proofs.Marks.{zeros-unmarked}
-use Rattle.repack_parse.specs.Read.{Taken}
-use Rattle.stream_repack.proofs.Answer.{tests_passed, bad_record, table_fits, prefix_long, prefix_short, marks_ready, no_fault}
+use Rattle.std.specs.Prelude.{Some}
+use Rattle.std.specs.Result.{result_err}
+use Rattle.std.proofs.Common.{rules, ◌≡◌}
+use mathlib.Core.Path.{sym, ◌∙◌, subst}
+use Rattle.stream_spec.specs.declared.Shape.{Shape}
+use Rattle.repack_scratch.specs.Codes.{codes_in, mark_bits}
+use Rattle.repack_scratch.proofs.Held.{unmarked-held}
+use Rattle.repack_parse.specs.Read.{TakenAs}
+use Rattle.stream_repack.proofs.Answer.{bad_record, no_fault, bare_shape}
 use Rattle.stream_repack.proofs.convert_bare.Goals as goal
 
-pub parse-p-requires : goal.parse-p-requires
-parse-p-requires c =
-    let a = c.args in record { passed = ((tests_passed (of_width a.w) a.v a.transfers.now a.out.now c.requires).0, zeros-unmarked mark_room); octets_len = (length-replicate {A = ℕ} item_room 0, length-replicate {A = ℕ} mark_room 0, length-replicate {A = ℕ} stretch_room 0) }
+pub returns-in_err-parsed : goal.returns-in_err-parsed
+returns-in_err-parsed c =
+    let t = c.args.take.now in
+    let f = c.in_err-parsed in
+    let given : result_err c.from_residual.result ≡ Some f.field-0.0 = search rules in
+    bad_record t.shape c.args.v t.octets.now c.args.out.now c.requires.tested f.field-0.0 (rw (bare_shape t.shape c.requires.bare) at f.ensures) c.from_residual.result given
 
-pub slice_bounds-table-end : goal.slice_bounds-table-end
-slice_bounds-table-end c =
-    let parse = c.parse-p in
-    let a = c.args in
-    let octets = parse.new.octets in
-    let marks = parse.new.marks in
-    let table = parse.new.table in
-    let n = c.in-Stretches.n in
-    let plain = c.in-Stretches.plain in
-    let t : Taken a.w a.transfers.now parse.new.octets parse.new.marks parse.new.table c.in-Stretches.n c.in-Stretches.plain = rw c.in-Stretches.is at parse.ensures in
-    table_fits (of_width a.w) a.v a.transfers.now a.out.now c.requires (codes_in octets marks) table n t.taken
+pub returns-then-parsed : goal.returns-then-parsed
+returns-then-parsed c =
+    let t = c.args.take.now in
+    let k = c.in_ok-parsed.ensures in
+    let octets = c.parse.new.octets in
+    let marks = c.parse.new.marks in
+    let n = c.in_ok-parsed.parsed.stretches in
+    let unmarked = unmarked-held octets (mark_bits marks) (k.same_octets ∙ sym k.same_marks) (k.unmarked c.if-parsed.true) in
+    let taken : TakenAs t.shape t.octets.now (codes_in octets marks) c.parse.new.table n =
+    subst (λ (s : Shape). TakenAs s t.octets.now (codes_in octets marks) c.parse.new.table n) (bare_shape t.shape c.requires.bare) k.taken in
+    no_fault t.shape c.args.v t.octets.now c.args.out.now c.requires.tested (codes_in octets marks) c.parse.new.table n taken c.emit.new.out c.emit.result
+    (rw (c.requires.bare, unmarked) c.emit.ensures)
 
-pub slice_bounds-emit-end-in-Stretches-2 : goal.slice_bounds-emit-end-in-Stretches-2
-slice_bounds-emit-end-in-Stretches-2 c =
-    let parse = c.parse-p in
-    let a = c.args in
-    let octets = parse.new.octets in
-    let marks = parse.new.marks in
-    let table = parse.new.table in
-    let n = c.in-Stretches.n in
-    let plain = c.in-Stretches.plain in
-    let t : Taken a.w a.transfers.now parse.new.octets parse.new.marks parse.new.table c.in-Stretches.n c.in-Stretches.plain = rw c.in-Stretches.is at parse.ensures in
-    prefix_long (of_width a.w) a.v a.transfers.now a.out.now c.requires (codes_in octets marks) table n t.taken
-
-pub emit-requires : goal.emit-requires
-emit-requires c =
-    let parse = c.parse-p in
-    let a = c.args in
-    let octets = parse.new.octets in
-    let marks = parse.new.marks in
-    let table = parse.new.table in
-    let n = c.in-Stretches.n in
-    let plain = c.in-Stretches.plain in
-    let t : Taken a.w a.transfers.now parse.new.octets parse.new.marks parse.new.table c.in-Stretches.n c.in-Stretches.plain = rw c.in-Stretches.is at parse.ensures in
-    let passed = tests_passed (of_width a.w) a.v a.transfers.now a.out.now c.requires in (
-      marks_ready a.w a.v a.transfers.now octets marks table n plain passed.1 t,
-      prefix_short (of_width a.w) a.v a.transfers.now a.out.now c.requires (codes_in octets marks) table n t.taken
-          (parse.auto.table ∙ length-replicate {A = ℕ} stretch_room 0),
-    )
-
-pub returns-in-Refused : goal.returns-in-Refused
-returns-in-Refused c =
-    let a = c.args in
-    bad_record (of_width a.w) a.v a.transfers.now a.out.now c.requires c.in-Refused.r (rw c.in-Refused.is at c.parse-p.ensures)
-
-pub returns-in-Stretches : goal.returns-in-Stretches
-returns-in-Stretches c =
-    let parse = c.parse-p in
-    let a = c.args in
-    let octets = parse.new.octets in
-    let marks = parse.new.marks in
-    let table = parse.new.table in
-    let n = c.in-Stretches.n in
-    let plain = c.in-Stretches.plain in
-    let t : Taken a.w a.transfers.now parse.new.octets parse.new.marks parse.new.table c.in-Stretches.n c.in-Stretches.plain = rw c.in-Stretches.is at parse.ensures in
-    no_fault (of_width a.w) a.v a.transfers.now a.out.now c.requires (codes_in octets marks) table n t.taken c.emit.new.out c.emit.result c.emit.ensures
+pub returns-else-parsed : goal.returns-else-parsed
+returns-else-parsed c =
+    let t = c.args.take.now in
+    let k = c.in_ok-parsed.ensures in
+    let octets = c.parse.new.octets in
+    let marks = c.parse.new.marks in
+    let n = c.in_ok-parsed.parsed.stretches in
+    let taken : TakenAs t.shape t.octets.now (codes_in octets marks) c.parse.new.table n =
+    subst (λ (s : Shape). TakenAs s t.octets.now (codes_in octets marks) c.parse.new.table n) (bare_shape t.shape c.requires.bare) k.taken in
+    no_fault t.shape c.args.v t.octets.now c.args.out.now c.requires.tested (codes_in octets marks) c.parse.new.table n taken c.emit-else-parsed.new.out c.emit-else-parsed.result
+    (rw c.requires.bare (rw (c.new.ensures.octets, c.new.ensures.marks) at c.emit-else-parsed.ensures))

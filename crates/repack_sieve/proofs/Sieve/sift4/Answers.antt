@@ -10,7 +10,6 @@ pub returns : goal.returns
 returns c =
     let a = c.args in
     let row = get_or a.self.now.rows (a.keep % 16) (row_of 0 0 0 0) in
-    rw c.from-5.ensures
-    (sifted4 a.at a.x c.close-y.result a.keep row.kept row.odd row.far row.count a.octets.now c.store.new.s
+    sifted4 a.at a.x c.close-y.result a.keep row.kept row.odd row.far row.count a.octets.now c.store.new.s
     (row_read a.self.now.rows a.keep a.self.now.made) c.requires (omega (arith, c.ranges.x))
-    (rw (c.from.ensures, c.from-2.ensures, c.from-3.ensures, c.from-4.ensures) at c.close-y.ensures) c.store.ensures)
+    (rw c.from.ensures at c.close-y.ensures) c.store.ensures

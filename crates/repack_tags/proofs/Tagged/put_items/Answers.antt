@@ -1,26 +1,7 @@
 -- `Tagged::put_items` meets its contract: item by item, from the last one down. Assumes nothing.
-use Prim.Native.Nat.{◌+◌, ◌-◌}
 use native.Mathlib.Omega.{arith}
-use lib.ListN.{get_or}
-use Rattle.repack_tags.proofs.Putting.{octet-small, putting_starts, strb-small, user-small, user-moved, putting_item, putting_done}
+use Rattle.repack_tags.proofs.Putting.{strb-small, user-small, user-moved, putting_item}
 use Rattle.repack_tags.proofs.Tagged.put_items.Goals as goal
-
-pub loop-j-init : goal.loop-j-init
-loop-j-init c =
-    let a = c.args in
-    putting_starts a.self.now.user a.self.now.items.now a.from a.n a.out.now c.requires.few.1
-
-pub overflow_mul-out : goal.overflow_mul-out
-overflow_mul-out c =
-    let a = c.args in
-    let l = c.loop-j in
-    record { fits = omega (arith, octet-small (get_or a.self.now.items.now (a.from + (l.j - 1)) 0)) }
-
-pub overflow_cast-out : goal.overflow_cast-out
-overflow_cast-out c =
-    let a = c.args in
-    let l = c.loop-j in
-    record { fits = octet-small (get_or a.self.now.items.now (a.from + (l.j - 1)) 0) }
 
 pub overflow_mul-strb : goal.overflow_mul-strb
 overflow_mul-strb c =
@@ -47,10 +28,3 @@ loop-j-preserved c =
     let l = c.loop-j in
     rw (c.from.ensures, c.from-in-loop-j.ensures)
     (putting_item a.self.now.user a.self.now.items.now a.from a.n a.out.now c.requires.few.1 l.out l.strb l.user l.j l.invariant c.loop-j-test.true c.requires.few.2 _ (user-moved a.self.now.user a.self.now.items.now a.from a.n a.out.now c.requires.few.1 l.out l.strb l.user l.j l.invariant c.loop-j-test.true c.requires.few.0 a.self.now.narrow c.requires.fits))
-
-pub returns : goal.returns
-returns c =
-    let a = c.args in
-    let l = c.loop-j in
-    let both = putting_done a.self.now.user a.self.now.items.now a.from a.n a.out.now c.requires.few.1 l.out l.strb l.user l.j l.invariant (omega arith) in
-    record { value = both.0; out_after = both.1 }

@@ -39,10 +39,6 @@ pub write_nulls-requires : goal.write_nulls-requires
 write_nulls-requires c =
     (c.requires.1.few, omega (arith, size_is (shaped c.args.v c.args.self.now.user), c.requires.1.room, c.put_items-tags.auto.out))
 
-pub user_octets-requires : goal.user_octets-requires
-user_octets-requires c =
-    narrow c.shape_of.result c.args.v c.args.self.now.user c.requires.1.high c.args.self.now.narrow c.shape_of.ensures
-
 pub write_user-requires : goal.write_user-requires
 write_user-requires c =
     let a = c.args in
@@ -54,9 +50,6 @@ write_user-requires c =
       c.put_items-tags.auto.out,
       c.write_nulls.auto.out,
     )
-
-pub header-requires : goal.header-requires
-header-requires c = omega (arith, c.requires.1.few, c.requires.1.high)
 
 pub write_header-requires : goal.write_header-requires
 write_header-requires c =
