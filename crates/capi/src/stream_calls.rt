@@ -150,15 +150,13 @@ pub extern "C" fn urd_data_octets(width: usize, user: usize, capture: &[u8], k: 
     ensures { ShowsPart result (shaped width user) capture.now k }
 {
     let s = shape_of(width, user);
-    match stream_data::find_data(s, capture, k) {
-        Ok(octets) => PartAnswer {
-            refusal: 0,
-            start: stream_data::data_start(s, capture, k) as u64,
-            length: octets.len() as u64,
-        },
-        Err(r) => PartAnswer {
-            refusal: code_of(r).0,
-            ..PartAnswer::default()
-        },
+    let refusal = match stream_data::find_data(s, capture, k) {
+        Ok(_) => 0,
+        Err(r) => code_of(r).0,
+    };
+    PartAnswer {
+        refusal,
+        start: stream_data::data_start(s, capture, k) as u64,
+        length: stream_data::data_octets(s, capture, k).len() as u64,
     }
 }
