@@ -7,6 +7,7 @@ use stream_record::shape_of;
 use stream_spec::{Shape, Verdict};
 
 // Octets as they are printed.
+#[derive(Clone, Copy)]
 pub struct Octets<'a>(pub &'a [u8]);
 
 impl<'a> fmt::Display for Octets<'a> {
@@ -19,6 +20,7 @@ impl<'a> fmt::Display for Octets<'a> {
 }
 
 // What a call that writes records answers.
+#[derive(Clone, Copy)]
 struct Written(Result<usize, Refusal>);
 
 impl fmt::Display for Written {
@@ -31,6 +33,7 @@ impl fmt::Display for Written {
 }
 
 // All numbers of a refusal.
+#[derive(Clone, Copy)]
 struct Refused(Refusal);
 
 impl fmt::Display for Refused {
@@ -41,21 +44,21 @@ impl fmt::Display for Refused {
 }
 
 // A call that writes into the memory that it is lent: what it answers, and the memory afterwards.
-fn written<F: FnOnce(&mut [u8]) -> Result<usize, Refusal>>(
+fn call<F: FnOnce(&mut [u8]) -> Result<usize, Refusal>>(
     rt: &impl Print,
     name: &str,
     mut lent: [u8; 24],
-    call: F,
+    writes: F,
 ) -> io::Result<()>
-    requires { F.IsAlwaysCallable call }
+    requires { F.IsAlwaysCallable writes }
 {
-    let answer = call(&mut lent);
+    let answer = writes(&mut lent);
     println!(rt; "{name}{}{}", Written(answer), Octets(&lent))
 }
 
 // Repacks records of shape s to width v.
 fn repack_to(rt: &impl Print, name: &str, s: Shape, v: usize, input: &[u8]) -> io::Result<()> {
-    written(
+    call(
         rt,
         name,
         [0xEE; 24],
@@ -65,7 +68,7 @@ fn repack_to(rt: &impl Print, name: &str, s: Shape, v: usize, input: &[u8]) -> i
 
 // Slices records of shape s to width v, lane by lane.
 fn downsize_to(rt: &impl Print, name: &str, s: Shape, v: usize, input: &[u8]) -> io::Result<()> {
-    written(
+    call(
         rt,
         name,
         [0xEE; 24],
@@ -75,7 +78,7 @@ fn downsize_to(rt: &impl Print, name: &str, s: Shape, v: usize, input: &[u8]) ->
 
 // Fills in a take of 24 equal octets at a level.
 fn fill_in(rt: &impl Print, s: Shape, octet: u8, level: bool) -> io::Result<()> {
-    written(
+    call(
         rt,
         "FILL",
         [octet; 24],
