@@ -1,3 +1,2 @@
-pub mod Told
-pub mod Reported
+-- The contracts of the C calls need no proof file; here is that they leave no choice.
 pub mod Once

@@ -1,9 +1,11 @@
 -- The contracts of the C calls leave no choice: two answers that meet one of them on the same arguments are equal in each
 -- number, and so is the memory lent to a report; that lent to a cut or a stream call is an equation in the contract itself. A
 -- field that says nothing breaks one of these proofs. Assumes nothing.
+use Rattle.std.specs.Prelude.{Result}
 use mathlib.Core.Path.{◌≡◌}
 use mathlib.Core.List.{List}
 use Prim.Native.Nat.{ℕ}
+use Rattle.refusal.specs.declared.Refusal.{Refusal}
 use Rattle.axi3_spec.specs.Answers as axi3
 use Rattle.burst_spec.specs.Answers as burst
 use Rattle.merge_spec.specs.Answers as merge
@@ -66,7 +68,7 @@ part_once p q = λ i. record {
   length = both p.octets q.octets i;
 }
 
-pub verdict_once : {a b : ReportAnswer} {v : Verdict} {text octets : ℕ} → ShowsVerdict a v text octets → ShowsVerdict b v text octets → a ≡ b
+pub verdict_once : {a b : ReportAnswer} {v : Result Verdict Refusal} {text octets : ℕ} → ShowsVerdict a v text octets → ShowsVerdict b v text octets → a ≡ b
 verdict_once p q = λ i. record {
   verdict = both p.verdict q.verdict i;
   refusal = both p.refusal q.refusal i;

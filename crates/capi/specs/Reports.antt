@@ -1,6 +1,7 @@
 -- The report as C sees it: paper 01's numbers of a report, the verdict first. What the report is of is report_spec's
 -- `report_of`, and a verdict's numbers are report_spec's `verdict_values`; here is only how a number stands for a verdict's word.
-use Rattle.std.specs.Prelude.{◌≡◌, List, ℕ, length}
+use Rattle.std.specs.Prelude.{◌≡◌, List, ℕ, length, Result}
+use Rattle.refusal.specs.declared.Refusal.{Refusal}
 use Rattle.stream_spec.specs.Memory.{in_front}
 use Rattle.report_spec.specs.declared.Verdict.{Verdict}
 use Rattle.report_spec.specs.Report.{Word, says_clean, says_broken, says_refused, verdict_values, Whole, contents, report_of, fitting}
@@ -21,7 +22,7 @@ word_number says_broken = 1
 word_number says_refused = 2
 
 -- a verdict, with how long the text and the result are
-pub record ShowsVerdict (a : ReportAnswer) (v : Verdict) (text octets : ℕ) : Type 0 where
+pub record ShowsVerdict (a : ReportAnswer) (v : Result Verdict Refusal) (text octets : ℕ) : Type 0 where
   pub verdict : a.verdict ≡ word_number (verdict_values v).word
   pub refusal : a.refusal ≡ (verdict_values v).refusal
   pub rule : a.rule ≡ (verdict_values v).rule

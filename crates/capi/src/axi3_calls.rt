@@ -1,40 +1,34 @@
 // Cutting a burst for AXI3 boards, as a C function. T-10 widens `start` to 64 bits; the row's numbers have them already.
 ghost use Rattle.std.specs.Prelude.{◌≡◌};
 ghost use Rattle.burst_spec.specs.Answers.{burst_of};
-ghost use Rattle.axi3_spec.specs.Answers.{cut_answer, cut_values, refusal_values, numbers_room, numbers_after};
+ghost use Rattle.axi3_spec.specs.Answers.{cut_answer, cut_values, numbers_room, numbers_after};
 ghost use Rattle.capi.specs.Shows.{ShowsCut};
 
 use burst::burst_of;
-use refusal::Refusal;
+use refusal::{Refusal, code_of};
 
 // What cutting a burst answers: the refusal's number, or 0; how many bursts were written. What it has not is 0.
 #[repr(C)]
-#[derive(Clone, Copy)]
+#[derive(Clone, Copy, Default)]
 pub struct CutAnswer {
     pub refusal: u32,
     pub count: u64,
 }
 
-fn refused(r: Refusal) -> CutAnswer
-    ensures { ShowsCut result (refusal_values r) }
-{
-    let code = refusal::code_of(r);
-    CutAnswer {
-        refusal: code.0,
-        count: 0,
-    }
-}
+impl From<Result<usize, Refusal>> for CutAnswer {
+    ghost from_gives = { λ r a. ShowsCut a (cut_values r) };
 
-// The numbers of a cut's answer.
-fn of_cut(answer: axi3_spec::CutAnswer) -> CutAnswer
-    ensures { ShowsCut result (cut_values answer) }
-{
-    match answer {
-        axi3_spec::CutAnswer::Bursts(n) => CutAnswer {
-            refusal: 0,
-            count: n as u64,
-        },
-        axi3_spec::CutAnswer::Refused(r) => refused(r),
+    fn from(answer: Result<usize, Refusal>) -> CutAnswer {
+        match answer {
+            Ok(n) => CutAnswer {
+                refusal: 0,
+                count: n as u64,
+            },
+            Err(r) => CutAnswer {
+                refusal: code_of(r).0,
+                count: 0,
+            },
+        }
     }
 }
 
@@ -51,5 +45,5 @@ pub extern "C" fn urd_axi3_cut(
     ensures shows_cut { ShowsCut result (cut_values (cut_answer (burst_of start len size kind bus) (numbers_room row.old))) }
     ensures row_after { row.new ≡ numbers_after (burst_of start len size kind bus) row.old }
 {
-    of_cut(axi3::cut_numbers(burst_of(start, len, size, kind, bus), row))
+    axi3::cut_numbers(burst_of(start, len, size, kind, bus), row).into()
 }

@@ -2,12 +2,12 @@
 ghost use Rattle.burst_spec.specs.Answers.{burst_of, judgement, beat_answer, step_answer, judgement_values, beat_values, step_values, refusal_values};
 ghost use Rattle.capi.specs.Shows.{ShowsBurst};
 
-use burst_spec::{BeatAnswer, Judgement, StepAnswer};
-use refusal::Refusal;
+use burst_spec::Beat;
+use refusal::{Refusal, code_of};
 
 // What a burst call answers: the refusal's number, or 0; a beat's address and byte lanes; a step. What it has not is 0.
 #[repr(C)]
-#[derive(Clone, Copy)]
+#[derive(Clone, Copy, Default)]
 pub struct BurstAnswer {
     pub refusal: u32,
     pub lower: u32,
@@ -16,16 +16,58 @@ pub struct BurstAnswer {
     pub address: u64,
 }
 
-fn refused(r: Refusal) -> BurstAnswer
-    ensures { ShowsBurst result (refusal_values r) }
-{
-    let code = refusal::code_of(r);
-    BurstAnswer {
-        refusal: code.0,
-        lower: 0,
-        upper: 0,
-        step: 0,
-        address: 0,
+impl From<Refusal> for BurstAnswer {
+    ghost from_gives = { λ r a. ShowsBurst a (refusal_values r) };
+
+    fn from(r: Refusal) -> BurstAnswer {
+        BurstAnswer {
+            refusal: code_of(r).0,
+            ..BurstAnswer::default()
+        }
+    }
+}
+
+// Of judging a burst.
+impl From<Result<(), Refusal>> for BurstAnswer {
+    ghost from_gives = { λ r a. ShowsBurst a (judgement_values r) };
+
+    fn from(answer: Result<(), Refusal>) -> BurstAnswer {
+        match answer {
+            Ok(()) => BurstAnswer::default(),
+            Err(r) => r.into(),
+        }
+    }
+}
+
+// Of asking for a beat.
+impl From<Result<Beat, Refusal>> for BurstAnswer {
+    ghost from_gives = { λ r a. ShowsBurst a (beat_values r) };
+
+    fn from(answer: Result<Beat, Refusal>) -> BurstAnswer {
+        match answer {
+            Ok(beat) => BurstAnswer {
+                lower: beat.lower,
+                upper: beat.upper,
+                address: u64::from(beat.address),
+                ..BurstAnswer::default()
+            },
+            Err(r) => r.into(),
+        }
+    }
+}
+
+// Of asking for a step.
+impl From<Result<i32, Refusal>> for BurstAnswer {
+    ghost from_gives = { λ r a. ShowsBurst a (step_values r) };
+
+    fn from(answer: Result<i32, Refusal>) -> BurstAnswer {
+        match answer {
+            Ok(step) => BurstAnswer {
+                step,
+                ..BurstAnswer::default()
+            },
+            Err(r) => r.into(),
+        }
     }
 }
 
@@ -40,16 +82,7 @@ pub extern "C" fn urd_burst_judge(
 ) -> BurstAnswer
     ensures { ShowsBurst result (judgement_values (judgement (burst_of start len size kind bus))) }
 {
-    match burst::judge_numbers(start, len, size, kind, bus) {
-        Judgement::Refused(r) => refused(r),
-        Judgement::Accepted => BurstAnswer {
-            refusal: 0,
-            lower: 0,
-            upper: 0,
-            step: 0,
-            address: 0,
-        },
-    }
+    burst::judge_numbers(start, len, size, kind, bus).into()
 }
 
 // Beat k of a burst.
@@ -64,16 +97,7 @@ pub extern "C" fn urd_burst_beat(
 ) -> BurstAnswer
     ensures { ShowsBurst result (beat_values (beat_answer (burst_of start len size kind bus) k)) }
 {
-    match burst::beat(burst::burst_of(start, len, size, kind, bus), k) {
-        BeatAnswer::Refused(r) => refused(r),
-        BeatAnswer::At(beat) => BurstAnswer {
-            refusal: 0,
-            lower: beat.lower,
-            upper: beat.upper,
-            step: 0,
-            address: beat.address as u64,
-        },
-    }
+    burst::beat(burst::burst_of(start, len, size, kind, bus), k).into()
 }
 
 // The step from beat k of a burst to the next one.
@@ -88,14 +112,5 @@ pub extern "C" fn urd_burst_step(
 ) -> BurstAnswer
     ensures { ShowsBurst result (step_values (step_answer (burst_of start len size kind bus) k)) }
 {
-    match burst::step(burst::burst_of(start, len, size, kind, bus), k) {
-        StepAnswer::Refused(r) => refused(r),
-        StepAnswer::By(step) => BurstAnswer {
-            refusal: 0,
-            lower: 0,
-            upper: 0,
-            step,
-            address: 0,
-        },
-    }
+    burst::step(burst::burst_of(start, len, size, kind, bus), k).into()
 }

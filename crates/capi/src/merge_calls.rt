@@ -1,18 +1,17 @@
 // Merging two takes onto one port, as a C function.
 ghost use Rattle.std.specs.Prelude.{◌≡◌, length};
-ghost use Rattle.merge_spec.specs.declared.Merged.TheVariants.{Refused};
 ghost use Rattle.stream_spec.specs.Layout.{shaped};
 ghost use Rattle.merge_spec.specs.Answers.{merge_answer, merge_after, merged_values};
 ghost use Rattle.capi.specs.Shows.{ShowsMerge};
 
-use merge_spec::Merged;
-use refusal::Refusal;
+use merge_spec::PortRefusal;
+use refusal::{Code, code_of};
 use stream_record::shape_of;
 
 // What merging answers: the refusal's number, or 0; the port that it names; its place, the record in that port's list; the count of
 // records. A number that an answer does not have is 0.
 #[repr(C)]
-#[derive(Clone, Copy)]
+#[derive(Clone, Copy, Default)]
 pub struct MergeAnswer {
     pub refusal: u32,
     pub port: u32,
@@ -20,43 +19,39 @@ pub struct MergeAnswer {
     pub count: u64,
 }
 
-fn refused(port: u32, r: Refusal) -> MergeAnswer
-    ensures { ShowsMerge result (merged_values (Refused port r)) }
-{
-    let code = refusal::code_of(r);
-    MergeAnswer {
-        refusal: code.0,
-        port,
-        place: code.1 as u64,
-        count: 0,
-    }
-}
+impl From<Result<usize, PortRefusal>> for MergeAnswer {
+    ghost from_gives = { λ r a. ShowsMerge a (merged_values r) };
 
-fn of_merged(m: Merged) -> MergeAnswer
-    ensures { ShowsMerge result (merged_values m) }
-{
-    match m {
-        Merged::Records(n) => MergeAnswer {
-            refusal: 0,
-            port: 0,
-            place: 0,
-            count: n as u64,
-        },
-        Merged::Refused(port, r) => refused(port, r),
+    fn from(answer: Result<usize, PortRefusal>) -> MergeAnswer {
+        match answer {
+            Ok(n) => MergeAnswer {
+                count: n as u64,
+                ..MergeAnswer::default()
+            },
+            Err(named) => {
+                let Code(refusal, place, _) = code_of(named.refusal);
+                MergeAnswer {
+                    refusal,
+                    port: named.port,
+                    place: place as u64,
+                    count: 0,
+                }
+            }
+        }
     }
 }
 
 // Merges a take of port 0 and a take of port 1 into a lent output.
 #[unsafe(no_mangle)]
-pub extern "C" fn urd_merge<'a>(
+pub extern "C" fn urd_merge(
     width: usize,
     user: usize,
-    first: &'a [u8],
-    second: &'a [u8],
+    first: &[u8],
+    second: &[u8],
     out: &mut [u8],
 ) -> MergeAnswer
     ensures shows_merge { ShowsMerge result (merged_values (merge_answer (shaped width user) first.now second.now (length out.old))) }
     ensures out_after { out.new ≡ merge_after (shaped width user) first.now second.now out.old }
 {
-    of_merged(stream_merge::merge(shape_of(width, user), first, second, out))
+    stream_merge::merge(shape_of(width, user), first, second, out).into()
 }

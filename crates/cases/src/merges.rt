@@ -1,26 +1,22 @@
 // Two takes of width 1 merged onto one port (T-08): the number of records; or the refusal, the port that it names and its place. The output
 // is lent 42 octets EE, and all of them are printed, so that what is not written shows.
-use crate::bursts::number;
-use crate::streams::octets;
-use merge_spec::Merged;
+use crate::streams::Octets;
+use refusal::{Code, code_of};
 use std::io;
+use stream_record::shape_of;
 
 // Port 0's list and port 1's, merged.
-fn merge<'a>(rt: &impl Print, first: &'a [u8], second: &'a [u8]) -> io::Result<()> {
+fn merge(rt: &impl Print, first: &[u8], second: &[u8]) -> io::Result<()> {
     let mut out = [0xEEu8; 42];
-    let answer = stream_merge::merge(stream_record::shape_of(1, 0), first, second, &mut out);
-    rt.write_all(b"MERGE")?;
-    match answer {
-        Merged::Records(n) => number(rt, b" records=", n as u64)?,
-        Merged::Refused(port, r) => {
-            let code = refusal::code_of(r);
-            number(rt, b" refusal=", code.0 as u64)?;
-            number(rt, b" port=", port as u64)?;
-            number(rt, b" at=", code.1 as u64)?;
+    print!(rt; "MERGE")?;
+    match stream_merge::merge(shape_of(1, 0), first, second, &mut out) {
+        Ok(n) => print!(rt; " records={n}")?,
+        Err(named) => {
+            let Code(number, place, _) = code_of(named.refusal);
+            print!(rt; " refusal={number} port={} at={place}", named.port)?
         }
     }
-    octets(rt, &out)?;
-    rt.write_all(b"\n")
+    println!(rt; "{}", Octets(&out))
 }
 
 // Turns of two records, one, one and one; an all-null record with idle data and TID 127; one list empty.
