@@ -3,17 +3,13 @@ use Rattle.std.specs.Prelude.{None}
 use mathlib.Core.Path.{◌≡◌}
 use mathlib.Core.Bool.{false}
 use mathlib.Core.List.{List, ◌∷◌}
-use Prim.Native.Nat.{◌≤◌}
-use borrow.Author.Tests.{ltb-false}
 use Rattle.refusal.specs.Checks.{Check, first}
 use Rattle.refusal.specs.declared.Refusal.{Refusal}
 use Rattle.refusal.proofs.First.{first-none}
-use Rattle.stream_spec.specs.Layout.{user_most}
 use Rattle.stream_spec.specs.Checks.{user_check, width_check}
-use Rattle.stream_spec.specs.Walk.{Narrow}
 use Rattle.stream_spec.proofs.Passed.{WidthFits, width_fits}
 use Rattle.report_setup_spec.specs.declared.Setup.{Setup}
-use Rattle.report_spec.specs.Report.{shape_of, out_shape, ratio_checks, Passes}
+use Rattle.report_spec.specs.Report.{shape_of, ratio_checks, Passes}
 
 module _ (u : Setup) (p : Passes u) where
   abbrev ratio : List (Check Refusal)
@@ -42,13 +38,3 @@ module _ (u : Setup) (p : Passes u) where
 
   pub fits_out : WidthFits u.width_out
   fits_out = width_fits u.width_out sound_out
-
-  few-user : u.user ≤ user_most
-  few-user = ltb-false user_most u.user sound-user
-
-  -- the records of the take and of the result have sizes that code can count
-  pub narrow_in : Narrow (shape_of u)
-  narrow_in = record { width = (width_fits u.width_in sound_in).high; user = few-user }
-
-  pub narrow_out : Narrow (out_shape u)
-  narrow_out = record { width = fits_out.high; user = few-user }
