@@ -92,11 +92,6 @@ data_held octets n h = omega (arith, length-map octets data_code)
 abbrev pub inside : Head → Head
 inside head = record { pair = head.pair; last = false; fits = head.fits }
 
--- nothing is written yet
-pub advanced_none : (m v : ℕ) (head : Head) (codes out : List ℕ) (c : Cursor) → StretchFits m v head codes out c
-    → Advanced m v head codes out c out c
-advanced_none m v head codes out c f = record { end = refl; same = refl; room = f.room; writes = λ before whole rest w. w }
-
 module _ (m v : ℕ) (head : Head) (codes out₀ : List ℕ) (c : Cursor) (f : StretchFits m v head codes out₀ c)
     (held : c.from + c.left ≤ length codes) (out : List ℕ) (r : Cursor) (a : Advanced m v head codes out₀ c out r) where
   codes_long : length (take r.left (drop r.from codes)) ≡ r.left

@@ -5,7 +5,7 @@ use mathlib.Core.List.{List, [], ◌∷◌, ◌++◌, map}
 use Prim.Native.Nat.{ℕ, zero, suc, ◌+◌, ◌/◌, ◌^◌, ◌≤◌, ◌<◌}
 use native.Mathlib.Omega.{arith}
 use lib.ListN.{length, get_or, take, drop, length-drop}
-use lib.Seq.{take-take, take-nil, length-take-le, get_or-take, get_or-drop}
+use lib.Seq.{length-take-le, get_or-take, get_or-drop}
 use Rattle.stream_spec.proofs.Users.{LanesTagged}
 use Rattle.repack_scratch.specs.Codes.{kept_of}
 use Rattle.repack_scratch.proofs.Fitted.{bits_fit}
@@ -21,18 +21,6 @@ pub fit_drop : (m n : ℕ) (xs : List ℕ) → TagsFit m xs → TagsFit m (drop 
 fit_drop m zero xs h = h
 fit_drop m (suc n) [] h = tt
 fit_drop m (suc n) (x ∷ xs) h = fit_drop m n xs h.1
-
-fit_take : (m n : ℕ) (xs : List ℕ) → TagsFit m xs → TagsFit m (take n xs)
-fit_take m zero xs h = tt
-fit_take m (suc n) [] h = tt
-fit_take m (suc n) (x ∷ xs) h = (h.0, fit_take m n xs h.1)
-
--- a part of those that are held
-pub fit_part : (m a from n : ℕ) (xs : List ℕ) → from + n ≤ a → TagsFit m (take a xs) → TagsFit m (take n (drop from xs))
-fit_part m a zero n xs h f = rw (take-take n a xs (omega arith)) at (fit_take m n (take a xs) f)
-fit_part m a (suc from) n [] h f = rw (take-nil {A = ℕ} n) tt
-fit_part m zero (suc from) n (x ∷ xs) h f = absurd (omega arith)
-fit_part m (suc a) (suc from) n (x ∷ xs) h f = fit_part m a from n xs (omega arith) f.1
 
 pub fit_append : (m : ℕ) (xs ys : List ℕ) → TagsFit m xs → TagsFit m ys → TagsFit m (xs ++ ys)
 fit_append m [] ys h k = k

@@ -1,16 +1,13 @@
 -- A record's octets as its parts are written: the items from the last one down, and all parts one after the other. Assumes nothing.
 use Rattle.std.specs.Prelude.{Option, Some}
 use mathlib.Core.Path.{◌≡◌, refl, sym, ap, ◌∙◌}
-use mathlib.Core.Bool.{Bool, true, false}
-use mathlib.Core.List.{List, [], ◌∷◌, ◌++◌, map}
+use mathlib.Core.List.{List, ◌∷◌, ◌++◌, map}
 use Prim.Native.Nat.{ℕ, suc, ◌+◌, ◌-◌, ◌*◌, ◌/◌, ◌%◌, ◌^◌, ◌≤◌, ◌<◌}
 use native.Mathlib.Nat.{mul_comm, mul-le-mul, mod-eq_of_lt}
 use native.Mathlib.Omega.{arith}
-use borrow.Author.Tests.{eqb-true, eqb-false}
-use lib.Dec.{eqb}
 use lib.Pow.{pow_mono}
-use lib.ListN.{length, get_or, take, drop, set, replicate, length-map, length-drop, length-append, length-set, length-replicate, take-append-drop}
-use lib.Seq.{drop-cons, drop-length, drop_at, length-take-le, get_or-take, get_or-drop}
+use lib.ListN.{length, get_or, take, drop, set, replicate, length-map, length-drop, length-append, length-set, length-replicate}
+use lib.Seq.{drop-cons, drop_at, length-take-le, get_or-take, get_or-drop}
 use Rattle.words.specs.Splice.{splice}
 use Rattle.words.specs.Words.{octets_of_word}
 use Rattle.words.proofs.Splice.{splice-splice}
@@ -50,17 +47,6 @@ strobes-small codes few =
     let most : length (map strb_bit (lanes_with codes)) ≤ 16 = omega (arith, many) in
     omega (arith, mask_fits (map strb_bit (lanes_with codes)), pow_mono most)
 
--- an octet or nothing is an octet
-pub octet-small : (x : ℕ) → x % 256 * (x / 256 % 2) < 256
-octet-small x = go (eqb (x / 256 % 2) 1) refl
-  where
-    go : (b : Bool) → eqb (x / 256 % 2) 1 ≡ b → x % 256 * (x / 256 % 2) < 256
-    go true e = let one : x / 256 % 2 ≡ 1 = eqb-true (x / 256 % 2) 1 e in rw one (omega arith)
-    go false e =
-        let low : x / 256 % 2 ≡ 1 → ⊥ = eqb-false (x / 256 % 2) 1 e in
-        let zero : x / 256 % 2 ≡ 0 = omega arith in
-        rw zero (omega arith)
-
 -- Of the n items of these codes those from item j on are written; t and u are their TSTRB and user bits.
 pub record Putting (m n : ℕ) (codes before out : List ℕ) (t u j : ℕ) : Type 0 where
   pub low : j ≤ n
@@ -75,17 +61,6 @@ module _ (m : ℕ) (items : List ℕ) (from n : ℕ) (before : List ℕ) (held :
 
   pub long : length codes ≡ n
   long = length-take-le n (drop from items) (omega (arith, length-drop from items))
-
-  pub putting_starts : Putting m n codes before before 0 0 n
-  putting_starts =
-      let None : drop n codes ≡ [] = ap (λ (k : ℕ). drop k codes) (sym long) ∙ drop-length codes in
-      record {
-        low = omega arith;
-        same = refl;
-        strb = rw None refl;
-        user = rw None refl;
-        is = rw None (sym (take-append-drop (head_octets + n) before));
-      }
 
   module _ (out : List ℕ) (t u j : ℕ) (p : Putting m n codes before out t u j) where
     pub strb-small : n ≤ 16 → t < 0x10000
@@ -132,14 +107,6 @@ module _ (m : ℕ) (items : List ℕ) (from n : ℕ) (before : List ℕ) (held :
                 fill_down before (map lane_octet (lanes_with (drop j codes)) ++ drop (head_octets + n) before) out (head_octets + i) (head_octets + j) (x % 256 * (x / 256 % 2)) (omega arith) (omega (arith, p.low)) p.is
                 ∙ rw (down, octet-is x) refl;
           }
-
-    -- all are written
-    pub putting_done : j ≡ 0
-        → (record { strb = t; user = u } ≡ tags_of m (lanes_with codes)) × (out ≡ splice head_octets (map lane_octet (lanes_with codes)) before)
-    putting_done e =
-        let strb : t ≡ mask_of (map strb_bit (lanes_with codes)) = p.strb ∙ rw e refl in
-        let user : u ≡ users_of m (lanes_with codes) = p.user ∙ rw e refl in
-        (λ i. record { strb = strb i; user = user i }, p.is ∙ rw (e, length_octs codes, long) refl)
 
 -- ---- all parts of a record
 

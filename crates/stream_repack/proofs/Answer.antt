@@ -3,9 +3,9 @@ use Rattle.std.specs.Prelude.{Option, None, Some, Result, Ok, Err}
 use Rattle.std.specs.Result.{result_err}
 use mathlib.Core.Path.{◌≡◌, refl, sym, ap, ◌∙◌}
 use mathlib.Core.List.{List, [], ◌∷◌, ◌++◌}
-use Prim.Native.Nat.{ℕ, ◌≤◌}
+use Prim.Native.Nat.{ℕ}
 use native.Mathlib.Omega.{arith}
-use lib.ListN.{length, take, length-take}
+use lib.ListN.{length, take}
 use Rattle.refusal.specs.declared.Refusal.{Refusal}
 use Rattle.refusal.specs.Checks.{Check, first}
 use Rattle.refusal.proofs.First.{append-found, append-passed}
@@ -16,7 +16,6 @@ use Rattle.stream_spec.specs.Answers.{Repacked, written, lent_after, repack_refu
 use Rattle.stream_spec.proofs.Passed.{WidthFits}
 use Rattle.stream_record.proofs.Tests.{input_passed}
 use Rattle.repack_scratch.specs.declared.Entry.{Entry}
-use Rattle.repack_scratch.specs.Codes.{stretch_room}
 use Rattle.repack_parse.specs.Read.{TakenAs}
 use Rattle.repack_emit.specs.Emit.{Emitted}
 use Rattle.stream_repack.specs.Tests.{input_checks}
@@ -69,10 +68,6 @@ module _ (s : Shape) (v : ℕ) (transfers out : List ℕ) where
           answered (first (room_check (packed s v transfers) (length out) ∷ [])) after r
           (ladder ∙ append-passed (transfer_checks s 0 (records s transfers)) (room_check (packed s v transfers) (length out) ∷ []) t.faultless)
           (rw t.finished.is at m.answer) (rw t.finished.is at m.memory)
-
--- a part of a table is no longer than it
-pub prefix_short : (n : ℕ) (table : List Entry) → length table ≡ stretch_room → length (take n table) ≤ stretch_room
-prefix_short n table l = omega (arith, length-take n table)
 
 -- a shape without user bits is known by its width
 pub bare_shape : (s : Shape) → s.user ≡ 0 → of_width s.width ≡ s
