@@ -206,21 +206,21 @@ turn-short = (packed_turns (lanes 1) 2 xs ys 41 5 accepted).short 0
 
 -- ---- 17, of port 0's record 1 before a fault of port 1, and of port 1's record 0
 
-tags-zero : merge_answer (lanes 1) (rec 0 1 10 ++ rec 0 128 11) (flagged 1) 3 ≡ Err (record { port = 0; refusal = (Tags 1) })
+tags-zero : merge_answer (lanes 1) (rec 0 1 10 ++ rec 0 128 11) (flagged 1) 3 ≡ Err (named 0 (Tags 1))
 unfolding size merge_answer
 tags-zero = refl
 
-pub tags-zero_again : merge_answer (lanes 1) (rec 0 1 10 ++ rec 0 128 11) (flagged 1) 3 ≡ Err (record { port = 0; refusal = (Tags 1) })
+pub tags-zero_again : merge_answer (lanes 1) (rec 0 1 10 ++ rec 0 128 11) (flagged 1) 3 ≡ Err (named 0 (Tags 1))
 tags-zero_again =
     let t = tags_exactly (lanes 1) (rec 0 1 10 ++ rec 0 128 11) (flagged 1) 3 0 1 in
     t.1 (t.0 tags-zero)
 
 -- a record without items
-tags-one : merge_answer (lanes 1) (rec 0 1 10) (one 0 128 0 0 0 0) 16 ≡ Err (record { port = 1; refusal = (Tags 0) })
+tags-one : merge_answer (lanes 1) (rec 0 1 10) (one 0 128 0 0 0 0) 16 ≡ Err (named 1 (Tags 0))
 unfolding size merge_answer
 tags-one = refl
 
-pub tags-one_again : merge_answer (lanes 1) (rec 0 1 10) (one 0 128 0 0 0 0) 16 ≡ Err (record { port = 1; refusal = (Tags 0) })
+pub tags-one_again : merge_answer (lanes 1) (rec 0 1 10) (one 0 128 0 0 0 0) 16 ≡ Err (named 1 (Tags 0))
 tags-one_again = let t = tags_exactly (lanes 1) (rec 0 1 10) (one 0 128 0 0 0 0) 16 1 0 in t.1 (t.0 tags-one)
 
 -- ---- each line of the refusals' order, both ways; and the memory afterwards

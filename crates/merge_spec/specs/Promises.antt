@@ -77,7 +77,7 @@ HighBy s xs ys port k = ((port ≡ 0) × HighAt s xs k) ⊎ ((port ≡ 1) × All
 abbrev pub TagsExactly : Type 0
 TagsExactly =
     (s : Shape) (xs ys : List ℕ) (room port k : ℕ)
-    → (merge_answer s xs ys room ≡ Err (record { port = port; refusal = (Tags k) })) ↔ (Readable s xs ys × HighBy s xs ys port k)
+    → (merge_answer s xs ys room ≡ Err (named port (Tags k))) ↔ (Readable s xs ys × HighBy s xs ys port k)
 
 -- "A refused call changes no octet of lent memory" (demand 1).
 abbrev pub MemoryKept : Type 0
