@@ -2,8 +2,8 @@
 // the rules that a take must keep are judged by the crate stream_judge. No rule is read here, and nothing is repacked.
 #![tactic(auto)]
 
-ghost use Rattle.std.specs.Prelude.{◌≡◌, ◌+◌, ◌≤◌, ◌<◌, length};
-ghost use Rattle.stream_spec.specs.Layout.{size_least};
+ghost use Rattle.std.specs.Prelude.{◌≡◌, ◌+◌, ◌≤◌, length, take, drop};
+ghost use Rattle.words.specs.Splice.{splice};
 ghost use Rattle.stream_spec.specs.Handshake.{as_transfer, harvested};
 ghost use Rattle.stream_spec.specs.Memory.{in_front};
 ghost use Rattle.stream_spec.specs.Answers.{Harvested};
@@ -11,35 +11,48 @@ ghost use Rattle.stream_harvest.specs.Filling.{RecordFits, CycleFits, CyclePut};
 
 use refusal::Refusal;
 use stream_record::Take;
-use stream_record::layout::{FLAGS, SIZE_LEAST, TID};
+use stream_record::layout::{FLAGS, SIZE_LEAST};
 use stream_spec::{Shape, Verdict};
 
-// How many octets behind the eighth are moved in one group: all of them, but sixteen at most.
-fn grouped(n: usize) -> usize
-    requires { size_least < n }
-    ensures { (1 ≤ result) × (result ≤ 16) × (8 + result ≤ n) × (n ≤ 24 → 8 + result ≡ n) × (24 < n → result ≡ 16) }
+// The octets that are moved at a time.
+const WORD: usize = 8;
+
+// Eight octets of a record, to the same place of `out`.
+fn move_word(rec: &[u8], out: &mut [u8], at: usize)
+    requires { (at + 8 ≤ length rec.now) × (at + 8 ≤ length out.old) }
+    ensures { out.new ≡ splice at (take 8 (drop at rec.now)) out.old }
 {
-    (n - 8).min(16)
+    words::store(out, at, words::load::<u64>(rec, at));
+}
+
+// The first eight octets of a record at the front of `out`: of octet 0 its TLAST alone.
+fn move_front(rec: &[u8], out: &mut [u8])
+    requires { RecordFits rec.now out.old }
+    ensures { out.new ≡ splice 0 (take 8 (as_transfer rec.now)) out.old }
+{
+    let word: u64 = words::load(rec, 0);
+    words::store(out, 0, word - word % 0x100 + word % 2);
 }
 
 // Writes the cycle record `rec` as a transfer record at the front of `out`: octet 0 has TLAST alone, and the others are
-// as sampled, moved in groups. Of a record longer than 24 octets the last group overlaps the one before it.
+// as sampled. Eight octets are moved at a time; the last eight may overlap those before them.
 fn put_transfer(rec: &[u8], out: &mut [u8])
     requires { RecordFits rec.now out.old }
     ensures { out.new ≡ in_front (as_transfer rec.now) out.old }
 {
-    // stays: groups and not copy_from_slice (tried, proved, too slow: 1.46 of the yardstick's time at width 1, groups 0.9)
+    // stays: words and not copy_from_slice (tried, proved, too slow: 1.46 of the yardstick's time at width 1)
     let n = rec.len();
-    out[FLAGS] = rec[FLAGS] % 2;
-    words::place(out, TID, &rec[TID..], 7, 7);
+    move_front(rec, out);
     if n == SIZE_LEAST {
         return;
     }
-    let more = grouped(n);
-    words::place(out, 8, &rec[8..], more, more);
-    if 24 < n {
-        words::store::<u64>(out, n - 8, words::load::<u64>(rec, n - 8));
+    if 2 * WORD < n {
+        move_word(rec, out, WORD);
     }
+    if 3 * WORD < n {
+        move_word(rec, out, 2 * WORD);
+    }
+    move_word(rec, out, n - WORD);
 }
 
 // Writes the record of one cycle at the front of `out`, if it is a transfer, and answers how many octets it wrote.

@@ -1,50 +1,24 @@
--- `stream_harvest::put_transfer` meets its contract: octet 0, then the others in up to three groups. Assumes nothing.
-use mathlib.Core.Path.{◌≡◌, ap, ◌∙◌}
-use mathlib.Core.List.{List}
-use Prim.Native.Nat.{ℕ, ◌+◌, ◌-◌, ◌%◌, ◌<◌}
+-- `stream_harvest::put_transfer` meets its contract: eight octets at a time, the last eight over the end of those before them.
+-- Assumes nothing.
 use native.Mathlib.Omega.{arith}
-use lib.ListN.{length, get_or, take, drop, set}
-use Rattle.words.specs.Splice.{splice}
-use Rattle.words.specs.Words.{octets_of_word}
-use Rattle.words.proofs.Words.{word-take}
-use Rattle.stream_harvest.proofs.Copied.{group_is, copied, copied_over, copied_all}
-use Rattle.stream_harvest.proofs.put_transfer.Goals.{After-place-2}
+use Rattle.stream_harvest.proofs.Copied.{Copying, copying_starts, copying_more, copying_enough, copying_ends}
 use Rattle.stream_harvest.proofs.put_transfer.Goals as goal
+use Rattle.stream_harvest.proofs.put_transfer.Goals.{then-n, else-n, then-n-2, else-n-2}
 
--- what stands in the output behind the second group
-two : (c : After-place-2) → c.place-2.new.to ≡ copied c.args.rec.now c.args.out.now (7 + c.grouped-more.result)
-two c =
-    let rec : List ℕ = c.args.rec.now in
-    let out : List ℕ = c.args.out.now in
-    let m = c.grouped-more.result in
-    let fits = c.grouped-more.ensures.2 in
-    let one : c.place.new.to ≡ copied rec out 7 =
-    c.place.ensures ∙ ap (λ (xs : List ℕ). splice 1 xs (set out 0 (get_or rec 0 0 % 2))) (group_is 7 1 rec (omega (arith, c.requires.low))) in
-    c.place-2.ensures
-    ∙ ap (λ (xs : List ℕ). splice 8 xs c.place.new.to) (group_is m 8 rec (omega (arith, fits)))
-    ∙ ap (splice 8 (take m (drop 8 rec))) one
-    ∙ copied_over rec out c.requires.room 7 7 m (omega arith) (omega arith) (omega (arith, fits))
-
-pub returns-then-n-gt24 : goal.returns-then-n-gt24
-returns-then-n-gt24 c =
-    let rec : List ℕ = c.args.rec.now in
-    let out : List ℕ = c.args.out.now in
-    let octets : (j : ℕ) → get_or rec j 0 < 256 = λ j. omega (arith, c.type_inv.rec j) in
-    let over : 24 < length rec = c.if-n-gt24.true in
-    let from = length rec - 8 in
-    let all : 7 + c.grouped-more.result ≡ 23 = omega (arith, c.grouped-more.ensures.4 over) in
-    let place : from ≡ 1 + (length rec - 9) = omega (arith, over) in
-    c.store.ensures
-    ∙ ap (λ (x : ℕ). splice from (octets_of_word 8 x) c.place-2.new.to) c.load.ensures
-    ∙ ap (λ (xs : List ℕ). splice from xs c.place-2.new.to) (word-take 8 rec from octets (omega (arith, over)))
-    ∙ ap (splice from (take 8 (drop from rec))) (two (goal.at.returns-then-n-gt24 c).After-place-2 ∙ ap (copied rec out) all)
-    ∙ ap (λ (i : ℕ). splice i (take 8 (drop i rec)) (copied rec out 23)) place
-    ∙ copied_over rec out c.requires.room (length rec - 9) 23 8 (omega (arith, c.requires.high)) (omega (arith, over)) (omega (arith, over))
-    ∙ copied_all rec out c.requires.room (length rec - 9 + 8) (omega (arith, over))
-
-pub returns-else-n-gt24 : goal.returns-else-n-gt24
-returns-else-n-gt24 c =
-    let rec : List ℕ = c.args.rec.now in
-    let m = c.grouped-more.result in
-    two (goal.at.returns-else-n-gt24 c).After-place-2
-    ∙ copied_all rec c.args.out.now c.requires.room (7 + m) (omega (arith, c.grouped-more.ensures.3 (omega (arith, c.if-n-gt24.false))))
+pub returns : goal.returns
+returns c =
+    let rec = c.args.rec.now in
+    let out = c.args.out.now in
+    let p = c.requires in
+    let one : Copying rec out c.move_front.new.out 8 = copying_starts rec out p.low p.room _ c.move_front.ensures in
+    let two : Copying rec out c.if-n.out 16 =
+    elim c.if-n.branch [
+      | then-n w ↦ rw w.out-is (copying_more rec out p.low p.room _ 8 one _ (omega arith) (omega (arith, w.if-n.true)) w.move_word.ensures)
+      | else-n w ↦ rw w.out-is (copying_enough rec out p.low p.room _ 8 one (omega (arith, w.if-n.false)))
+    ] in
+    let three : Copying rec out c.if-n-2.out 24 =
+    elim c.if-n-2.branch [
+      | then-n-2 w ↦ rw w.out-is (copying_more rec out p.low p.room _ 16 two _ (omega arith) (omega (arith, w.if-n-2.true)) w.move_word-then-n-2.ensures)
+      | else-n-2 w ↦ rw w.out-is (copying_enough rec out p.low p.room _ 16 two (omega (arith, w.if-n-2.false)))
+    ] in
+    copying_ends rec out p.low p.room _ 24 three _ (omega (arith, p.low, c.if-n-eq-SIZE_LEAST.false)) (omega (arith, p.high)) c.move_word-2.ensures
