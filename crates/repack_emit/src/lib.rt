@@ -70,7 +70,7 @@ fn head_of(e: Entry) -> Head
 // Writes the records of all stretches of a table.
 fn put_all<I: Items>(out: &mut [u8], items: &I, table: &[Entry], v: usize)
     requires few { (1 ≤ v) × (v ≤ width_most) × (length table.now ≤ stretch_room) }
-    requires held { I.holds items.now (total table.now) }
+    requires held { I.holds items.now 0 (total table.now) }
     requires room { length (packed_from (I.user items.now) v table.now (I.codes items.now)) ≤ length out.old }
     ensures { out.new ≡ in_front (packed_from (I.user items.now) v table.now (I.codes items.now)) out.old }
 {
@@ -92,7 +92,7 @@ pub fn emit<I: Items>(
     v: usize,
 ) -> Result<usize, Refusal>
     requires few { (1 ≤ v) × (v ≤ width_most) × (length table.now ≤ stretch_room) }
-    requires held { I.holds items.now (total table.now) }
+    requires held { I.holds items.now 0 (total table.now) }
     ensures { Emitted (I.user items.now) v (I.codes items.now) table.now out.old out.new result }
 {
     let n = count(table, v as u32);

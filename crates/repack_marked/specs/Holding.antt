@@ -1,4 +1,5 @@
--- A law of `Items` for items with marks: what can be written is held. It stands here since the members of an impl name nothing of proofs/. Assumes nothing.
+-- A law of `Items` for items with marks: what can be written is held. It stands here since the members of an impl name
+-- nothing of this crate's proofs/. Assumes nothing.
 use mathlib.Core.Path.{◌≡◌, sym, ◌∙◌}
 use mathlib.Core.List.{List}
 use Prim.Native.Nat.{ℕ, ◌+◌, ◌*◌, ◌≤◌}

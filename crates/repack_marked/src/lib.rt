@@ -73,14 +73,14 @@ impl<'a> Marked<'a> {
 }
 
 impl<'a> Items for Marked<'a> {
-    ghost use Rattle.repack_plain.specs.Holding.{bare_fewer};
+    ghost use Rattle.repack_plain.specs.Holding.{bare_part};
     ghost use Rattle.repack_marked.specs.Holding.{marked_held};
 
     ghost user = { λ _. 0 };
 
     ghost codes = { λ items. codes_in items.octets.now items.marks.now };
 
-    ghost holds = { λ items n. n + 32 ≤ length items.octets.now };
+    ghost holds = { λ items from n. from + n + 32 ≤ length items.octets.now };
 
     fn record_size(&self, v: usize) -> usize {
         repack_scratch::record_size(v)
@@ -95,7 +95,7 @@ impl<'a> Items for Marked<'a> {
         }
     }
 
-    ghost held = { λ items n h. marked_held items.octets.now items.marks.now n items.same h };
+    ghost held = { λ items from n h. marked_held items.octets.now items.marks.now (from + n) items.same h };
 
-    ghost fewer = { λ items n k l h. bare_fewer items.octets.now n k l h };
+    ghost part = { λ items from n i k a b h. bare_part items.octets.now from n i k b h };
 }

@@ -140,6 +140,7 @@ module _ (m v : ℕ) (head : Head) (codes out₀ : List ℕ) (c : Cursor) (f : S
         rw p
         (record {
           end = omega (arith, a.end);
+          less = omega (arith, a.less);
           same = long ∙ a.same;
           room = omega (arith, a.room, this_long, long, e);
           writes =

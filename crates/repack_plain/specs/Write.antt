@@ -65,6 +65,7 @@ pub record StretchPut (m v : ℕ) (head : Head) (codes out : List ℕ) (c : Curs
 -- More of it is written, up to another cursor, and what is left there has room.
 pub record Advanced (m v : ℕ) (head : Head) (codes out : List ℕ) (c : Cursor) (after : List ℕ) (r : Cursor) : Type 0 where
   pub end : r.from + r.left ≡ c.from + c.left
+  pub less : r.left ≤ c.left
   pub same : length after ≡ length out
   pub room : r.to + length (left_octets m v head codes r) ≤ length after
   pub writes :

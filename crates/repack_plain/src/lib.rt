@@ -22,8 +22,8 @@ pub trait Items {
     // The items' codes.
     ghost codes: { Self → List ℕ };
 
-    // The first n items can be written.
-    ghost holds: { Self → ℕ → Type 0 };
+    // The n items from item `from` on can be written.
+    ghost holds: { Self → ℕ → ℕ → Type 0 };
 
     // The octets of a record of v lanes.
     fn record_size(&self, v: usize) -> usize
@@ -32,12 +32,12 @@ pub trait Items {
 
     // A record of v lanes with the n items from item `from` on, at the front of `out`.
     fn put_record(&self, out: &mut [u8], from: usize, n: usize, v: usize, head: Head)
-        requires { holds self.now (from + n) × RecordFits (user self.now) v n out.old }
+        requires { holds self.now from n × RecordFits (user self.now) v n out.old }
         ensures { out.new ≡ record_at (user self.now) v head (codes self.now) from n ++ drop (size (shaped v (user self.now))) out.old };
 
     // The records of what is left of a stretch at a cursor. Answers the place after them.
     fn put_stretch(&self, out: &mut [u8], c: Cursor, v: usize, head: Head) -> usize
-        requires { holds self.now (c.from + c.left) × StretchFits (user self.now) v head (codes self.now) out.old c }
+        requires { holds self.now c.from c.left × StretchFits (user self.now) v head (codes self.now) out.old c }
         ensures { StretchPut (user self.now) v head (codes self.now) out.old c out.new result }
     {
         let size = self.record_size(v);
@@ -57,10 +57,10 @@ pub trait Items {
         d.to + size
     }
 
-    // They are held, and so are fewer of them.
-    ghost held: { (x : Self) (n : ℕ) → holds x n → n ≤ length (codes x) };
+    // They are held, and any part of them can be written.
+    ghost held: { (x : Self) (from n : ℕ) → holds x from n → from + n ≤ length (codes x) };
 
-    ghost fewer: { (x : Self) (n k : ℕ) → k ≤ n → holds x n → holds x k };
+    ghost part: { (x : Self) (from n i k : ℕ) → from ≤ i → i + k ≤ from + n → holds x from n → holds x i k };
 }
 
 // Items without user bits, each of which is data. Up to 32 octets behind them may be read.
@@ -125,13 +125,13 @@ fn put_all_but_last(out: &mut [u8], octets: &[u8], c: Cursor, v: usize, head: He
 }
 
 impl<'a> Items for Plain<'a> {
-    ghost use Rattle.repack_plain.specs.Holding.{plain_held, bare_fewer};
+    ghost use Rattle.repack_plain.specs.Holding.{plain_held, bare_part};
 
     ghost user = { λ _. 0 };
 
     ghost codes = { λ items. map data_code items.octets.now };
 
-    ghost holds = { λ items n. n + 32 ≤ length items.octets.now };
+    ghost holds = { λ items from n. from + n + 32 ≤ length items.octets.now };
 
     fn record_size(&self, v: usize) -> usize {
         repack_scratch::record_size(v)
@@ -148,7 +148,7 @@ impl<'a> Items for Plain<'a> {
         d.to + repack_scratch::record_size(v)
     }
 
-    ghost held = { λ items n h. plain_held items.octets.now n h };
+    ghost held = { λ items from n h. plain_held items.octets.now (from + n) h };
 
-    ghost fewer = { λ items n k l h. bare_fewer items.octets.now n k l h };
+    ghost part = { λ items from n i k a b h. bare_part items.octets.now from n i k b h };
 }

@@ -1,5 +1,5 @@
 -- Items with user bits: what is gathered of one record's lanes, and what is written of one record.
-use Rattle.std.specs.Prelude.{List, [], ◌∷◌, map, ℕ, ◌/◌, ◌^◌, ◌<◌, length, get_or, take, drop, Option, Some}
+use Rattle.std.specs.Prelude.{List, [], ◌∷◌, map, ℕ, ◌/◌, ◌^◌, ◌+◌, ◌≤◌, ◌<◌, length, get_or, take, drop, Option, Some}
 use Rattle.stream_spec.specs.Layout.{mask_of, Kept, strb_bit, users_of}
 use Rattle.repack_scratch.specs.Codes.{kept_of, tagged}
 use Rattle.repack_scratch.specs.Stands.{Gathered}
@@ -19,9 +19,9 @@ abbrev pub TagsFit : ℕ → List ℕ → Type 0
 TagsFit m [] = Unit {0}
 TagsFit m (x ∷ xs) = (x / 0x200 < 2 ^ m) × TagsFit m xs
 
--- the same of the first n of those that are held
-abbrev pub FrontFits : ℕ → List ℕ → ℕ → Type 0
-FrontFits m items n = (i : ℕ) → i < n → get_or items i 0 / 0x200 < 2 ^ m
+-- the same of n of those that are held, from item `from` on
+abbrev pub PartFits : ℕ → List ℕ → ℕ → ℕ → Type 0
+PartFits m items from n = (i : ℕ) → from ≤ i → i < from + n → get_or items i 0 / 0x200 < 2 ^ m
 
 -- what n lanes carry: the items of these codes, from item `from` on
 abbrev pub item_lanes : List ℕ → ℕ → ℕ → List (Option Kept)

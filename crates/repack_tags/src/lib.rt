@@ -7,7 +7,7 @@ ghost use Rattle.std.specs.Prelude.{◌≡◌, ◌++◌, map, ◌+◌, ◌%◌, 
 ghost use Rattle.words.specs.Splice.{splice};
 ghost use Rattle.stream_spec.specs.Layout.{head_octets, user_most, lane_octet};
 ghost use Rattle.repack_scratch.specs.Codes.{tagged_code};
-ghost use Rattle.repack_tags.specs.Tags.{GatheredTags, TagsFit, FrontFits, item_lanes, tags_of};
+ghost use Rattle.repack_tags.specs.Tags.{GatheredTags, TagsFit, PartFits, item_lanes, tags_of};
 
 use repack_plain::{Head, Items};
 use stream_record::layout::HEAD_OCTETS;
@@ -87,13 +87,13 @@ impl<'a> Tagged<'a> {
 }
 
 impl<'a> Items for Tagged<'a> {
-    ghost use Rattle.repack_tags.specs.Holding.{tagged_fewer};
+    ghost use Rattle.repack_tags.specs.Holding.{tagged_part};
 
     ghost user = { λ items. items.user };
 
     ghost codes = { λ items. items.items.now };
 
-    ghost holds = { λ items n. (n ≤ length items.items.now) × FrontFits items.user items.items.now n };
+    ghost holds = { λ items from n. (from + n ≤ length items.items.now) × PartFits items.user items.items.now from n };
 
     fn record_size(&self, v: usize) -> usize {
         stream_record::record_size(stream_record::shape_of(v, self.user))
@@ -112,7 +112,7 @@ impl<'a> Items for Tagged<'a> {
         stream_write::write_header(out, head.header(n, tags.strb));
     }
 
-    ghost held = { λ items n h. h.0 };
+    ghost held = { λ items from n h. h.0 };
 
-    ghost fewer = { λ items n k l h. tagged_fewer items.user items.items.now n k l h };
+    ghost part = { λ items from n i k a b h. tagged_part items.user items.items.now from n i k a b h };
 }

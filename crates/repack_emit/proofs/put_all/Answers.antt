@@ -1,5 +1,5 @@
 -- `repack_emit::put_all` meets its contract: stretch by stretch, what is left to write gets less. Assumes nothing.
-use Prim.Native.Nat.{◌+◌}
+use native.Mathlib.Omega.{arith}
 use Rattle.repack_scratch.specs.Codes.{total}
 use Rattle.repack_emit.proofs.Tables.{entry_at, packing_starts, packing_held, packing_fits, packing_next, packing_done}
 use Rattle.repack_emit.proofs.put_all.Goals as goal
@@ -14,7 +14,7 @@ put_stretch-to-requires g c =
     let n = c.count-left in
     let cut = entry_at a.table.now l.e-index c.loop-e-test.true in
     let held = packing_held _ a.v _ a.table.now a.out.now l.out l.to l.from l.e-index l.invariant _ c.head_of.result n.result cut c.head_of.ensures n.ensures in (
-      g.met.I.Items.fewer a.items.now (total a.table.now) (l.from + n.result) held c.requires.held,
+      g.met.I.Items.part a.items.now 0 (total a.table.now) l.from n.result (omega arith) (omega (arith, held)) c.requires.held,
       packing_fits _ a.v _ a.table.now a.out.now l.out l.to l.from l.e-index l.invariant _ c.head_of.result n.result cut c.head_of.ensures n.ensures c.requires.few.0 c.requires.few.1 c.requires.few.2,
     )
 

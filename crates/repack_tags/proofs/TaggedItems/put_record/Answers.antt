@@ -12,7 +12,7 @@ use Rattle.stream_spec.specs.Walk.{Narrow}
 use Rattle.stream_spec.proofs.Size.{size_is}
 use Rattle.repack_tags.specs.declared.Tags.{Tags}
 use Rattle.repack_plain.proofs.Lanes.{bit-small}
-use Rattle.repack_tags.proofs.Lanes.{front_part}
+use Rattle.repack_tags.proofs.Lanes.{part_fits}
 use Rattle.repack_tags.proofs.Putting.{strobes-small, record_written}
 use Rattle.repack_tags.proofs.TaggedItems.put_record.Goals as goal
 
@@ -32,7 +32,7 @@ put_items-tags-requires c =
     let h = c.requires.0 in
     record {
       few = (omega (arith, p.few, p.high), h.0, omega (arith, size_is (shaped a.v a.self.now.user), p.few, p.room));
-      fits = front_part a.self.now.user a.from a.n a.self.now.items.now h.0 h.1;
+      fits = part_fits a.self.now.user a.from a.n a.self.now.items.now h.0 h.1;
     }
 
 pub write_nulls-requires : goal.write_nulls-requires
