@@ -1,6 +1,7 @@
 // Judging AXI4 bursts, and the address, byte lanes and step of each beat (paper 01, 'Bursts'). Every call takes any numbers
-// and refuses what is not allowed. What the answers mean is in the crate burst_spec. The calls come first; then, private to
-// this file, the tests of the refusals, the beats of an accepted burst, and the arithmetic on addresses.
+// and refuses what is not allowed. What the answers mean is in the crate burst_spec. The calls come first, then an accepted burst
+// and its beats, which axi3 and write_data ask too; then, private to this file, the tests of the refusals and the arithmetic on
+// addresses.
 #![tactic(auto)]
 
 ghost use Rattle.std.specs.Prelude.{Err, IfOk, IfErr, not, ◌≡◌, ◌/◌, ◌%◌, ◌^◌, ◌≤◌, ◌<◌};
@@ -36,7 +37,7 @@ pub fn burst_of(start: Address, len: u32, size: u32, kind: u32, bus: u32) -> Bur
         start,
         len,
         size,
-        kind: Kind::from(kind),
+        kind: kind_of(kind),
         bus,
     }
 }
@@ -311,6 +312,6 @@ fn lane(x: Address) -> u32
     requires { x < bus_most }
     ensures { result ≡ x }
 {
-    // stays: the `requires` lets the cast, and `u32::try_from` is an `unwrap` more on a path that tests/masks refuses.
+    // stays: `u32::try_from` is no plainer: its `unwrap` needs this same `requires`, and a test of it at run time.
     x as u32
 }

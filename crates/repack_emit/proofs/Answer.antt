@@ -1,7 +1,7 @@
 -- What writing all stretches answers, with any number m of user bits to a byte: ROOM, or the number of records. Assumes nothing.
 use mathlib.Core.Path.{◌≡◌, refl, ◌∙◌}
 use mathlib.Core.List.{List}
-use Prim.Native.Nat.{ℕ, ◌*◌, ◌^◌, ◌≤◌, ◌<◌}
+use Prim.Native.Nat.{ℕ, ◌+◌, ◌*◌, ◌^◌, ◌≤◌, ◌<◌}
 use native.Mathlib.Nat.{mul-le-mul_left}
 use native.Mathlib.Omega.{arith}
 use borrow.Author.Tests.{lt-ltb, le-ltb}
@@ -21,10 +21,10 @@ use Rattle.repack_emit.proofs.Tables.{count-is, wide_stretches}
 pub product_fits : (n z : ℕ) → z ≤ size_most → n ≤ 0x10000 * stretch_room → n * z < 2 ^ 64
 product_fits n z h l = omega (arith, mul-le-mul_left n h)
 
-module _ (m v : ℕ) (items : List ℕ) (table : List Entry) (out : List ℕ) (n z : ℕ) (held : total table ≤ length items) (counted : n ≡ count_of v table)
+module _ (m v : ℕ) (items : List ℕ) (table : List Entry) (out : List ℕ) (n z : ℕ) (held : 0 + total table ≤ length items) (counted : n ≡ count_of v table)
     (sized : z ≡ size (shaped v m)) where
   number : n ≡ length (pack_stretches v (stretches_of table items))
-  number = counted ∙ count-is v table items held
+  number = counted ∙ count-is v table items (omega (arith, held))
 
   pub packed-long : length (packed_from m v table items) ≡ n * z
   packed-long =

@@ -9,7 +9,7 @@ use native.Mathlib.Omega.{arith}
 use lib.ListN.{length, get_or, take, drop, length-append, length-drop, length-map, drop_of_length-le}
 use lib.Seq.{drop-drop, drop-cons, length-take-le}
 use Rattle.stream_spec.specs.Packed.{Stretch, pack_stretch, pack_stretches}
-use Rattle.stream_spec.specs.Layout.{odd, Kept, octets}
+use Rattle.stream_spec.specs.Layout.{Kept, octets}
 use Rattle.stream_spec.proofs.Pack.{Wide, wide-append, wide-spread, length-spread}
 use Rattle.stream_spec.proofs.Records.{octets-append}
 use Rattle.stream_spec.specs.Memory.{in_front, Writing}
@@ -25,13 +25,13 @@ use Rattle.repack_emit.specs.Emit.{IsHeadOf, packed_from, count_of}
 
 pub packed_more : (m v : ℕ) (e : Entry) (es : List Entry) (codes rest : List ℕ)
     → octets m (pack_stretches v (stretches_of (e ∷ es) codes)) ++ rest
-    ≡ stretch_octets m v (pair_from (entry_pair e)) (take (entry_count e) codes) (odd (entry_last e))
+    ≡ stretch_octets m v (pair_from (entry_pair e)) (take (entry_count e) codes) (entry_last e)
     ++ (octets m (pack_stretches v (stretches_of es (drop (entry_count e) codes))) ++ rest)
 packed_more m v e es codes rest =
     ap (λ (l : List ℕ). l ++ rest)
     (octets-append m (pack_stretch v (stretch_of e (take (entry_count e) codes))) (pack_stretches v (stretches_of es (drop (entry_count e) codes))))
     ∙ rw (length-map (take (entry_count e) codes) kept_of)
-    (append_assoc (stretch_octets m v (pair_from (entry_pair e)) (take (entry_count e) codes) (odd (entry_last e)))
+    (append_assoc (stretch_octets m v (pair_from (entry_pair e)) (take (entry_count e) codes) (entry_last e))
     (octets m (pack_stretches v (stretches_of es (drop (entry_count e) codes)))) rest)
 
 -- ---- counts
@@ -50,7 +50,7 @@ count-is v (e ∷ es) codes h =
     sym
     (length-append (pack_stretch v (stretch_of e (take (entry_count e) codes))) (pack_stretches v (stretches_of es (drop (entry_count e) codes)))
     ∙ rw (
-      length-spread ((length (map kept_of (take (entry_count e) codes)) - 1) / v) v (pair_from (entry_pair e)) (map Some (map kept_of (take (entry_count e) codes))) (odd (entry_last e)),
+      length-spread ((length (map kept_of (take (entry_count e) codes)) - 1) / v) v (pair_from (entry_pair e)) (map Some (map kept_of (take (entry_count e) codes))) (entry_last e),
       long,
       ← count-is v es (drop (entry_count e) codes) (rw (length-drop (entry_count e) codes) (omega arith)),
     ) (omega arith))

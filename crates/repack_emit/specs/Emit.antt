@@ -3,7 +3,7 @@ use Rattle.std.specs.Prelude.{◌≡◌, List, [], ◌∷◌, ℕ, ◌+◌, ◌-
 use Rattle.refusal.specs.declared.Refusal.{Refusal}
 use Rattle.refusal.specs.Checks.{first}
 use Rattle.stream_spec.specs.Packed.{pack_stretches}
-use Rattle.stream_spec.specs.Layout.{odd, octets}
+use Rattle.stream_spec.specs.Layout.{octets}
 use Rattle.stream_spec.specs.Checks.{room_check}
 use Rattle.stream_spec.specs.Answers.{written, lent_after}
 use Rattle.repack_scratch.specs.declared.Entry.{Entry}
@@ -13,7 +13,7 @@ use Rattle.repack_plain.specs.declared.stretch.Head.{Head}
 -- the pair and the end of an entry's stretch
 pub record IsHeadOf (e : Entry) (head : Head) : Type 0 where
   pub pair : head.pair ≡ entry_pair e
-  pub last : head.last ≡ odd (entry_last e)
+  pub last : head.last ≡ entry_last e
 
 -- the octets of the packed form of a table's stretches, with m user bits to a byte
 abbrev pub packed_from : ℕ → ℕ → List Entry → List ℕ → List ℕ

@@ -63,7 +63,7 @@ fn head_of(e: Entry) -> Head
 {
     Head {
         pair: e.pair(),
-        last: e.last() != 0,
+        last: e.last(),
     }
 }
 

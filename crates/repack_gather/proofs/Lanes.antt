@@ -5,12 +5,11 @@ use mathlib.Core.Bool.{Bool, true, false}
 use mathlib.Core.List.{List, [], ◌∷◌, ◌++◌, map, append_assoc, append-nil}
 use Prim.Native.Nat.{ℕ, zero, suc, ◌+◌, ◌-◌, ◌/◌, ◌%◌, ◌^◌, ◌≤◌, ◌<◌}
 use native.Mathlib.Nat.{pow-suc, add-zero}
-use native.Mathlib.Numerals.{add-one}
 use native.Mathlib.Omega.{arith}
-use borrow.Author.Tests.{eqb-true, eqb-false}
+use borrow.Author.Tests.{eqb-true}
 use lib.Pow.{pow_pos}
-use lib.ListN.{length, get_or, take, drop, set, length-set}
-use lib.Seq.{take-suc-set, take-set-le, get_or-drop, drop-drop}
+use lib.ListN.{length, get_or, take, drop}
+use lib.Seq.{get_or-drop, drop-drop}
 use Rattle.stream_spec.specs.Layout.{odd}
 use Rattle.words.specs.Splice.{splice}
 use Rattle.words.specs.Words.{padded}
@@ -19,7 +18,7 @@ use Rattle.repack_scratch.specs.Codes.{data_code, held_codes, sifted}
 use Rattle.repack_scratch.specs.Stands.{Gathered}
 use Rattle.repack_scratch.proofs.Held.{length-held, held_more}
 use Rattle.repack_sieve.specs.Kept.{kept_octet, kept_octets, Collected}
-use Rattle.repack_sieve.proofs.Kept.{kept_split, collected_as, stored_kept}
+use Rattle.repack_sieve.proofs.Kept.{kept_split, stored_kept}
 use Rattle.repack_gather.specs.Gather.{Clear}
 
 -- ---- all lanes

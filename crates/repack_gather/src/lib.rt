@@ -37,14 +37,14 @@ fn sift_lanes(octets: &mut [u8], at: usize, lanes: &[u8], keep: u32) -> usize
     n
 }
 
-// The kept lanes of a held, of which each is data: in bulk where all are kept, else lane by lane.
-pub fn gather_lanes(octets: &mut [u8], at: usize, shape: Lanes, lanes: &[u8], keep: u32) -> usize
-    requires { (length lanes.now ≡ shape.width) × (at + shape.width ≤ length octets.old) }
-    ensures { Collected shape.width keep lanes.now octets.old at octets.new result }
+// The kept lanes of a record of so many, of which each is data: in bulk where all are kept, else lane by lane.
+pub fn gather_lanes(octets: &mut [u8], at: usize, of: Lanes, lanes: &[u8], keep: u32) -> usize
+    requires { (length lanes.now ≡ of.width) × (at + of.width ≤ length octets.old) }
+    ensures { Collected of.width keep lanes.now octets.old at octets.new result }
 {
-    if keep == shape.full {
-        words::place(octets, at, lanes, shape.width, shape.width);
-        return at + shape.width;
+    if keep == of.full {
+        words::place(octets, at, lanes, of.width, of.width);
+        return at + of.width;
     }
     sift_lanes(octets, at, lanes, keep)
 }

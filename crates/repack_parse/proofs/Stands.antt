@@ -11,7 +11,7 @@ use lib.ListN.{length, drop, length-append, drop_of_length-le}
 use lib.Seq.{drop-append-le}
 use Rattle.stream_spec.specs.Items.{Pair, same_pair, Item, byte, item_pair}
 use Rattle.stream_spec.specs.Packed.{Stretch, cut}
-use Rattle.stream_spec.specs.Layout.{odd, Kept}
+use Rattle.stream_spec.specs.Layout.{Kept}
 use Rattle.stream_spec.proofs.Cut.{Begins, cut_begins, cut_open}
 use Rattle.stream_spec.proofs.Pack.{map-append}
 use Rattle.repack_parse.specs.declared.state.Open.{Open}
@@ -29,11 +29,11 @@ made st codes ended = record { pair = pair_from st.pair; bytes = opened st codes
 
 module _ (codes : List ℕ) (entries : List Entry) (st : Open) (all : List (Stretch Kept)) where
   -- closing, where the open bytes with what follows them are cut off as one stretch
-  pub close_stands : (rest rest' : List (Item Kept)) (last pair : ℕ) → last ≤ 1 → st.start ≤ st.items → st.items < 0x10000
-      → cut (map (byte (pair_from st.pair)) (opened st codes) ++ rest) ≡ made st codes (odd last) ∷ cut rest'
+  pub close_stands : (rest rest' : List (Item Kept)) (last : Bool) (pair : ℕ) → st.start ≤ st.items → st.items < 0x10000
+      → cut (map (byte (pair_from st.pair)) (opened st codes) ++ rest) ≡ made st codes last ∷ cut rest'
       → Stands codes entries st rest all
       → Stands codes (entries ++ entry_of (st.items - st.start) last st.pair ∷ []) (closed_at st pair) rest' all
-  close_stands rest rest' last pair l s b e h =
+  close_stands rest rest' last pair s b e h =
       let count = entry-count (st.items - st.start) last st.pair (omega arith) in
       let fills : total entries + entry_count (entry_of (st.items - st.start) last st.pair) ≡ length codes =
       rw count (omega (arith, h.started, h.kept)) in
@@ -46,8 +46,8 @@ module _ (codes : List ℕ) (entries : List Entry) (st : Open) (all : List (Stre
             (sym
             (rw (drop_of_length-le codes {i = st.items} (omega (arith, h.kept)))
             (rw (stretches_one entries (entry_of (st.items - st.start) last st.pair) codes fills, h.started)
-            (rw (entry_stretch (st.items - st.start) last st.pair (drop st.start codes) (omega arith) l)
-            (append_assoc (stretches_of entries codes) (made st codes (odd last) ∷ []) (cut rest'))))));
+            (rw (entry_stretch (st.items - st.start) last st.pair (drop st.start codes) (omega arith))
+            (append_assoc (stretches_of entries codes) (made st codes last ∷ []) (cut rest'))))));
       }
 
   -- with no byte open, the pair does not matter

@@ -1,5 +1,6 @@
 -- What each step of reading does to the state: laws of Read's records, a law for each way a function returns. Assumes nothing.
 use mathlib.Core.Path.{◌≡◌, refl, sym, ap, ◌∙◌}
+use mathlib.Core.Bool.{Bool, true, false}
 use mathlib.Core.List.{List, [], ◌∷◌, ◌++◌, map}
 use Prim.Native.Nat.{ℕ, ◌+◌, ◌-◌, ◌≤◌, ◌<◌}
 use native.Mathlib.Numerals.{add-one}
@@ -8,7 +9,7 @@ use lib.ListN.{length, take, drop, set, length-set, length-drop, length-take, le
 use lib.Seq.{take-suc-set}
 use Rattle.stream_spec.specs.Items.{Item, byte, end}
 use Rattle.stream_spec.specs.Packed.{Stretch, cut}
-use Rattle.stream_spec.specs.Layout.{odd, Kept}
+use Rattle.stream_spec.specs.Layout.{Kept}
 use Rattle.stream_spec.proofs.Cut.{cut-ended}
 use Rattle.repack_parse.specs.declared.state.Open.{Open}
 use Rattle.repack_scratch.specs.declared.Entry.{Entry}
@@ -25,16 +26,16 @@ listed : (table : List Entry) (m : ℕ) (e : Entry) → m < length table → tak
 listed table m e h = rw (add-one m) (take-suc-set table m e h)
 
 module _ (table : List Entry) (st : Open) (c : Closable st table) where
-  abbrev entry : ℕ → Entry
+  abbrev entry : Bool → Entry
   entry last = entry_of (st.items - st.start) last st.pair
 
-  closed-stands : (codes : List ℕ) (rest rest' : List (Item Kept)) (all : List (Stretch Kept)) (last pair : ℕ) → last ≤ 1
-      → cut (map (byte (pair_from st.pair)) (opened st codes) ++ rest) ≡ made st codes (odd last) ∷ cut rest'
+  closed-stands : (codes : List ℕ) (rest rest' : List (Item Kept)) (all : List (Stretch Kept)) (last : Bool) (pair : ℕ)
+      → cut (map (byte (pair_from st.pair)) (opened st codes) ++ rest) ≡ made st codes last ∷ cut rest'
       → Stands codes (take st.closed table) st rest all
       → Stands codes (take (st.closed + 1) (set table st.closed (entry last))) (closed_at st pair) rest' all
-  closed-stands codes rest rest' all last pair l e h =
+  closed-stands codes rest rest' all last pair e h =
       rw (listed table st.closed (entry last) c.lists)
-      (close_stands codes (take st.closed table) st all rest rest' last pair l c.started c.small e h)
+      (close_stands codes (take st.closed table) st all rest rest' last pair c.started c.small e h)
 
   -- some bytes are open
   some_open : (codes : List ℕ) → (st.start ≡ st.items → ⊥) → length codes ≡ st.items → 0 < length (opened st codes)
@@ -43,10 +44,10 @@ module _ (table : List Entry) (st : Open) (c : Closable st table) where
   -- ---- turning to another pair
 
   pub turn_close : (pair : ℕ) → (st.pair ≡ pair → ⊥) → (st.start ≡ st.items → ⊥)
-      → Turned pair table st (set table st.closed (entry 0)) (closed_at st pair)
+      → Turned pair table st (set table st.closed (entry false)) (closed_at st pair)
   turn_close pair p n =
       record {
-        same = length-set table st.closed (entry 0);
+        same = length-set table st.closed (entry false);
         items = refl;
         paired = refl;
         started = omega arith;
@@ -54,23 +55,23 @@ module _ (table : List Entry) (st : Open) (c : Closable st table) where
         few = λ k h. omega arith;
         stands =
             λ codes i rest all e h.
-            closed-stands codes (i ∷ rest) (i ∷ rest) all 0 pair (omega arith)
+            closed-stands codes (i ∷ rest) (i ∷ rest) all false pair
             (cut_apart (pair_from st.pair) (opened st codes) i rest (some_open codes n h.kept) (rw e (pairs_differ st.pair pair p))) h;
       }
 
   -- ---- a record's end
 
-  pub end_close : Ended 1 table st (set table st.closed (entry 1)) (closed_at st st.pair)
+  pub end_close : Ended 1 table st (set table st.closed (entry true)) (closed_at st st.pair)
   end_close =
       record {
-        same = length-set table st.closed (entry 1);
+        same = length-set table st.closed (entry true);
         items = refl;
         pair = refl;
         started = omega arith;
         few = λ k h. omega arith;
         stands =
             λ codes rest all h.
-            closed-stands codes (end (pair_from st.pair) ∷ rest) rest all 1 st.pair (omega arith)
+            closed-stands codes (end (pair_from st.pair) ∷ rest) rest all true st.pair
             (cut-ended (pair_from st.pair) (opened st codes) rest) h;
       }
 
@@ -105,9 +106,9 @@ finished items table st all e h =
     )
 
 pub finish_close : (items : List ℕ) (table : List Entry) (st : Open) (all : List (Stretch Kept)) (c : Closable st table) → (st.start ≡ st.items → ⊥) → Stands (take st.items items) (take st.closed table) st [] all
-    → Finished (st.closed + 1) items (set table st.closed (entry_of (st.items - st.start) 0 st.pair)) all
-    × (total (take (st.closed + 1) (set table st.closed (entry_of (st.items - st.start) 0 st.pair))) ≡ st.items)
+    → Finished (st.closed + 1) items (set table st.closed (entry_of (st.items - st.start) false st.pair)) all
+    × (total (take (st.closed + 1) (set table st.closed (entry_of (st.items - st.start) false st.pair))) ≡ st.items)
 finish_close items table st all c n h =
-    finished items (set table st.closed (entry_of (st.items - st.start) 0 st.pair)) (closed_at st st.pair) all refl
-    (closed-stands table st c (take st.items items) [] [] all 0 st.pair (omega arith)
+    finished items (set table st.closed (entry_of (st.items - st.start) false st.pair)) (closed_at st st.pair) all refl
+    (closed-stands table st c (take st.items items) [] [] all false st.pair
     (cut-last (pair_from st.pair) (opened st (take st.items items)) (some_open table st c (take st.items items) n h.kept)) h)

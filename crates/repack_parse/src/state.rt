@@ -30,9 +30,9 @@ impl Open {
         }
     }
 
-    // The open stretch is closed: one table entry more. An end is behind it where `last` is 1.
-    fn close(&mut self, table: &mut [Entry], last: u32)
-        requires { Closable self.old table.old × (last ≤ 1) }
+    // The open stretch is closed: one table entry more. `last` says whether an end is behind it.
+    fn close(&mut self, table: &mut [Entry], last: bool)
+        requires { Closable self.old table.old }
         ensures state { self.new ≡ closed_at self.old self.old.pair }
         ensures table { table.new ≡ set table.old self.old.closed (entry_of (self.old.items - self.old.start) last self.old.pair) }
     {
@@ -50,7 +50,7 @@ impl Open {
             return;
         }
         if self.start != self.items {
-            self.close(table, 0);
+            self.close(table, false);
         }
         self.pair = pair;
     }
@@ -61,7 +61,7 @@ impl Open {
         ensures { Ended flags table.old self.old table.new self.new }
     {
         if flags != 0 {
-            self.close(table, 1);
+            self.close(table, true);
         }
     }
 
@@ -71,7 +71,7 @@ impl Open {
         ensures { FinishIs table.old self table.new result }
     {
         if self.start != self.items {
-            self.close(table, 0);
+            self.close(table, false);
         }
         self.closed
     }

@@ -75,7 +75,7 @@ pub fn put_plain(out: &mut [u8], octets: &[u8], n: usize, v: usize, head: Head)
     requires { (v ≤ length octets.now) × RecordFits 0 v n out.old }
     ensures { out.new ≡ record_at 0 v head (map data_code octets.now) 0 n ++ drop (size (of_width v)) out.old }
 {
-    stream_write::write_data_header(out, u32::from(head.last), head.pair, n);
+    stream_write::write_data_header(out, head.last, head.pair, n);
     words::place(out, HEAD_OCTETS, octets, n, v);
 }
 

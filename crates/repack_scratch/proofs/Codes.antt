@@ -75,19 +75,28 @@ sifted-tagged (suc w) k t u ds = go (sifted-tagged w (k / 2) (t / 2) (u / 2 ^ 0)
 
 -- ---- entries
 
-pub entry-count : (n last pair : ℕ) → n < 0x10000 → entry_count (entry_of n last pair) ≡ n
-entry-count n last pair h = omega arith
+pub entry-count : (n : ℕ) (last : Bool) (pair : ℕ) → n < 0x10000 → entry_count (entry_of n last pair) ≡ n
+entry-count n true pair h = omega arith
+entry-count n false pair h = omega arith
 
-entry-last : (n last pair : ℕ) → n < 0x10000 → last ≤ 1 → entry_last (entry_of n last pair) ≡ last
-entry-last n last pair h l = omega arith
+entry-last : (n : ℕ) (last : Bool) (pair : ℕ) → n < 0x10000 → entry_last (entry_of n last pair) ≡ last
+entry-last n true pair h = rw (odd-one n pair h) refl
+  where
+    odd-one : (n pair : ℕ) → n < 0x10000 → (n + 0x10000 * (1 + 2 * pair)) / 0x10000 % 2 ≡ 1
+    odd-one n pair h = omega arith
+entry-last n false pair h = rw (odd-none n pair h) refl
+  where
+    odd-none : (n pair : ℕ) → n < 0x10000 → (n + 0x10000 * (0 + 2 * pair)) / 0x10000 % 2 ≡ 0
+    odd-none n pair h = omega arith
 
-entry-pair : (n last pair : ℕ) → n < 0x10000 → last ≤ 1 → entry_pair (entry_of n last pair) ≡ pair
-entry-pair n last pair h l = omega arith
+entry-pair : (n : ℕ) (last : Bool) (pair : ℕ) → n < 0x10000 → entry_pair (entry_of n last pair) ≡ pair
+entry-pair n true pair h = omega arith
+entry-pair n false pair h = omega arith
 
-pub entry_stretch : (n last pair : ℕ) (codes : List ℕ) → n < 0x10000 → last ≤ 1
-    → stretch_of (entry_of n last pair) codes ≡ record { pair = pair_from pair; bytes = map kept_of codes; ended = odd last }
-entry_stretch n last pair codes h l =
-    λ i. record { pair = pair_from (entry-pair n last pair h l i); bytes = map kept_of codes; ended = odd (entry-last n last pair h l i) }
+pub entry_stretch : (n : ℕ) (last : Bool) (pair : ℕ) (codes : List ℕ) → n < 0x10000
+    → stretch_of (entry_of n last pair) codes ≡ record { pair = pair_from pair; bytes = map kept_of codes; ended = last }
+entry_stretch n last pair codes h =
+    λ i. record { pair = pair_from (entry-pair n last pair h i); bytes = map kept_of codes; ended = entry-last n last pair h i }
 
 -- ---- tables
 

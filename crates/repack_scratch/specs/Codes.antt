@@ -1,9 +1,9 @@
 -- The codes of items and of stretches, as the converter's scratch arrays hold them: an item's octet in one array, its mark in
 -- another, a stretch's entry in a third.
-use Rattle.std.specs.Prelude.{◌≡◌, cond, List, [], ◌∷◌, ◌++◌, map, ℕ, zero, suc, ◌+◌, ◌-◌, ◌*◌, ◌/◌, ◌%◌, ◌^◌, length, get_or, take, drop, replicate}
+use Rattle.std.specs.Prelude.{Bool, ◌≡◌, cond, List, [], ◌∷◌, ◌++◌, map, ℕ, zero, suc, ◌+◌, ◌-◌, ◌*◌, ◌/◌, ◌%◌, ◌^◌, length, get_or, take, drop, replicate}
 use Rattle.stream_spec.specs.Items.{Pair}
 use Rattle.stream_spec.specs.Packed.{Stretch}
-use Rattle.stream_spec.specs.Layout.{odd, Kept, octet, position}
+use Rattle.stream_spec.specs.Layout.{odd, bit_of, Kept, octet, position}
 use Rattle.repack_scratch.specs.declared.Entry.{Entry}
 
 -- ---- how much the arrays hold
@@ -91,21 +91,21 @@ pair_from x = record { tid = x % 0x100; tdest = x / 0x100 }
 abbrev pub pair_limit : ℕ
 pair_limit = 0x1000
 
-abbrev pub entry_of : ℕ → ℕ → ℕ → Entry
-entry_of count last pair = record { 0 = count + 0x10000 * (last + 2 * pair) }
+abbrev pub entry_of : ℕ → Bool → ℕ → Entry
+entry_of count last pair = record { 0 = count + 0x10000 * (bit_of last + 2 * pair) }
 
 abbrev pub entry_count : Entry → ℕ
 entry_count e = e.0 % 0x10000
 
-abbrev pub entry_last : Entry → ℕ
-entry_last e = e.0 / 0x10000 % 2
+abbrev pub entry_last : Entry → Bool
+entry_last e = odd (e.0 / 0x10000)
 
 abbrev pub entry_pair : Entry → ℕ
 entry_pair e = e.0 / 0x20000
 
 -- the stretch of an entry whose items have these codes
 abbrev pub stretch_of : Entry → List ℕ → Stretch Kept
-stretch_of e codes = record { pair = pair_from (entry_pair e); bytes = map kept_of codes; ended = odd (entry_last e) }
+stretch_of e codes = record { pair = pair_from (entry_pair e); bytes = map kept_of codes; ended = entry_last e }
 
 -- the stretches of a table, each with as many of the codes as its entry says
 abbrev pub stretches_of : List Entry → List ℕ → List (Stretch Kept)

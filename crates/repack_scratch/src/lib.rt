@@ -61,12 +61,12 @@ pub struct Entry(pub u32);
 impl Entry {
     ghost use Rattle.repack_scratch.specs.Codes.{entry_of, entry_count, entry_last, entry_pair};
 
-    // The entry of a stretch of so many items and this pair; an end is behind them where `last` is 1.
-    pub fn new(count: u32, last: u32, pair: u32) -> Entry
-        requires { (count < 0x10000) × (last ≤ 1) × (pair < 0x8000) }
+    // The entry of a stretch of so many items and this pair; `last` says whether an end is behind them.
+    pub fn new(count: u32, last: bool, pair: u32) -> Entry
+        requires { (count < 0x10000) × (pair < 0x8000) }
         ensures { result ≡ entry_of count last pair }
     {
-        Entry(count + 0x10000 * (last + 2 * pair))
+        Entry(count + 0x10000 * (u32::from(last) + 2 * pair))
     }
 
     // How many items the stretch has.
@@ -76,11 +76,11 @@ impl Entry {
         self.0 % 0x10000
     }
 
-    // 1 where an end is behind them, else 0.
-    pub fn last(self) -> u32
+    // Whether an end is behind them.
+    pub fn last(self) -> bool
         ensures { result ≡ entry_last self }
     {
-        self.0 / 0x10000 % 2
+        self.0 / 0x10000 % 2 == 1
     }
 
     // Their pair.

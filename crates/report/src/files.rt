@@ -40,7 +40,7 @@ pub fn read_file<'a>(rt: &impl Files, name: &str, buf: &'a mut [u8]) -> Option<&
 
 // Reads until the file ends, a read fails or the buffer is full. A read's failure is told from its end, since a folder can be
 // opened and only its read fails.
-// stays: a loop over places; `io::copy` into the buffer says nothing of how many octets came, and std has no other read to a file's end.
+// stays: a loop over places (no heap: std's other reads to a file's end fill a Vec, and `io::copy` says nothing of how many octets came).
 fn read_open<'a>(file: &mut impl Read, buf: &'a mut [u8]) -> io::Result<Option<&'a [u8]>>
     ensures { IfOk result (λ read. IfSome read (λ octets. length octets.now ≤ length buf.old)) }
 {

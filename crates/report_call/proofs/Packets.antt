@@ -1,5 +1,7 @@
 -- Counting the records that have TLAST, by what is left of the records. Assumes nothing.
 use mathlib.Core.Path.{◌≡◌, ap}
+use mathlib.Core.Bool.{Bool, true, false}
+use mir.Val.{bool_byte}
 use mathlib.Core.List.{List, ◌++◌}
 use Prim.Native.Nat.{ℕ, ◌+◌, ◌%◌, ◌≤◌, ◌<◌}
 use native.Mathlib.Omega.{arith}
@@ -25,13 +27,17 @@ module _ (s : Shape) (xs rest : List ℕ) (n : ℕ) (c : Counting s xs rest n) w
     room : 1 + n + length after ≤ length xs
     room = omega (arith, c.few, ap length cut, length-append r after, long, size_pos s)
 
-    pub counted_next : (b : ℕ) → b ≡ bit_of (tlast r) → b ≤ 1 → Counting s xs after (n + b)
+    counted_next : (b : ℕ) → b ≡ bit_of (tlast r) → b ≤ 1 → Counting s xs after (n + b)
     counted_next b e small =
         record {
           whole = records_behind s rest r after cut long c.whole;
           few = omega (arith, room, small);
           same = omega (arith, c.same, ap lasts (records_front s rest r after cut long c.whole), e);
         }
+
+    pub counted_flag : (b : Bool) → b ≡ tlast r → Counting s xs after (n + bool_byte b)
+    counted_flag true e = counted_next 1 (ap bit_of e) (omega arith)
+    counted_flag false e = counted_next 0 (ap bit_of e) (omega arith)
 
   pub counted : length rest < size s → n ≡ packet_count s xs
   counted h = omega (arith, c.same, ap lasts (no_records_short s rest h))

@@ -12,7 +12,7 @@ use report_spec::Verdict;
 const TEXT_MOST: usize = 128;
 
 // Writes a head, and a line for each key, which has its `=`, and number, at the front of `out`.
-// stays: octets at places, as `text::put_line` has them; what std says of `write!` holds only where it answers Ok, and not that it does.
+// stays: octets at places (`write!` proves no text: std's contract says what is written where it answers Ok, and not that it does).
 fn put_lines(head: &str, lines: &[(&str, usize)], out: &mut [u8]) -> usize
     requires { length head.now + lines_most lines.now ≤ length out.old }
     ensures { Put 0 (head.now ++ lines_of lines.now) out.old out.new result }

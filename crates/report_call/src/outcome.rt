@@ -69,7 +69,7 @@ fn packets(transfers: &Take<'_>) -> usize
 {
     let mut n = 0;
     for rec in transfers.records() {
-        n += tlast(u32::from(rec[FLAGS])) as usize;
+        n += usize::from(tlast(u32::from(rec[FLAGS])));
     }
     n
 }

@@ -11,7 +11,6 @@ ghost use Rattle.stream_downsize.specs.Slices.{data_in, slice_of, slice_header, 
 ghost use Rattle.stream_downsize.specs.Slices.{Put, RecordFits, TakeFits};
 
 use refusal::Refusal;
-use stream_record::layout::tlast;
 use stream_record::{HEAD_OCTETS, Header, Take};
 use stream_spec::Shape;
 
@@ -82,7 +81,7 @@ fn slice_header(h: Header, from: usize, last: bool) -> Header
     ensures { result ≡ slice_header from last h }
 {
     Header {
-        flags: if last { tlast(h.flags) } else { 0 },
+        flags: if last { h.flags % 2 } else { 0 },
         keep: h.keep >> from,
         strb: h.strb >> from,
         ..h

@@ -139,7 +139,7 @@ fn ends_turn(rec: &[u8]) -> bool
     requires { 1 ≤ length rec.now }
     ensures { result ≡ last_of rec.now }
 {
-    tlast(u32::from(rec[FLAGS])) == 1
+    tlast(u32::from(rec[FLAGS]))
 }
 
 // One record: it is picked, and only then copied to place `to`. Answers the turn behind it.

@@ -1,7 +1,7 @@
 // The numbers of a record's layout by name (paper 01, 'One record of a take'), as stream_spec's Layout has them, and the
 // signals of octet 0. Whoever reads or writes a record's octets takes its numbers from here.
-ghost use Rattle.std.specs.Prelude.{◌≡◌, ◌%◌};
-ghost use Rattle.stream_spec.specs.Layout.{bit, bit_of};
+ghost use Rattle.std.specs.Prelude.{◌≡◌};
+ghost use Rattle.stream_spec.specs.Layout.{bit};
 
 // The octets before a record's data, and where each field starts. TKEEP and TSTRB have two octets, low octet first.
 pub const HEAD_OCTETS: usize = 7;
@@ -14,11 +14,7 @@ pub const TDEST: usize = 2;
 
 pub const TKEEP: usize = 3;
 
-pub const TKEEP_HIGH: usize = TKEEP + 1;
-
 pub const TSTRB: usize = 5;
-
-pub const TSTRB_HIGH: usize = TSTRB + 1;
 
 // The most byte lanes, the most user bits to a byte, and the octets of the smallest record.
 pub const WIDTH_MOST: usize = 16;
@@ -37,18 +33,17 @@ pub const CYCLE_FLAGS: u32 = 4;
 
 pub const TRANSFER_FLAGS: u32 = 1;
 
-// The place value of each flag, bits 1 to 3 of octet 0. TLAST is bit 0.
+// The place value of each flag, bits 1 to 3 of octet 0. TLAST is bit 0, whose place value is 1.
 const TVALID: u32 = 0x2;
 
 const TREADY: u32 = 0x4;
 
 pub const ARESETN: u32 = 0x8;
 
-// TLAST as a number, 1 where it is high.
-pub fn tlast(flags: u32) -> u32
-    ensures { (result ≡ bit_of (bit 0 flags)) × (result ≡ flags % 2) }
+pub fn tlast(flags: u32) -> bool
+    ensures { result ≡ bit 0 flags }
 {
-    flags % 2
+    flags % 2 == 1
 }
 
 pub fn tvalid(flags: u32) -> bool

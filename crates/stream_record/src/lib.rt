@@ -14,7 +14,7 @@ ghost use Rattle.stream_spec.specs.Checks.{width_check, length_check, user_fault
 ghost use Rattle.stream_spec.specs.Walk.{Narrow};
 ghost use Rattle.stream_record.specs.Header.{header_of, header_fault};
 
-pub use checks::{check_length, check_shape, check_shapes};
+pub use checks::{check_length, check_shapes};
 pub use faults::{Fault, fault_in, fault_of, record_fault};
 pub use layout::HEAD_OCTETS;
 use layout::{CAPTURE_MOST, FLAGS, TDEST, TDEST_MOST, TID, TKEEP, TSTRB, USER_MOST, WIDTH_MOST};

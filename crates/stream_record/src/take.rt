@@ -1,6 +1,6 @@
 // A take whose shape and length have passed their tests. What a call asks of its input is asked here once; the functions behind the
 // tests are handed a Take, and test nothing again. A record of it stays a plain slice beside its shape: of a slice behind a struct's
-// reference the check does not know that its octets are below 256, which padding and user bits need.
+// reference the check knows only by a ghost field that its octets are below 256, which padding and user bits need.
 ghost use Rattle.std.specs.Prelude.{◌≡◌, [], ◌∷◌, ◌++◌, ◌*◌, ◌≤◌, drop, IfOk};
 ghost use Rattle.std.specs.Result.{result_err};
 ghost use Rattle.std.specs.Slice.Iter.{chunks_exact_rest, chunks_exact_size};
@@ -9,7 +9,8 @@ ghost use Rattle.stream_spec.specs.Checks.{shape_checks, length_check, take_chec
 ghost use Rattle.stream_spec.specs.Layout.{size, record_count, records};
 ghost use Rattle.stream_spec.specs.Walk.{Passed};
 
-use crate::{check_length, check_shape, check_shapes, record_fault, record_size};
+use crate::checks::check_shape;
+use crate::{check_length, check_shapes, record_fault, record_size};
 use refusal::Refusal;
 use std::slice::ChunksExact;
 use stream_spec::Shape;

@@ -5,7 +5,7 @@
 ghost use Rattle.std.specs.Prelude.{◌≡◌, ◌∷◌, ◌++◌, ◌+◌, ◌≤◌, ◌<◌, length, drop};
 ghost use Rattle.words.specs.Splice.{splice};
 ghost use Rattle.words.specs.Words.{octets_of_word};
-ghost use Rattle.stream_spec.specs.Layout.{head_octets, width_most};
+ghost use Rattle.stream_spec.specs.Layout.{bit_of, head_octets, width_most};
 ghost use Rattle.stream_write.specs.Write.{header_octets, data_header, null_lanes};
 
 use stream_record::Header;
@@ -32,9 +32,9 @@ pub fn write_header(out: &mut [u8], h: Header)
 }
 
 // The header of a record with data on its first n lanes, as one word: eight octets are written, the last of which is 0.
-pub fn write_data_header(out: &mut [u8], last: u32, pair: u32, n: usize)
-    requires { (8 ≤ length out.old) × (last ≤ 1) × (pair < 0x10000) × (n ≤ width_most) }
-    ensures { out.new ≡ data_header last pair n ++ (0 ∷ drop 8 out.old) }
+pub fn write_data_header(out: &mut [u8], last: bool, pair: u32, n: usize)
+    requires { (8 ≤ length out.old) × (pair < 0x10000) × (n ≤ width_most) }
+    ensures { out.new ≡ data_header (bit_of last) pair n ++ (0 ∷ drop 8 out.old) }
 {
     let lanes = (1u64 << n) - 1;
     words::store(

@@ -1,9 +1,8 @@
 -- `report_call::outcome::packets` meets its contract: the records that are left, and those that were counted. Assumes nothing.
 use Rattle.std.proofs.Common.{rules, ap, ◌∙◌}
 use Rattle.std.specs.Slice.Iter.{chunks_exact_rest, chunks_exact_size}
-use native.Mathlib.Omega.{arith}
 use Rattle.stream_spec.proofs.Size.{size_pos}
-use Rattle.report_call.proofs.Packets.{counting_start, counted_next, counted}
+use Rattle.report_call.proofs.Packets.{counting_start, counted_flag, counted}
 use Rattle.report_call.proofs.outcome.packets.Goals as goal
 
 pub loop-rec-init : goal.loop-rec-init
@@ -22,7 +21,7 @@ loop-rec-preserved c =
       search rules,
       tt,
       st.0 ∙ inv.2,
-      counted_next t.shape t.octets.now _ _ inv.3 _ _ st.1.0 (st.1.1 ∙ inv.2) _ (rw (← c.from.ensures) c.tlast.ensures.0) (omega (arith, c.tlast.ensures.1)),
+      rw c.from-n.ensures (counted_flag t.shape t.octets.now _ _ inv.3 _ _ st.1.0 (st.1.1 ∙ inv.2) c.tlast.result (rw (← c.from.ensures) c.tlast.ensures)),
     )
 
 pub returns : goal.returns
