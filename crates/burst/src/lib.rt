@@ -4,7 +4,7 @@
 // addresses.
 #![tactic(auto)]
 
-ghost use Rattle.std.specs.Prelude.{Err, IfOk, IfErr, not, ◌≡◌, ◌/◌, ◌%◌, ◌^◌, ◌≤◌, ◌<◌};
+ghost use Rattle.std.specs.Prelude.{Err, IfOk, IfErr, not, min, ◌≡◌, ◌/◌, ◌%◌, ◌^◌, ◌≤◌, ◌<◌};
 ghost use Rattle.std.proofs.Math.IntN.{sub_ℕ};
 ghost use Rattle.burst_spec.specs.Address.{bytes, beats, round_down, beat_address, beat_at, beat_of};
 ghost use Rattle.burst_spec.specs.Answers.{kind_of, burst_of, judgement, Judged, BeatGiven, StepGiven};
@@ -99,8 +99,8 @@ pub fn step(b: Burst, k: u32) -> Result<i32, Refusal>
     if b.len <= k {
         return Err(Refusal::Index);
     }
-    let from = accepted.address_of(k);
-    let to = accepted.address_of(k + 1);
+    let from = accepted.address_inside(k);
+    let to = accepted.address_inside(k + 1);
     Ok(distance(from, to))
 }
 
@@ -187,16 +187,22 @@ impl AcceptedBurst {
         Ok(AcceptedBurst { burst })
     }
 
-    // Beat k, counted from 0.
+    // Beat k, counted from 0; past the last beat, the last one.
     pub fn beat(self, k: u32) -> Beat
-        requires { k < beats self.burst }
-        ensures { result ≡ beat_of self.burst k }
+        ensures { result ≡ beat_of self.burst (min k self.burst.len) }
     {
         beat_at(self.burst, self.address_of(k))
     }
 
-    // The address of beat k.
+    // The address of beat k; past the last beat, that of the last one.
     pub fn address_of(self, k: u32) -> Address
+        ensures { result ≡ beat_address self.burst (min k self.burst.len) }
+    {
+        self.address_inside(k.min(self.burst.len))
+    }
+
+    // The address of a beat that the burst has.
+    fn address_inside(self, k: u32) -> Address
         requires { k < beats self.burst }
         ensures { result ≡ beat_address self.burst k }
     {

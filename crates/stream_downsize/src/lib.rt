@@ -112,7 +112,9 @@ fn put_slices(out: &mut [u8], at: usize, rec: &[u8], s: Shape, t: Shape) -> usiz
     to
 }
 
-// The slices of all records of a take.
+// The slices of all records of a take. Made part of its caller, so that the number of slices is divided out once and not for each
+// record.
+#[inline(always)]
 fn put_all(out: &mut [u8], take: &Take<'_>, t: Shape)
     requires { TakeFits take.now.shape t take.now.octets.now out.old }
     ensures { out.new ≡ in_front (sliced take.now.shape t.width take.now.octets.now) out.old }

@@ -6,7 +6,7 @@ use mathlib.Core.List.{List}
 use Prim.Native.Nat.{ℕ, zero, suc, ◌+◌, ◌-◌, ◌*◌, ◌/◌, ◌%◌, ◌^◌, ◌≤◌, ◌<◌}
 use native.Mathlib.Nat.{suc-mul, mod-lt, zero-add}
 use native.Mathlib.Omega.{arith}
-use borrow.Author.Tests.{le-leb, lt-leb, eq-eqb, ne_eqb}
+use borrow.Author.Tests.{le-leb, lt-leb, eq-eqb, ne_eqb, eqb-true, eqb-false}
 use lib.Bits.{bit_and, and_block, and_high, and_zero_r}
 use lib.Dec.{leb, ltb, eqb}
 use lib.ListN.{get_or}
@@ -91,13 +91,13 @@ module _ (used : ℕ) (s : Shape) (rec : List ℕ) (z : Zeros) (few : used ≤ 8
       ap₂ (λ (x : ℕ) (y : Zeros). set (bit_and x y.low)) l is
       ∙ low-set used (get_or rec 0 0) (get_or rec 1 0) (get_or rec 2 0) (get_or rec 3 0) few (oct 0) (oct 1) (oct 2)
 
-  pub breaks-low : (bit_and lo z.low ≡ 0 → ⊥) → set (bit_and lo z.low) ≡ header_fault used s (header_of rec)
+  breaks-low : (bit_and lo z.low ≡ 0 → ⊥) → set (bit_and lo z.low) ≡ header_fault used s (header_of rec)
   breaks-low h =
       let some-set : set (bit_and lo z.low) ≡ true = ap not (ne_eqb (bit_and lo z.low) 0 h) in
       let yes' : (leb (2 ^ used) (header_of rec).flags || ltb 15 (header_of rec).tdest) ≡ true = sym low-is ∙ some-set in
       some-set ∙ rw yes' refl
 
-  pub breaks-high : hi ≡ word_at 4 rec 3 → bit_and lo z.low ≡ 0 → set (bit_and hi z.high) ≡ header_fault used s (header_of rec)
+  breaks-high : hi ≡ word_at 4 rec 3 → bit_and lo z.low ≡ 0 → set (bit_and hi z.high) ≡ header_fault used s (header_of rec)
   breaks-high e h =
       let no : (leb (2 ^ used) (header_of rec).flags || ltb 15 (header_of rec).tdest) ≡ false = sym low-is ∙ set-none (bit_and lo z.low) h in
       let b3 = oct 3 in
@@ -107,3 +107,13 @@ module _ (used : ℕ) (s : Shape) (rec : List ℕ) (z : Zeros) (few : used ≤ 8
       rw no
       (ap (λ (y : Zeros). set (bit_and hi y.high)) is
       ∙ high-set s.width (header_of rec).keep (header_of rec).strb hi wide (omega arith) (omega arith) (omega arith))
+
+  -- the one test of both words
+  pub breaks-both : hi ≡ word_at 4 rec 3 → (set (bit_and lo z.low) || set (bit_and hi z.high)) ≡ header_fault used s (header_of rec)
+  breaks-both e = go (eqb (bit_and lo z.low) 0) refl
+    where
+      go : (b : Bool) → eqb (bit_and lo z.low) 0 ≡ b → (set (bit_and lo z.low) || set (bit_and hi z.high)) ≡ header_fault used s (header_of rec)
+      go true q = rw q (breaks-high e (eqb-true (bit_and lo z.low) 0 q))
+      go false q =
+          let some = eqb-false (bit_and lo z.low) 0 q in
+          rw q (sym (ap not (ne_eqb (bit_and lo z.low) 0 some)) ∙ breaks-low some)

@@ -27,5 +27,6 @@ pub fn breaks(rec: &[u8], z: Zeros) -> bool
     requires { head_octets ≤ length rec.now }
     ensures { TellsFault z rec.now result }
 {
-    words::load::<u32>(rec, FLAGS) & z.low != 0 || words::load::<u32>(rec, TKEEP) & z.high != 0
+    // `|` and not `||`: one jump for both words, where two made judging takes of one lane a third to a half slower
+    (words::load::<u32>(rec, FLAGS) & z.low != 0) | (words::load::<u32>(rec, TKEEP) & z.high != 0)
 }

@@ -5,10 +5,12 @@ use mathlib.Core.Bool.{Bool, true, false}
 use mathlib.Core.List.{List, [], ◌∷◌, ◌++◌, append_assoc, append-nil}
 use Prim.Native.Nat.{ℕ, zero, suc, ◌+◌, ◌-◌, ◌*◌, ◌/◌, ◌%◌, ◌^◌, ◌≤◌, ◌<◌}
 use native.Mathlib.Nat.{pow-suc}
+use native.Mathlib.Numerals.{add-one}
 use native.Mathlib.Omega.{arith}
 use borrow.Author.Tests.{ltb-true, ltb-false, lt-ltb, ne_eqb}
 use lib.Dec.{eqb, ltb}
-use lib.ListN.{length, length-append}
+use lib.ListN.{length, take, drop, get_or, set, length-append}
+use lib.Seq.{take-length, paste, paste-zero, paste-suc, length-paste}
 use Rattle.std.proofs.lemmas.Fmt.{length-decimal-le}
 use Rattle.std.specs.Fmt.{decimal as std_decimal, digits as std_digits, digits_onto}
 use Rattle.words.specs.Splice.{splice}
@@ -31,6 +33,43 @@ put_put at xs ys a b c m r room p q =
           ∙ splice-splice at xs ys a room;
       next = omega (arith, p.next, q.next, length-append xs ys);
     }
+
+-- a loop that copies: its first i octets stand in their place
+pub record Copied (at : ℕ) (xs before out : List ℕ) (i : ℕ) : Type 0 where
+  pub within : i ≤ length xs
+  pub room : at + length xs ≤ length before
+  pub is : out ≡ paste before at xs i
+
+module _ (at : ℕ) (xs before : List ℕ) where
+  pub copied_none : at + length xs ≤ length before → Copied at xs before before 0
+  copied_none h = record { within = omega arith; room = h; is = paste-zero before at xs }
+
+  module _ (out : List ℕ) (i : ℕ) (c : Copied at xs before out i) where
+    pub copied_long : length out ≡ length before
+    copied_long = ap length c.is ∙ length-paste before at xs i (omega (arith, c.within, c.room)) c.within
+
+    pub copied_more : i < length xs → Copied at xs before (set out (at + i) (get_or xs i 0)) (i + 1)
+    copied_more l =
+        record {
+          within = omega (arith, l);
+          room = c.room;
+          is =
+              ap (λ (o : List ℕ). set o (at + i) (get_or xs i 0)) c.is
+              ∙ paste-suc before at xs i 0 (omega (arith, l, c.room)) l
+              ∙ ap (paste before at xs) (sym (add-one i));
+        }
+
+    pub copied_all : length xs ≤ i → Put at xs before out (at + length xs)
+    copied_all l =
+        let all : i ≡ length xs = omega (arith, l, c.within) in
+        record {
+          leaves =
+              c.is
+              ∙ ap (paste before at xs) all
+              ∙ ap (λ (ys : List ℕ). take at before ++ ys ++ drop (at + length xs) before) (take-length xs)
+              ∙ append_assoc (take at before) xs (drop (at + length xs) before);
+          next = refl;
+        }
 
 -- ---- decimal numbers
 

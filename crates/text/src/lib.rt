@@ -6,14 +6,15 @@
 ghost use Rattle.std.specs.Prelude.{◌+◌, ◌≤◌, length};
 ghost use Rattle.text.specs.Text.{decimal, line, Put};
 
-// Writes these octets from `at` on.
+// Writes these octets from `at` on, one by one: copied as a slice they would need memmove, which C callers may not have.
 pub fn put_octets(out: &mut [u8], at: usize, octets: &[u8]) -> usize
     requires { at + length octets.now ≤ length out.old }
     ensures { Put at octets.now out.old out.new result }
 {
-    let end = at + octets.len();
-    out[at..end].copy_from_slice(octets);
-    end
+    for i in 0..octets.len() {
+        out[at + i] = octets[i];
+    }
+    at + octets.len()
 }
 
 // Writes n in decimal from `at` on.

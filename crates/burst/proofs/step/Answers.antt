@@ -33,11 +33,11 @@ pub distance-requires : goal.distance-requires
 distance-requires c =
     let a = c.in_ok-accepted.accepted in
     let few : c.args.k + 1 < beats a.burst = rw c.in_ok-accepted.ensures.accepted (omega arith) in
-    let from : c.address_of-from.result / block ≡ a.burst.start / block =
-    rw c.address_of-from.ensures (address-block a.burst a.accepted c.args.k (omega arith))
+    let from : c.address_inside-from.result / block ≡ a.burst.start / block =
+    rw c.address_inside-from.ensures (address-block a.burst a.accepted c.args.k (omega arith))
     in
-    let to : c.address_of-to.result / block ≡ a.burst.start / block =
-    rw c.address_of-to.ensures (address-block a.burst a.accepted (c.args.k + 1) few)
+    let to : c.address_inside-to.result / block ≡ a.burst.start / block =
+    rw c.address_inside-to.ensures (address-block a.burst a.accepted (c.args.k + 1) few)
     in
     cc
 
@@ -51,8 +51,8 @@ returns c =
     (index_last b (leb (beats b) (k + 1)) false ((accepted_exactly b).1 (subst Accepted same c.in_ok-accepted.accepted.accepted))
     (lt-leb (beats b) (k + 1) (omega arith)))
     in
-    let moved : sub_ℕ c.address_of-to.result c.address_of-from.result ≡ beat_step b k =
-    rw (c.address_of-to.ensures, c.address_of-from.ensures, same) (sym (step_difference b k))
+    let moved : sub_ℕ c.address_inside-to.result c.address_inside-from.result ≡ beat_step b k =
+    rw (c.address_inside-to.ensures, c.address_inside-from.ensures, same) (sym (step_difference b k))
     in
     given_step b k accepted (to_z w32 (of_z w32 c.distance.result))
     (to_z-of_z {w = w32} {z = c.distance.result} (record { sfits = c.distance.type_inv }) ∙ c.distance.ensures ∙ moved)
