@@ -91,13 +91,13 @@ module _ (used : ℕ) (s : Shape) (rec : List ℕ) (z : Zeros) (few : used ≤ 8
       ap₂ (λ (x : ℕ) (y : Zeros). set (bit_and x y.low)) l is
       ∙ low-set used (get_or rec 0 0) (get_or rec 1 0) (get_or rec 2 0) (get_or rec 3 0) few (oct 0) (oct 1) (oct 2)
 
-  breaks-low : (bit_and lo z.low ≡ 0 → ⊥) → set (bit_and lo z.low) ≡ header_fault used s (header_of rec)
+  pub breaks-low : (bit_and lo z.low ≡ 0 → ⊥) → set (bit_and lo z.low) ≡ header_fault used s (header_of rec)
   breaks-low h =
       let some-set : set (bit_and lo z.low) ≡ true = ap not (ne_eqb (bit_and lo z.low) 0 h) in
       let yes' : (leb (2 ^ used) (header_of rec).flags || ltb 15 (header_of rec).tdest) ≡ true = sym low-is ∙ some-set in
       some-set ∙ rw yes' refl
 
-  breaks-high : hi ≡ word_at 4 rec 3 → bit_and lo z.low ≡ 0 → set (bit_and hi z.high) ≡ header_fault used s (header_of rec)
+  pub breaks-high : hi ≡ word_at 4 rec 3 → bit_and lo z.low ≡ 0 → set (bit_and hi z.high) ≡ header_fault used s (header_of rec)
   breaks-high e h =
       let no : (leb (2 ^ used) (header_of rec).flags || ltb 15 (header_of rec).tdest) ≡ false = sym low-is ∙ set-none (bit_and lo z.low) h in
       let b3 = oct 3 in

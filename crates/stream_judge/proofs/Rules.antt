@@ -1,4 +1,4 @@
--- The lowest rule that a cycle breaks, from the flags of its header: each way through `rule_of`. Assumes nothing.
+-- What `rule_of` asks of its flags and of the record before: whether that waited, and that there is one to compare with. Assumes nothing.
 use Rattle.std.specs.Prelude.{Option, None, Some}
 use mathlib.Core.Path.{◌≡◌, refl, sym, ap, ◌∙◌}
 use mathlib.Core.Bool.{Bool, true}
