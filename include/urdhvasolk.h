@@ -10,8 +10,8 @@
  *     its length is 0;
  *   - `out` and `text` share no octet with each other, nor with any input of the same call (two inputs may share octets);
  *   - nothing else writes those octets until the call has returned. Calls on other octets may run at the same time;
- *   - so much stack is free: 260 KB for urd_report, 132 KB for urd_repack, 2 KB for any other call. (tests/bindings
- *     measures each of them; here they use 256.1, 127.8 and at most 1.2 KB, most of it arrays.)
+ *   - so much stack is free: 254 KB for urd_report, 126 KB for urd_repack, 2 KB for any other call. (tests/bindings
+ *     measures each of them; here they use 250.0, 121.8 and at most 0.9 KB, most of it arrays.)
  *
  * Octets. A capture (paper 01: a take) is records of 7 + width + width * user / 8 octets, the last number rounded up, width being
  * 1 to 16 byte lanes and user 0 to 4 user bits (TUSER) to a byte. So a record has 8 to 31 octets; a capture at most 65,536 in all:
